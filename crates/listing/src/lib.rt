@@ -1,0 +1,1 @@
+// The printed listing of a strategy.

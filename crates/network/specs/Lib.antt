@@ -1,0 +1,10 @@
+-- The model. Read in this order: the limits, how a network is built, scenarios, constraints, strategies, what makes a strategy a
+-- solution, the least one; and what every network that was read keeps.
+pub mod Limits
+pub mod Build
+pub mod Scenario
+pub mod Constraint
+pub mod Strategy
+pub mod Solution
+pub mod Least
+pub mod WellFormed

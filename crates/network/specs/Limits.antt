@@ -1,0 +1,18 @@
+-- The limits of a sheet (01, The sheet). The code has them as constants of `Network`, whose contract `limits` pins them to these.
+use Prim.Native.Nat.{ℕ}
+
+-- "H from 0 to 10,080", and the size of a rule's limit
+abbrev pub horizon : ℕ
+horizon = 10080
+
+-- "n from 1 to 16"
+abbrev pub events : ℕ
+events = 16
+
+-- "k from 0 to 4"
+abbrev pub signals : ℕ
+signals = 4
+
+-- "m from 0 to 64"
+abbrev pub rules : ℕ
+rules = 64

@@ -1,0 +1,25 @@
+-- Execution strategies (004, Definition 6): a time for each event in each scenario. Document 01 calls one a table, its times minutes.
+use mathlib.Core.Bool.{Bool}
+use mathlib.Core.List.{List}
+use Prim.Native.Nat.{ℕ, _+_, _*_}
+use lib.Dec.{leb}
+use lib.ListN.{getD}
+use Rattle.network.specs.Build.{observation}
+use Rattle.network.specs.declared.Network.{Network}
+
+-- the time of event u in scenario s, of n events: "case 0 first, events in sheet order"
+abbrev pub time : ℕ → List ℕ → ℕ → ℕ → ℕ
+time n σ s u = getD σ (s * n + u) 0
+
+-- "a signal given at minute 5 may change what happens from minute 6 on": the reaction time (004, Definition 13)
+unfoldable pub reaction : Network → ℕ → ℕ
+reaction Γ p = 1
+
+module _ (Γ : Network) (σ : List ℕ) where
+  -- from when on the truth of p is known in s
+  abbrev pub knownFrom : ℕ → ℕ → ℕ
+  knownFrom s p = time (Γ .events) σ s (observation Γ p) + reaction Γ p
+
+  -- whether it is known at the time m; document 01 says heard
+  abbrev pub known : ℕ → ℕ → ℕ → Bool
+  known s p m = leb (knownFrom s p) m

@@ -1,0 +1,42 @@
+-- What every network keeps that a sheet was read into, so that later code need not ask again.
+use mathlib.Core.Path.{_≡_}
+use Prim.Native.Nat.{ℕ, suc, _≤_, _<_}
+use lib.IntN.{ℤ, pos, negsuc}
+use lib.ListN.{length}
+use Rattle.network.specs.Limits as L
+use Rattle.network.specs.Build.{observation, constraint, scenarios}
+use Rattle.network.specs.declared.Constraint.{Constraint}
+use Rattle.network.specs.declared.Network.{Network}
+
+-- a limit is "from -10,080 to 10,080"
+abbrev pub InLimits : ℤ → Type 0
+InLimits (pos w) = w ≤ L.horizon
+InLimits (negsuc w) = suc w ≤ L.horizon
+
+-- the ends are events, the limit is in range, and the label's letters are signals
+pub record Proper (Γ : Network) (c : Constraint) : Type 0 where
+  pub from : c .from < Γ .events
+  pub to : c .to < Γ .events
+  pub bound : InLimits (c .bound)
+  pub positive : c .label .positive < scenarios Γ
+  pub negative : c .label .negative < scenarios Γ
+
+-- the arrays are as long as the limits say
+pub record Arrays (Γ : Network) : Type 0 where
+  pub starts : length (Γ .starts) ≡ L.events
+  pub lengths : length (Γ .lengths) ≡ L.events
+  pub letters : length (Γ .letters) ≡ L.signals
+  pub observations : length (Γ .observations) ≡ L.signals
+  pub constraints : length (Γ .constraints) ≡ L.rules
+
+pub record WellFormed (Γ : Network) : Type 0 where
+  pub horizon : Γ .horizon ≤ L.horizon
+  pub some-event : 1 ≤ Γ .events
+  pub events : Γ .events ≤ L.events
+  pub signals : Γ .signals ≤ L.signals
+  pub rules : Γ .rules ≤ L.rules
+  pub arrays : Arrays Γ
+  pub observed : (p : ℕ) → p < Γ .signals → observation Γ p < Γ .events
+  -- "An event gives at most one signal"
+  pub one-signal : (p q : ℕ) → p < Γ .signals → q < Γ .signals → observation Γ p ≡ observation Γ q → p ≡ q
+  pub proper : (c : ℕ) → c < Γ .rules → Proper Γ (constraint Γ c)

@@ -1,0 +1,137 @@
+// The conditional simple temporal network (CSTN) that a sheet describes, and its limits. Document 01's signals are its propositions,
+// their events its observation events, and the rules its constraints.
+ghost use mathlib.Core.Path.{_≡_};
+ghost use Prim.Native.Nat.{_<_};
+ghost use Rattle.network.specs.Limits as L;
+ghost use Rattle.network.specs.Build.{limits, empty, withEvent, withSignal, withRule};
+
+// What a rule says of the difference between its two times.
+pub enum Kind {
+    // At most the limit.
+    Max,
+    // At least the limit.
+    Min,
+    // Equal to the limit.
+    Fix,
+}
+
+// A label: the sum of the weights of its true letters, and that of its false ones.
+pub struct Label {
+    pub positive: u8,
+    pub negative: u8,
+}
+
+// A labelled constraint.
+pub struct Constraint {
+    pub kind: Kind,
+    pub from: usize,
+    pub to: usize,
+    pub bound: i32,
+    pub label: Label,
+}
+
+// Event u is named by the part of the sheet from starts[u] on, of lengths[u] bytes; event 0 is the origin. Proposition p has the
+// letter letters[p] and the observation event observations[p]. Behind the counts the arrays hold what the empty network has.
+pub struct Network {
+    pub horizon: u16,
+    pub events: usize,
+    pub starts: [usize; Network::EVENTS],
+    pub lengths: [usize; Network::EVENTS],
+    pub signals: usize,
+    pub letters: [u8; Network::SIGNALS],
+    pub observations: [usize; Network::SIGNALS],
+    pub rules: usize,
+    pub constraints: [Constraint; Network::RULES],
+}
+
+// The most of each that a network holds.
+pub struct Limits {
+    pub horizon: u16,
+    pub events: usize,
+    pub signals: usize,
+    pub rules: usize,
+}
+
+impl Network {
+    pub const HORIZON: u16 = 10080;
+
+    pub const EVENTS: usize = 16;
+
+    pub const SIGNALS: usize = 4;
+
+    pub const RULES: usize = 64;
+
+    // The constants are document 01's numbers.
+    pub fn limits() -> Limits
+        ensures { λ r. ⌜ r ≡ limits ⌝ }
+    {
+        Limits {
+            horizon: Self::HORIZON,
+            events: Self::EVENTS,
+            signals: Self::SIGNALS,
+            rules: Self::RULES,
+        }
+    }
+
+    // A horizon, and nothing else yet.
+    pub fn empty(horizon: u16) -> Self
+        ensures { λ r. ⌜ r ≡ empty horizon ⌝ }
+    {
+        let c = Constraint {
+            kind: Kind::Max,
+            from: 0,
+            to: 0,
+            bound: 0,
+            label: Label {
+                positive: 0,
+                negative: 0,
+            },
+        };
+        Network {
+            horizon,
+            events: 0,
+            starts: [0; Self::EVENTS],
+            lengths: [0; Self::EVENTS],
+            signals: 0,
+            letters: [0; Self::SIGNALS],
+            observations: [0; Self::SIGNALS],
+            rules: 0,
+            constraints: [c; Self::RULES],
+        }
+    }
+
+    // One event more, whose name is the sheet's part from start on.
+    pub fn with_event(mut self, start: usize, length: usize) -> Self
+        requires { ⌜ self .events < L.events ⌝ }
+        ensures { λ r. ⌜ r ≡ withEvent self start length ⌝ }
+    {
+        let u = self.events;
+        self.starts[u] = start;
+        self.lengths[u] = length;
+        self.events = u + 1;
+        self
+    }
+
+    // One proposition more.
+    pub fn with_signal(mut self, letter: u8, observation: usize) -> Self
+        requires { ⌜ self .signals < L.signals ⌝ }
+        ensures { λ r. ⌜ r ≡ withSignal self letter observation ⌝ }
+    {
+        let p = self.signals;
+        self.letters[p] = letter;
+        self.observations[p] = observation;
+        self.signals = p + 1;
+        self
+    }
+
+    // One constraint more.
+    pub fn with_rule(mut self, constraint: Constraint) -> Self
+        requires { ⌜ self .rules < L.rules ⌝ }
+        ensures { λ r. ⌜ r ≡ withRule self constraint ⌝ }
+    {
+        let c = self.rules;
+        self.constraints[c] = constraint;
+        self.rules = c + 1;
+        self
+    }
+}

@@ -1,0 +1,2 @@
+-- The trial sheets.
+pub mod Trials

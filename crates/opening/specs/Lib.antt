@@ -1,0 +1,2 @@
+-- What the program `table` prints.
+pub mod Table

@@ -1,0 +1,1 @@
+// The public calls, and what is proved of them.

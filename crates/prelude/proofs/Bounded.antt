@@ -1,0 +1,75 @@
+-- Laws of what is taken over all the numbers below n. Assumes nothing.
+use mathlib.Core.Path.{_≡_, refl, sym, _∙_, ap}
+use mathlib.Core.Logic.{_⊎_, inl, inr}
+use mathlib.Core.Bool.{Bool, true, false, _&&_}
+use mathlib.Core.List.{List, [], _∷_}
+use Prim.Native.Nat.{ℕ, zero, suc, _+_, _≤_, _<_, max}
+use native.Mathlib.Omega.{arith}
+use lib.ListN.{length, getD}
+use Rattle.prelude.specs.Bounded.{allBelow, maxBelow, sumBelow, tabulateFrom, tabulate}
+use Rattle.prelude.proofs.Tests.{and-true, and-both, and-false, eq-or-ne}
+
+module _ (f : ℕ → Bool) where
+  pub true-of-allBelow : (n : ℕ) → allBelow n f ≡ true → (k : ℕ) → k < n → f k ≡ true
+  true-of-allBelow zero e k h = absurd (omega arith)
+  true-of-allBelow (suc n) e k h =
+      let p = and-true (allBelow n f) (f n) e in
+      elim (eq-or-ne k n) [ inl q ↦ rw q (p .1) | inr q ↦ true-of-allBelow n (p .0) k (omega arith) ]
+
+  pub allBelow-true : (n : ℕ) → ((k : ℕ) → k < n → f k ≡ true) → allBelow n f ≡ true
+  allBelow-true zero h = refl
+  allBelow-true (suc n) h =
+      and-both (allBelow n f) (f n) (allBelow-true n (λ k l. h k (omega arith))) (h n (omega arith))
+
+  -- where it fails, it fails somewhere
+  pub allBelow-false : (n : ℕ) → allBelow n f ≡ false → (k : ℕ) × (k < n) × (f k ≡ false)
+  allBelow-false zero e = absurd (let z : _≡_ {A = ℕ} 0 1 = cc in omega arith)
+  allBelow-false (suc n) e =
+      elim (and-false (allBelow n f) (f n) e) [
+        | inl p ↦ let w = allBelow-false n p in (w .0, omega (arith, w .1), w .2)
+        | inr p ↦ (n, omega arith, p)
+      ]
+
+module _ (f : ℕ → ℕ) where
+  pub le-maxBelow : (n k : ℕ) → k < n → f k ≤ maxBelow n f
+  le-maxBelow zero k h = absurd (omega arith)
+  le-maxBelow (suc n) k h = elim (eq-or-ne k n) [ inl q ↦ rw q (omega arith) | inr q ↦ omega (arith, le-maxBelow n k (omega arith)) ]
+
+  pub maxBelow-le : (n m : ℕ) → ((k : ℕ) → k < n → f k ≤ m) → maxBelow n f ≤ m
+  maxBelow-le zero m h = omega arith
+  maxBelow-le (suc n) m h = omega (arith, h n (omega arith), maxBelow-le n m (λ k l. h k (omega arith)))
+
+module _ (f g : ℕ → ℕ) where
+  pub maxBelow-mono : (n : ℕ) → ((k : ℕ) → k < n → f k ≤ g k) → maxBelow n f ≤ maxBelow n g
+  maxBelow-mono zero h = omega arith
+  maxBelow-mono (suc n) h = omega (arith, h n (omega arith), maxBelow-mono n (λ k l. h k (omega arith)))
+
+  pub sumBelow-mono : (n : ℕ) → ((k : ℕ) → k < n → f k ≤ g k) → sumBelow n f ≤ sumBelow n g
+  sumBelow-mono zero h = omega arith
+  sumBelow-mono (suc n) h = omega (arith, h n (omega arith), sumBelow-mono n (λ k l. h k (omega arith)))
+
+  -- less in one place is less in all
+  pub sumBelow-lt : (n k : ℕ) → ((j : ℕ) → j < n → f j ≤ g j) → k < n → f k < g k → sumBelow n f < sumBelow n g
+  sumBelow-lt zero k h l m = absurd (omega arith)
+  sumBelow-lt (suc n) k h l m =
+      let rest : (j : ℕ) → j < n → f j ≤ g j = λ j i. h j (omega arith) in
+      elim (eq-or-ne k n) [
+        | inl q ↦ let last : f n < g n = rw q at m in omega (arith, sumBelow-mono n rest)
+        | inr q ↦ omega (arith, h n (omega arith), sumBelow-lt n k rest (omega arith) m)
+      ]
+
+module _ {A : Type 0} (f : ℕ → A) where
+  length-tabulateFrom : (i n : ℕ) → length (tabulateFrom i n f) ≡ n
+  length-tabulateFrom i zero = refl
+  length-tabulateFrom i (suc n) = ap suc (length-tabulateFrom (suc i) n)
+
+  getD-tabulateFrom : (i n k j : ℕ) (d : A) → k < n → j ≡ i + k → getD (tabulateFrom i n f) k d ≡ f j
+  getD-tabulateFrom i zero k j d h e = absurd (omega arith)
+  getD-tabulateFrom i (suc n) zero j d h e = ap f (omega arith)
+  getD-tabulateFrom i (suc n) (suc k) j d h e = getD-tabulateFrom (suc i) n k j d (omega arith) (omega arith)
+
+  pub length-tabulate : (n : ℕ) → length (tabulate n f) ≡ n
+  length-tabulate n = length-tabulateFrom 0 n
+
+  pub getD-tabulate : (n k : ℕ) (d : A) → k < n → getD (tabulate n f) k d ≡ f k
+  getD-tabulate n k d h = getD-tabulateFrom 0 n k k d h (omega arith)

@@ -1,0 +1,6 @@
+-- Laws of `specs/`, and of tests and cells, for the proofs of the crates above. No contract cites them.
+pub mod Tests
+pub mod Search
+pub mod Bounded
+pub mod Bytes
+pub mod Cells

@@ -1,0 +1,24 @@
+-- The refusals' numbers, as document 01 lists them under "Refused sheets and calls, in checking order".
+use Prim.Native.Nat.{ℕ}
+use Rattle.refusal.specs.declared.Cause.{Cause}
+use Rattle.refusal.specs.declared.Cause.the-variants as C
+use Rattle.refusal.specs.declared.Refusal.{Refusal}
+
+abbrev pub numberOf : Cause → ℕ
+numberOf C.TooLong = 1
+numberOf C.MissingLine = 2
+numberOf C.WrongFields = 3
+numberOf C.IllFormedNumber = 4
+numberOf C.OutOfRange = 5
+numberOf C.IllFormedName = 6
+numberOf C.Duplicate = 7
+numberOf C.Undefined = 8
+numberOf C.RepeatedLetter = 9
+numberOf C.TrailingBytes = 10
+numberOf C.WrongTableLength = 11
+numberOf C.BufferTooShort = 12
+numberOf C.Inconsistent = 13
+
+-- a refusal with its line
+abbrev pub refusal : Cause → ℕ → Refusal
+refusal c k = record { cause = c; line = k }

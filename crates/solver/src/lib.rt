@@ -1,0 +1,1 @@
+// The least solution of a network by value iteration, or none.
