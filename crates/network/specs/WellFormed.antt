@@ -1,8 +1,9 @@
 -- What every network keeps that a sheet was read into, so that later code need not ask again.
 use mathlib.Core.Path.{_≡_}
-use Prim.Native.Nat.{ℕ, suc, _≤_, _<_}
+use mathlib.Core.List.{List}
+use Prim.Native.Nat.{ℕ, suc, _+_, _≤_, _<_}
 use lib.IntN.{ℤ, pos, negsuc}
-use lib.ListN.{length}
+use lib.ListN.{length, getD}
 use Rattle.network.specs.Limits as L
 use Rattle.network.specs.Build.{observation, constraint, scenarios}
 use Rattle.network.specs.declared.Constraint.{Constraint}
@@ -40,3 +41,8 @@ pub record WellFormed (Γ : Network) : Type 0 where
   -- "An event gives at most one signal"
   pub one-signal : (p q : ℕ) → p < Γ .signals → q < Γ .signals → observation Γ p ≡ observation Γ q → p ≡ q
   pub proper : (c : ℕ) → c < Γ .rules → Proper Γ (constraint Γ c)
+
+-- each event's name is a part of the sheet, of at most 8 bytes
+pub record Named (sheet : List ℕ) (Γ : Network) : Type 0 where
+  pub inside : (u : ℕ) → u < Γ .events → getD (Γ .starts) u 0 + getD (Γ .lengths) u 0 ≤ length sheet
+  pub short : (u : ℕ) → u < Γ .events → getD (Γ .lengths) u 0 ≤ 8
