@@ -21,8 +21,10 @@ below-antisymm {t} {u} l a b = ext-getD 0 t u l (λ i _. le-antisymm (a .at i) (
 
 -- it is enough to look at the places that the first list has
 pub below-by : (n : ℕ) (t u : List ℕ) → length t ≡ n → ((i : ℕ) → i < n → getD t i 0 ≤ getD u i 0) → Below t u
-below-by n t u l h = record { at = λ i.
-    elim (lt-or-ge i n) [ inl p ↦ h i p | inr p ↦ omega (arith, List·getD-eq-default t 0 {n = i} (omega arith)) ] }
+below-by n t u l h = record {
+  at = λ i.
+      elim (lt-or-ge i n) [ inl p ↦ h i p | inr p ↦ omega (arith, List·getD-eq-default t 0 {n = i} (omega arith)) ];
+}
 
 pub zeros-below : (n : ℕ) (t : List ℕ) → Below (replicate n 0) t
 zeros-below n t =

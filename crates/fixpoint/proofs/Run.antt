@@ -58,60 +58,65 @@ module _ (step : List ℕ → List ℕ) (cap : List ℕ) (R : Rising (length cap
   -- what is above the floor and asks for no raise is above the next round too
   prefixpoint-on : (t p : List ℕ) → length t ≡ length cap → Prefixpoint step t p → Prefixpoint step (step t) p
   prefixpoint-on t p l h = record {
-      sized = h .sized ∙ l ∙ sym (R .sized t l);
-      above = below-trans (R .monotone t p l (h .sized ∙ l) (h .above)) (h .closed);
-      closed = h .closed }
+    sized = h .sized ∙ l ∙ sym (R .sized t l);
+    above = below-trans (R .monotone t p l (h .sized ∙ l) (h .above)) (h .closed);
+    closed = h .closed;
+  }
 
   pub ran-as : (k n : ℕ) (t : List ℕ) → length t ≡ length cap → Ran step cap t k n (runFrom step cap k n t)
   ran-as k zero t l = record {
-      sized = refl;
-      above = below-refl t;
-      below = λ p h. h .above;
-      rests = λ e. unlike Spent Rests e (λ z. omega arith);
-      passes = λ e. unlike Spent Passes e (λ z. omega arith);
-      spent = λ _. (omega arith, omega arith);
-      spent-within = λ h _. h;
-      rounds = omega arith;
-      counted = omega arith }
+    sized = refl;
+    above = below-refl t;
+    below = λ p h. h .above;
+    rests = λ e. unlike Spent Rests e (λ z. omega arith);
+    passes = λ e. unlike Spent Passes e (λ z. omega arith);
+    spent = λ _. (omega arith, omega arith);
+    spent-within = λ h _. h;
+    rounds = omega arith;
+    counted = omega arith;
+  }
   ran-as k (suc n) t l =
       by-test (Ran step cap t k (suc n)) (within cap (step t))
       (elim (same (step t) t) [ true ↦ ran (suc k) t Rests | false ↦ runFrom step cap (suc k) n (step t) ])
       (ran (suc k) (step t) Passes)
       (λ in-cap. by-test (Ran step cap t k (suc n)) (same (step t) t) (ran (suc k) t Rests) (runFrom step cap (suc k) n (step t))
-        (λ e. record {
-            sized = refl;
-            above = below-refl t;
-            below = λ p h. h .above;
-            rests = λ _. (same-true (step t) t e, within-below cap (R .inflationary t l) in-cap);
-            passes = λ z. unlike Rests Passes z (λ z. omega arith);
-            spent = λ z. unlike Rests Spent z (λ z. omega arith);
-            spent-within = λ _ z. unlike Rests Spent z (λ z. omega arith);
-            rounds = omega arith;
-            counted = omega arith })
-        (λ e.
-          let next : length (step t) ≡ length cap = R .sized t l in
-          let more = ran-as (suc k) n (step t) next in
-          let falls = room-falls cap t (step t) l next (R .inflationary t l) e in-cap in
-          record {
-            sized = more .sized ∙ next ∙ sym l;
-            above = below-trans (R .inflationary t l) (more .above);
-            below = λ p h. more .below p (prefixpoint-on t p l h);
-            rests = more .rests;
-            passes = more .passes;
-            spent = λ z. (omega (arith, more .spent z .0), omega (arith, more .spent z .1));
-            spent-within = λ _ z. more .spent-within in-cap z;
-            rounds = omega (arith, more .rounds);
-            counted = omega (arith, more .counted) }))
+      (λ e. record {
+        sized = refl;
+        above = below-refl t;
+        below = λ p h. h .above;
+        rests = λ _. (same-true (step t) t e, within-below cap (R .inflationary t l) in-cap);
+        passes = λ z. unlike Rests Passes z (λ z. omega arith);
+        spent = λ z. unlike Rests Spent z (λ z. omega arith);
+        spent-within = λ _ z. unlike Rests Spent z (λ z. omega arith);
+        rounds = omega arith;
+        counted = omega arith;
+      })
+      (λ e.
+      let next : length (step t) ≡ length cap = R .sized t l in
+      let more = ran-as (suc k) n (step t) next in
+      let falls = room-falls cap t (step t) l next (R .inflationary t l) e in-cap in
+      record {
+        sized = more .sized ∙ next ∙ sym l;
+        above = below-trans (R .inflationary t l) (more .above);
+        below = λ p h. more .below p (prefixpoint-on t p l h);
+        rests = more .rests;
+        passes = more .passes;
+        spent = λ z. (omega (arith, more .spent z .0), omega (arith, more .spent z .1));
+        spent-within = λ _ z. more .spent-within in-cap z;
+        rounds = omega (arith, more .rounds);
+        counted = omega (arith, more .counted);
+      }))
       (λ out. record {
-          sized = R .sized t l ∙ sym l;
-          above = R .inflationary t l;
-          below = λ p h. prefixpoint-on t p l h .above;
-          rests = λ z. unlike Passes Rests z (λ z. omega arith);
-          passes = λ _. out;
-          spent = λ z. unlike Passes Spent z (λ z. omega arith);
-          spent-within = λ _ z. unlike Passes Spent z (λ z. omega arith);
-          rounds = omega arith;
-          counted = omega arith })
+        sized = R .sized t l ∙ sym l;
+        above = R .inflationary t l;
+        below = λ p h. prefixpoint-on t p l h .above;
+        rests = λ z. unlike Passes Rests z (λ z. omega arith);
+        passes = λ _. out;
+        spent = λ z. unlike Passes Spent z (λ z. omega arith);
+        spent-within = λ _ z. unlike Passes Spent z (λ z. omega arith);
+        rounds = omega arith;
+        counted = omega arith;
+      })
 
   -- a budget of one more than the room is never used up
   pub run-ends : (floor : List ℕ) → length floor ≡ length cap → run step cap floor .end ≡ Spent → ⊥
@@ -144,20 +149,23 @@ module _ (step : List ℕ → List ℕ) (cap : List ℕ) (R : Rising (length cap
         none = λ n p h.
             let out = all .passes (passes-of (r .end) n (run-ends floor l)) in
             false-of-not-true (within cap p) (λ e. clash (within cap (r .reached)) (within-below cap (all .below p h) e) out);
-        rounds = omega (arith, all .counted) }
+        rounds = omega (arith, all .counted);
+      }
 
   -- a run that was stopped goes on from what it reached: with m rounds more it ends as if it had not been stopped
   pub run-on : (k n m : ℕ) (t : List ℕ) → runFrom step cap k n t .end ≡ Spent
       → runFrom step cap k (n + m) t ≡ runFrom step cap (k + n) m (runFrom step cap k n t .reached)
   run-on k zero m t e = rw (zero-add, add-zero)
   run-on k (suc n) m t e =
-      elim (either (within cap (step t)))
-      [ inl p ↦
-          elim (either (same (step t) t))
-          [ inl q ↦ unlike Rests Spent (sym (ap (λ (r : Run). r .end) (rest-turn k n t p q)) ∙ e) (λ z. omega arith)
-          | inr q ↦
-              let here = more-turn k n t p q in
-              let goes-on = run-on (suc k) n m (step t) (sym (ap (λ (r : Run). r .end) here) ∙ e) in
-              let count : suc k + n ≡ k + suc n = omega arith in
-              rw (here, suc-add, ← count) (more-turn k (n + m) t p q ∙ goes-on) ]
-      | inr p ↦ unlike Passes Spent (sym (ap (λ (r : Run). r .end) (pass-turn k n t p)) ∙ e) (λ z. omega arith) ]
+      elim (either (within cap (step t))) [
+        | inl p ↦
+            elim (either (same (step t) t)) [
+              | inl q ↦ unlike Rests Spent (sym (ap (λ (r : Run). r .end) (rest-turn k n t p q)) ∙ e) (λ z. omega arith)
+              | inr q ↦
+                  let here = more-turn k n t p q in
+                  let goes-on = run-on (suc k) n m (step t) (sym (ap (λ (r : Run). r .end) here) ∙ e) in
+                  let count : suc k + n ≡ k + suc n = omega arith in
+                  rw (here, suc-add, ← count) (more-turn k (n + m) t p q ∙ goes-on)
+            ]
+        | inr p ↦ unlike Passes Spent (sym (ap (λ (r : Run). r .end) (pass-turn k n t p)) ∙ e) (λ z. omega arith)
+      ]

@@ -31,14 +31,15 @@ within-below cap {t} {u} b e = within-by cap t (λ i h. omega (arith, b .at i, w
 pub rise-at : (t u : List ℕ) → length t ≡ length u → Below t u → same u t ≡ false
     → (i : ℕ) × (i < length t) × (getD t i 0 < getD u i 0)
 rise-at t u l b e =
-    elim (either (allBelow (length t) (λ i. leb (getD u i 0) (getD t i 0))))
-    [ inl p ↦
-        let u-below : Below u t = below-by (length t) u t (sym l)
-              (λ i h. leb-true _ _ (true-of-allBelow (λ i. leb (getD u i 0) (getD t i 0)) (length t) p i h)) in
-        clash (same u t) (same-of-eq u t (below-antisymm (sym l) u-below b)) e
-    | inr p ↦
-        let w = allBelow-false (λ i. leb (getD u i 0) (getD t i 0)) (length t) p in
-        (w .0, w .1, leb-false _ _ (w .2)) ]
+    elim (either (allBelow (length t) (λ i. leb (getD u i 0) (getD t i 0)))) [
+      | inl p ↦
+          let u-below : Below u t = below-by (length t) u t (sym l)
+          (λ i h. leb-true _ _ (true-of-allBelow (λ i. leb (getD u i 0) (getD t i 0)) (length t) p i h)) in
+          clash (same u t) (same-of-eq u t (below-antisymm (sym l) u-below b)) e
+      | inr p ↦
+          let w = allBelow-false (λ i. leb (getD u i 0) (getD t i 0)) (length t) p in
+          (w .0, w .1, leb-false _ _ (w .2))
+    ]
 
 -- each raise within the cap takes room
 pub room-falls : (cap t u : List ℕ) → length t ≡ length cap → length u ≡ length cap → Below t u → same u t ≡ false

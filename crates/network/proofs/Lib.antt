@@ -1,0 +1,4 @@
+-- Laws of `specs/`, in reading order: scenarios, constraints, strategies, the least solution.
+pub mod Scenario
+pub mod Strategy
+pub mod Least

@@ -1,0 +1,29 @@
+-- The reaction time, and what is known when. Proofs elsewhere use these laws, and not the text of `reaction` and `known`.
+-- Assumes nothing.
+use mathlib.Core.Path.{_≡_, refl}
+use mathlib.Core.Bool.{true, false}
+use mathlib.Core.List.{List}
+use Prim.Native.Nat.{ℕ, _+_, _≤_, _<_}
+use native.Mathlib.Omega.{arith}
+use borrow.Author.Tests.{leb-true, leb-false, le-leb, lt-leb}
+use Rattle.network.specs.Build.{observation}
+use Rattle.network.specs.Strategy.{time, reaction, knownFrom, known}
+use Rattle.network.specs.declared.Network.{Network}
+
+-- nothing is known in the minute in which it is observed
+pub reaction-some : (Γ : Network) (p : ℕ) → 1 ≤ reaction Γ p
+unfolding reaction
+reaction-some Γ p = omega arith
+
+module _ (Γ : Network) (σ : List ℕ) (s p m : ℕ) where
+  pub observed-before : time (Γ .events) σ s (observation Γ p) < knownFrom Γ σ s p
+  observed-before = omega (arith, reaction-some Γ p)
+
+  pub from-known : known Γ σ s p m ≡ true → knownFrom Γ σ s p ≤ m
+  from-known e = leb-true _ _ e
+
+  pub from-unknown : known Γ σ s p m ≡ false → m < knownFrom Γ σ s p
+  from-unknown e = leb-false _ _ e
+
+  pub is-unknown : m < knownFrom Γ σ s p → known Γ σ s p m ≡ false
+  is-unknown h = lt-leb _ _ h

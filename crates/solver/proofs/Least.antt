@@ -1,0 +1,103 @@
+-- Demand 3 on the definitions: the solutions are the prefixpoints of the round within the cap, so a run from all zeros rests at the
+-- least solution, and where it does not rest there is none. Assumes nothing.
+use mathlib.Core.Path.{_≡_, refl, sym, _∙_, ap}
+use mathlib.Core.Logic.{_⊎_, inl, inr, _↔_}
+use mathlib.Core.Bool.{Bool, true, false, cond}
+use mathlib.Core.List.{List}
+use Prim.Native.Nat.{ℕ, zero, suc, _+_, _*_, _%_, _≤_, _<_}
+use native.Mathlib.Omega.{arith}
+use borrow.Author.Tests.{eq-eqb, eqb-true}
+use lib.Dec.{eqb}
+use lib.ListN.{length, getD, length-replicate}
+use Rattle.prelude.proofs.Tests.{clash, by-cond}
+use Rattle.prelude.proofs.Bounded.{length-tabulate, getD-tabulate}
+use Rattle.prelude.proofs.Cells.{cell-lt, column-of, by-cell}
+use Rattle.fixpoint.specs.Order.{Below}
+use Rattle.fixpoint.specs.Step.{Rising, Prefixpoint}
+use Rattle.fixpoint.specs.Run.{within, Rests}
+use Rattle.fixpoint.proofs.Order.{zeros-below}
+use Rattle.fixpoint.proofs.Within.{within-at, within-by}
+use Rattle.fixpoint.proofs.Run.{Outcome, outcome}
+use Rattle.network.specs.Build.{scenarios, cells}
+use Rattle.network.specs.Strategy.{time}
+use Rattle.network.specs.Solution.{OnTime, Solution}
+use Rattle.network.specs.Least.{Least, Inconsistent}
+use Rattle.network.specs.WellFormed.{WellFormed}
+use Rattle.network.specs.declared.Network.{Network}
+use Rattle.solver.specs.Propagate.{propagate}
+use Rattle.solver.specs.Solve.{floor, cap, solve}
+use Rattle.solver.proofs.Hyperarcs.{Dynamic, hyperarcs-agree}
+use Rattle.solver.proofs.Rising.{rising, closed-of, viable-of, hyperarcs-of}
+
+module _ (Γ : Network) where
+  -- the limit of a cell: nothing for the origin, and else the horizon
+  abbrev limit : ℕ → ℕ
+  limit i = cond (eqb (i % Γ .events) 0) 0 (Γ .horizon)
+
+  pub length-cap : length (cap Γ) ≡ cells Γ
+  length-cap = length-tabulate limit (cells Γ)
+
+  getD-cap : (s u : ℕ) → s < scenarios Γ → u < Γ .events → getD (cap Γ) (s * Γ .events + u) 0 ≡ cond (eqb u 0) 0 (Γ .horizon)
+  getD-cap s u hs hu =
+      getD-tabulate limit (cells Γ) (s * Γ .events + u) 0 (cell-lt (Γ .events) (scenarios Γ) s u hs hu)
+      ∙ rw (column-of (Γ .events) s u hu)
+
+  -- point 1 is to be within the cap
+  module _ (σ : List ℕ) where
+    limited : (h u m : ℕ) → m ≤ h → (u ≡ 0 → m ≡ 0) → m ≤ cond (eqb u 0) 0 h
+    limited h u m a b = by-cond (λ (z : ℕ). m ≤ z) (eqb u 0) 0 h (λ e. omega (arith, b (eqb-true u 0 e))) (λ _. a)
+
+    within-of-on-time : ((s u : ℕ) → s < scenarios Γ → u < Γ .events → OnTime Γ σ s u) → within (cap Γ) σ ≡ true
+    within-of-on-time h = within-by (cap Γ) σ (λ i l.
+        by-cell (Γ .events) (scenarios Γ) (λ i. getD σ i 0 ≤ getD (cap Γ) i 0)
+        (λ s u hs hu. rw (getD-cap s u hs hu) (limited (Γ .horizon) u _ (h s u hs hu .in-horizon) (h s u hs hu .origin)))
+        i (rw length-cap at l))
+
+    on-time-of-within : within (cap Γ) σ ≡ true → (s u : ℕ) → s < scenarios Γ → u < Γ .events → OnTime Γ σ s u
+    on-time-of-within e s u hs hu =
+        let low : time (Γ .events) σ s u ≤ cond (eqb u 0) 0 (Γ .horizon) =
+        rw (getD-cap s u hs hu) at (within-at (cap Γ) σ e (s * Γ .events + u) (rw length-cap (cell-lt (Γ .events) (scenarios Γ) s u hs hu))) in
+        record {
+          in-horizon = by-cond (λ (z : ℕ). time (Γ .events) σ s u ≤ z → time (Γ .events) σ s u ≤ Γ .horizon) (eqb u 0) 0 (Γ .horizon)
+              (λ _ l. omega arith) (λ _ l. l) low;
+          origin = λ z. let l : time (Γ .events) σ s u ≤ 0 = rw (eq-eqb u 0 z) at low in omega arith;
+        }
+
+  module _ (w : WellFormed Γ) where
+    -- a solution is a prefixpoint within the cap
+    pub prefixpoint-of-solution : (σ : List ℕ) → Solution Γ σ → Prefixpoint (propagate Γ) (floor Γ) σ
+    prefixpoint-of-solution σ h = record {
+      sized = h .sized ∙ sym (length-replicate (cells Γ) 0);
+      above = zeros-below (cells Γ) σ;
+      closed = closed-of Γ σ (h .sized) (record { holds = h .viable })
+          (hyperarcs-agree Γ σ w .0 (record { alike = h .dynamic }));
+    }
+
+    pub within-of-solution : (σ : List ℕ) → Solution Γ σ → within (cap Γ) σ ≡ true
+    within-of-solution σ h = within-of-on-time σ (h .on-time)
+
+    pub solution-of-prefixpoint : (σ : List ℕ) → Prefixpoint (propagate Γ) (floor Γ) σ → within (cap Γ) σ ≡ true → Solution Γ σ
+    solution-of-prefixpoint σ p e = record {
+      sized = p .sized ∙ length-replicate (cells Γ) 0;
+      on-time = on-time-of-within σ e;
+      viable = viable-of Γ σ w (p .closed) .holds;
+      dynamic = hyperarcs-agree Γ σ w .1 (hyperarcs-of Γ σ w (p .closed)) .alike;
+    }
+
+    ends : Outcome (propagate Γ) (cap Γ) (rw length-cap (rising Γ)) (floor Γ) (solve Γ)
+    unfolding solve
+    ends = outcome (propagate Γ) (cap Γ) (rw length-cap (rising Γ)) (floor Γ) (length-replicate (cells Γ) 0 ∙ sym length-cap)
+
+    -- where the run rests it has the least solution
+    pub solve-least : solve Γ .end ≡ Rests → Least Γ (solve Γ .reached)
+    solve-least e = record {
+      solves = solution-of-prefixpoint (solve Γ .reached) (ends .rests e .0) (ends .rests e .1);
+      no-later = λ τ h. ends .below τ (prefixpoint-of-solution τ h);
+    }
+
+    -- and where it does not there is none
+    pub solve-none : (solve Γ .end ≡ Rests → ⊥) → Inconsistent Γ
+    solve-none n = record {
+      none = λ τ h.
+          clash (within (cap Γ) τ) (within-of-solution τ h) (ends .none n τ (prefixpoint-of-solution τ h));
+    }
