@@ -2,3 +2,4 @@
 pub mod Scenario
 pub mod Strategy
 pub mod Least
+pub mod Examples
