@@ -2,3 +2,4 @@
 pub mod Order
 pub mod Within
 pub mod Run
+pub mod Examples

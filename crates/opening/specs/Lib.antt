@@ -1,2 +1,3 @@
--- What the program `table` prints.
+-- What the program `table` prints, and the three demands.
 pub mod Table
+pub mod Demands

@@ -24,18 +24,12 @@ use Rattle.network.specs.WellFormed.{WellFormed}
 use Rattle.network.specs.declared.Network.{Network}
 use Rattle.network.proofs.Scenario.{agree-comm}
 use Rattle.network.proofs.Strategy.{observed-before, from-known, from-unknown}
-use Rattle.solver.specs.Propagate.{leastKnown, hyperarc}
+use Rattle.solver.specs.Propagate.{leastKnown}
+use Rattle.solver.specs.Hyperarcs.{Dynamic, Hyperarcs}
 
-module _ (Γ : Network) (σ : List ℕ) where
-  abbrev at : ℕ → ℕ → ℕ
-  at s u = time (Γ .events) σ s u
-
-  -- point 3 over all scenarios and events, and the hyperarcs over all of them
-  pub record Dynamic : Type 0 where
-    pub alike : (s r u : ℕ) → s < scenarios Γ → r < scenarios Γ → u < Γ .events → Alike Γ σ s r u
-
-  pub record Hyperarcs : Type 0 where
-    pub kept : (s r u : ℕ) → s < scenarios Γ → r < scenarios Γ → u < Γ .events → hyperarc Γ σ s r u ≤ at s u
+-- the time of u in s
+abbrev at : Network → List ℕ → ℕ → ℕ → ℕ
+at Γ σ s u = time (Γ .events) σ s u
 
 module _ (Γ : Network) (σ : List ℕ) (s r m : ℕ) where
   abbrev least : ℕ → ℕ

@@ -26,7 +26,7 @@ use Rattle.network.specs.WellFormed.{WellFormed}
 use Rattle.network.specs.declared.Network.{Network}
 use Rattle.solver.specs.Propagate.{propagate}
 use Rattle.solver.specs.Solve.{floor, cap, solve}
-use Rattle.solver.proofs.Hyperarcs.{Dynamic, hyperarcs-agree}
+use Rattle.solver.proofs.Hyperarcs.{hyperarcs-agree}
 use Rattle.solver.proofs.Rising.{rising, closed-of, viable-of, hyperarcs-of}
 
 module _ (Γ : Network) where

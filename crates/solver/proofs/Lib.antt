@@ -4,3 +4,4 @@ pub mod Hyperarcs
 pub mod Bounds
 pub mod Rising
 pub mod Least
+pub mod Examples

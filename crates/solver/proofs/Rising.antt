@@ -21,7 +21,7 @@ use Rattle.network.specs.WellFormed.{WellFormed}
 use Rattle.network.specs.declared.Constraint.{Constraint}
 use Rattle.network.specs.declared.Network.{Network}
 use Rattle.solver.specs.Propagate.{leastFrom, leastTo, isUpper, isLower, upperBound, lowerBound, constraintsBound, leastKnown, hyperarc, hyperarcsBound, raised, propagate}
-use Rattle.solver.proofs.Hyperarcs.{Hyperarcs}
+use Rattle.solver.specs.Hyperarcs.{Hyperarcs}
 use Rattle.solver.proofs.Bounds.{leastFrom-mono, leastTo-mono, cond-mono, upper-of-holds, lower-of-holds, holds-of-bounds}
 
 -- what one constraint asks, by both halves

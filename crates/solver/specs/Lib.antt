@@ -1,3 +1,4 @@
--- Read in this order: the round, and its run from all zeros.
+-- Read in this order: the round, point 3 and the hyperarcs, the run from all zeros.
 pub mod Propagate
+pub mod Hyperarcs
 pub mod Solve
