@@ -1,3 +1,4 @@
--- What the program `table` prints, and the three demands.
+-- What the public calls answer, what the program `table` prints, and the three demands.
+pub mod Calls
 pub mod Table
 pub mod Demands

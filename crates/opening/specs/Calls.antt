@@ -1,0 +1,95 @@
+-- What the public calls answer and what they leave in the memory that they are lent (01, Refused sheets and calls, The judge's verdict
+-- and The printed listing). A refusal of the sheet itself comes first; then 11, 12 and 13, whose line is 0.
+use mathlib.Core.Bool.{Bool, true, false}
+use mathlib.Core.List.{List, _++_}
+use Prim.Native.Nat.{ℕ}
+use lib.Dec.{eqb, leb}
+use lib.ListN.{length, drop}
+use Rattle.refusal.specs.Refusal.{refusal}
+use Rattle.refusal.specs.declared.Cause.the-variants.{WrongTableLength, BufferTooShort, Inconsistent}
+use Rattle.fixpoint.specs.Run.{Run, End, Rests, Passes, Spent}
+use Rattle.network.specs.Build.{cells}
+use Rattle.network.specs.declared.Network.{Network}
+use Rattle.sheet.specs.Reading.{read}
+use Rattle.sheet.specs.declared.Outcome.{Outcome}
+use Rattle.sheet.specs.declared.Outcome.the-variants.{Accepted, Refused}
+use Rattle.sheet.specs.declared.Reading.{Reading}
+use Rattle.checker.specs.Verdict.{verdict}
+use Rattle.solver.specs.Solve.{solve}
+use Rattle.listing.specs.Listing.{listing}
+use Rattle.opening.specs.declared.Counts.{Counts}
+use Rattle.opening.specs.declared.Summary.{Summary}
+use Rattle.opening.specs.declared.Summary.the-variants as S
+use Rattle.opening.specs.declared.Judgement.{Judgement}
+use Rattle.opening.specs.declared.Judgement.the-variants as J
+use Rattle.opening.specs.declared.Written.{Written}
+use Rattle.opening.specs.declared.Written.the-variants as W
+
+-- reading: the horizon and the counts
+abbrev pub countsOf : Network → Counts
+countsOf Γ = record { horizon = Γ .horizon; events = Γ .events; signals = Γ .signals; rules = Γ .rules }
+
+abbrev pub summaryFor : Network → Outcome → Summary
+summaryFor Γ Accepted = S.Accepted (countsOf Γ)
+summaryFor Γ (Refused r) = S.Refused r
+
+abbrev pub summary : List ℕ → Summary
+summary sheet = summaryFor (read sheet .network) (read sheet .outcome)
+
+-- judging: "A table handed in has not exactly n × 2^k numbers" is 11
+abbrev pub judgementFor : Network → Outcome → List ℕ → Judgement
+judgementFor Γ Accepted t =
+    elim (eqb (length t) (cells Γ)) [
+      | true ↦ J.Judged (verdict Γ t)
+      | false ↦ J.Refused (refusal WrongTableLength 0)
+    ]
+judgementFor Γ (Refused r) t = J.Refused r
+
+abbrev pub judgement : List ℕ → List ℕ → Judgement
+judgement sheet t = judgementFor (read sheet .network) (read sheet .outcome) t
+
+-- an answer, and what is then in the lent memory
+pub record Left : Type 0 where
+  pub answer : Written
+  pub memory : List ℕ
+
+-- refused: the memory keeps its contents
+abbrev pub kept : Written → List ℕ → Left
+kept a m = record { answer = a; memory = m }
+
+-- "the written part has exactly its stated contents and everything behind it is unaltered", or 12 where there is no room for it
+abbrev pub written : List ℕ → List ℕ → Left
+written text m =
+    elim (leb (length text) (length m)) [
+      | true ↦ record { answer = W.Count (length text); memory = text ++ drop (length text) m }
+      | false ↦ kept (W.Refused (refusal BufferTooShort 0)) m
+    ]
+
+-- solving: 12 "even where 13 would follow", then the least solution or 13
+abbrev pub solvedFor : End → List ℕ → List ℕ → Left
+solvedFor Rests σ m = written σ m
+solvedFor Passes σ m = kept (W.Refused (refusal Inconsistent 0)) m
+solvedFor Spent σ m = kept (W.Refused (refusal Inconsistent 0)) m
+
+abbrev pub solvingFor : Network → Outcome → List ℕ → Left
+solvingFor Γ Accepted m =
+    elim (leb (cells Γ) (length m)) [
+      | true ↦ solvedFor (solve Γ .end) (solve Γ .reached) m
+      | false ↦ kept (W.Refused (refusal BufferTooShort 0)) m
+    ]
+solvingFor Γ (Refused r) m = kept (W.Refused r) m
+
+abbrev pub solving : List ℕ → List ℕ → Left
+solving sheet m = solvingFor (read sheet .network) (read sheet .outcome) m
+
+-- listing: "prints any table of the right length"
+abbrev pub listingFor : List ℕ → Network → Outcome → List ℕ → List ℕ → Left
+listingFor sheet Γ Accepted t m =
+    elim (eqb (length t) (cells Γ)) [
+      | true ↦ written (listing sheet Γ t) m
+      | false ↦ kept (W.Refused (refusal WrongTableLength 0)) m
+    ]
+listingFor sheet Γ (Refused r) t m = kept (W.Refused r) m
+
+abbrev pub listed : List ℕ → List ℕ → List ℕ → Left
+listed sheet t m = listingFor sheet (read sheet .network) (read sheet .outcome) t m
