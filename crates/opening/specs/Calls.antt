@@ -1,5 +1,6 @@
 -- What the public calls answer and what they leave in the memory that they are lent (01, Refused sheets and calls, The judge's verdict
 -- and The printed listing). A refusal of the sheet itself comes first; then 11, 12 and 13, whose line is 0.
+use mathlib.Core.Path.{_≡_}
 use mathlib.Core.Bool.{Bool, true, false}
 use mathlib.Core.List.{List, _++_}
 use Prim.Native.Nat.{ℕ}
@@ -52,6 +53,11 @@ judgement sheet t = judgementFor (read sheet .network) (read sheet .outcome) t
 pub record Left : Type 0 where
   pub answer : Written
   pub memory : List ℕ
+
+-- the promise of a call that writes: its answer, and the lent memory as it returns
+pub record Leaves (l : Left) (r : Written) (m : List ℕ) : Type 0 where
+  pub answer : r ≡ l .answer
+  pub memory : m ≡ l .memory
 
 -- refused: the memory keeps its contents
 abbrev pub kept : Written → List ℕ → Left

@@ -1,4 +1,5 @@
 -- What the public calls answer, what the program `table` prints, and the three demands.
 pub mod Calls
+pub mod Bench
 pub mod Table
 pub mod Demands

@@ -1,0 +1,89 @@
+-- The calls of the workshop bench, which is written in C: "There a table travels as two bytes a minute, low byte first. For the judge an
+-- odd number of bytes is refusal 11; the solver counts the whole pairs it is lent" (01, The judge's verdict). An answer is one number.
+use mathlib.Core.Bool.{Bool, true, false}
+use mathlib.Core.List.{List, [], _∷_, _++_}
+use Prim.Native.Nat.{ℕ, _+_, _*_, _/_, _%_}
+use lib.Dec.{eqb}
+use lib.ListN.{length, take, drop}
+use Rattle.refusal.specs.Refusal.{numberOf, refusal}
+use Rattle.refusal.specs.declared.Cause.the-variants.{WrongTableLength}
+use Rattle.refusal.specs.declared.Refusal.{Refusal}
+use Rattle.sheet.specs.Reading.{read}
+use Rattle.sheet.specs.declared.Outcome.{Outcome}
+use Rattle.sheet.specs.declared.Outcome.the-variants.{Accepted, Refused}
+use Rattle.checker.specs.declared.Breach.{Breach}
+use Rattle.checker.specs.declared.Breach.the-variants.{Late, Rule, Unheard}
+use Rattle.checker.specs.declared.Verdict.{Verdict}
+use Rattle.checker.specs.declared.Verdict.the-variants.{Pass, Breach as Breached}
+use Rattle.opening.specs.Calls.{judgement, Left, solving}
+use Rattle.opening.specs.declared.Judgement.{Judgement}
+use Rattle.opening.specs.declared.Judgement.the-variants as J
+use Rattle.opening.specs.declared.Written.{Written}
+use Rattle.opening.specs.declared.Written.the-variants as W
+
+-- the minutes of the whole pairs of bytes, and the bytes of minutes
+abbrev pub minutesOf : List ℕ → List ℕ
+minutesOf [] = []
+minutesOf (a ∷ []) = []
+minutesOf (a ∷ b ∷ s) = (a + 256 * b) ∷ minutesOf s
+
+abbrev pub bytesOf : List ℕ → List ℕ
+bytesOf [] = []
+bytesOf (m ∷ ms) = m % 256 ∷ m / 256 ∷ bytesOf ms
+
+-- judging bytes
+abbrev pub benchJudgementFor : List ℕ → Outcome → List ℕ → Judgement
+benchJudgementFor sheet Accepted b =
+    elim (eqb (length b % 2) 1)
+    [ true ↦ J.Refused (refusal WrongTableLength 0)
+    | false ↦ judgement sheet (minutesOf b) ]
+benchJudgementFor sheet (Refused r) b = J.Refused r
+
+abbrev pub benchJudgement : List ℕ → List ℕ → Judgement
+benchJudgement sheet b = benchJudgementFor sheet (read sheet .outcome) b
+
+-- solving into bytes: what is written is written as pairs, and everything behind it is unaltered
+abbrev pub pairsAfter : Written → List ℕ → List ℕ → List ℕ
+pairsAfter (W.Count n) m b = bytesOf (take n m) ++ drop (2 * n) b
+pairsAfter (W.Refused r) m b = b
+
+abbrev pub benchSolving : List ℕ → List ℕ → Left
+benchSolving sheet b =
+    let l = solving sheet (minutesOf b) in
+    record { answer = l .answer; memory = pairsAfter (l .answer) (l .memory) b }
+
+-- document 01's number, line, word and values of an answer: word 0 is a pass, 1 Late with case and event, 2 Rule with case and rule,
+-- 3 Unheard with both cases and the event
+pub record Values : Type 0 where
+  pub number : ℕ
+  pub line : ℕ
+  pub word : ℕ
+  pub first : ℕ
+  pub second : ℕ
+  pub third : ℕ
+
+abbrev pub refused : Refusal → Values
+refused r = record { number = numberOf (r .cause); line = r .line; word = 0; first = 0; second = 0; third = 0 }
+
+abbrev pub judged : ℕ → ℕ → ℕ → ℕ → Values
+judged w a b c = record { number = 0; line = 0; word = w; first = a; second = b; third = c }
+
+abbrev pub verdictValues : Verdict → Values
+verdictValues Pass = judged 0 0 0 0
+verdictValues (Breached (Late s u)) = judged 1 s u 0
+verdictValues (Breached (Rule s c)) = judged 2 s c 0
+verdictValues (Breached (Unheard s r u)) = judged 3 s r u
+
+abbrev pub judgementValues : Judgement → Values
+judgementValues (J.Judged v) = verdictValues v
+judgementValues (J.Refused r) = refused r
+
+-- the judge's answer for C, lowest byte first: number, line (two bytes), word, three values
+abbrev pub packed : Values → ℕ
+packed v =
+    v .number + 256 * (v .line + 65536 * (v .word + 256 * (v .first + 256 * (v .second + 256 * v .third))))
+
+-- the solver's: number, line (two bytes), count of minutes (two bytes)
+abbrev pub packedWritten : Written → ℕ
+packedWritten (W.Count n) = 16777216 * n
+packedWritten (W.Refused r) = numberOf (r .cause) + 256 * r .line
