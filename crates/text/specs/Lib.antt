@@ -1,4 +1,8 @@
--- Read in this order: lines and fields, numbers as they are read, numbers as they are written.
+-- Read in this order: lines and fields, where fields stand in their line, numbers as they are read, what reading one answers,
+-- numbers as they are written, digits in an array.
 pub mod Lines
+pub mod Cuts
 pub mod Number
+pub mod ReadNumber
 pub mod Decimal
+pub mod Spelled

@@ -1,0 +1,60 @@
+-- `until` meets its contract: it stops at the first byte d. The invariant: what stands before the first d is the i bytes passed and
+-- what stands before the first d from i on. The measure is what is left of s. Assumes nothing.
+use mathlib.Core.Path.{_≡_}
+use Prim.Native.Nat.{_+_, _-_, _≤_}
+use native.Mathlib.Omega.{arith}
+use borrow.Author.Needs.{needs}
+use lib.ListN.{length, drop}
+use Rattle.text.specs.Lines.{upTo}
+use Rattle.text.proofs.Lines.{upTo-hit, upTo-miss, upTo-end}
+use Rattle.text.proofs.until.Statement.{statement}
+use Rattle.text.proofs.until.Tie as tie
+
+abbrev Inv-loop : tie.InvT-loop
+Inv-loop s d i₀ i = (i ≤ length s) × (length (upTo d s) ≡ i + length (upTo d (drop i s)))
+
+abbrev μ-loop : tie.MeasureT-loop
+μ-loop s d i₀ i = length s - i
+
+loop-holds : tie.Need-loop-holds Inv-loop μ-loop
+loop-holds c = omega arith
+
+shared-slice-read-if1 : tie.Need-shared-slice-read-if1 Inv-loop μ-loop
+shared-slice-read-if1 c = search needs
+
+returns : tie.Need-returns Inv-loop μ-loop
+returns c =
+    let in-loop = c .before .before in
+    let here = in-loop .before in
+    omega (arith, upTo-hit (here .before .args .d) (here .before .args .s .now) (here .loop .i) (in-loop .loop-test .taken) (c .if1 .taken))
+
+add-i : tie.Need-add-i Inv-loop μ-loop
+add-i c = search needs
+
+loop-less : tie.Need-loop-less Inv-loop μ-loop
+loop-less c = search needs
+
+loop-again : tie.Need-loop-again Inv-loop μ-loop
+loop-again c =
+    let in-loop = c .before .before in
+    let here = in-loop .before in
+    omega (arith, upTo-miss (here .before .args .d) (here .before .args .s .now) (here .loop .i) (in-loop .loop-test .taken) (c .if1 .left))
+
+returns-2 : tie.Need-returns-2 Inv-loop μ-loop
+returns-2 c =
+    let here = c .before in
+    omega (arith, upTo-end (here .before .args .d) (here .before .args .s .now) (here .loop .i) (c .loop-test .left))
+
+pub until-spec : {M : Type 1} → statement M
+until-spec =
+    tie.close
+    (tie.spec
+    Inv-loop
+    μ-loop
+    loop-holds
+    shared-slice-read-if1
+    returns
+    add-i
+    loop-less
+    loop-again
+    returns-2)
