@@ -34,9 +34,10 @@ bytesOf (m ∷ ms) = m % 256 ∷ m / 256 ∷ bytesOf ms
 -- judging bytes
 abbrev pub benchJudgementFor : List ℕ → Outcome → List ℕ → Judgement
 benchJudgementFor sheet Accepted b =
-    elim (eqb (length b % 2) 1)
-    [ true ↦ J.Refused (refusal WrongTableLength 0)
-    | false ↦ judgement sheet (minutesOf b) ]
+    elim (eqb (length b % 2) 1) [
+      | true ↦ J.Refused (refusal WrongTableLength 0)
+      | false ↦ judgement sheet (minutesOf b)
+    ]
 benchJudgementFor sheet (Refused r) b = J.Refused r
 
 abbrev pub benchJudgement : List ℕ → List ℕ → Judgement
