@@ -30,14 +30,14 @@ scenarioText k s =
       | false ↦ tabulate k (λ p. cond (truth s p) (code "T") (code "F"))
     ]
 
-module _ (sheet : List ℕ) (Γ : Network) (σ : List ℕ) where
-  -- "`case`, then a comma and a name for each event"
-  abbrev pub header : List ℕ
-  header = ascii "case" ++ fieldsOf (Γ .events) (λ u. nameOf Γ sheet u)
+-- "`case`, then a comma and a name for each event"
+abbrev pub header : List ℕ → Network → List ℕ
+header sheet Γ = ascii "case" ++ fieldsOf (Γ .events) (λ u. nameOf Γ sheet u)
 
+module _ (sheet : List ℕ) (Γ : Network) (σ : List ℕ) where
   -- the truths of s, "then a comma and a minute per event"
   abbrev pub scenarioLine : ℕ → List ℕ
   scenarioLine s = scenarioText (Γ .signals) s ++ fieldsOf (Γ .events) (λ u. decimal (time (Γ .events) σ s u))
 
   unfoldable pub listing : List ℕ
-  listing = header ++ joinFrom 0 (scenarios Γ) scenarioLine
+  listing = header sheet Γ ++ joinFrom 0 (scenarios Γ) scenarioLine

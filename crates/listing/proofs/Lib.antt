@@ -1,0 +1,8 @@
+-- Laws of `specs/`, for the proofs of this crate and of those above. No contract cites them.
+pub mod Append
+pub mod Join
+pub mod Truths
+pub mod Names
+pub mod Listed
+pub mod Memory
+pub mod Examples

@@ -1,0 +1,33 @@
+-- Laws of a scenario's truths as they are printed. Assumes nothing.
+use mathlib.Core.Path.{_≡_, sym}
+use mathlib.Core.List.{[], _∷_}
+use Prim.Native.Nat.{ℕ, _+_, _/_, _^_, _≤_}
+use native.Mathlib.Nat.{div-div-eq-div-mul, pow-suc, pow-zero, div-one}
+use native.Mathlib.Numerals.{add-one}
+use borrow.Author.Tests.{ne-eqb}
+use lib.Pow.{pow-mono}
+use Rattle.prelude.specs.Bytes.{ascii}
+use Rattle.network.specs.Limits as L
+use Rattle.listing.specs.Listing.{joinFrom, scenarioText}
+use Rattle.listing.specs.Line.{markOf}
+use Rattle.listing.proofs.Join.{tabulate-join}
+
+module _ (s : ℕ) where
+  -- s halved p times has the truth of p as its last binary digit
+  pub halved-none : s ≡ s / 2 ^ 0
+  halved-none = sym (rw pow-zero (div-one s))
+
+  pub halved-more : (p : ℕ) → s / 2 ^ p / 2 ≡ s / 2 ^ (p + 1)
+  halved-more p = rw (add-one, pow-suc) (div-div-eq-div-mul s (2 ^ p) 2)
+
+  -- where there is no signal
+  pub scenarioText-none : (k : ℕ) → k ≡ 0 → ascii "-" ≡ scenarioText k s
+  scenarioText-none k e = rw e
+
+  -- where there is a signal, the marks one by one
+  pub scenarioText-some : (k : ℕ) → (k ≡ 0 → ⊥) → joinFrom 0 k (λ p. markOf (s / 2 ^ p) ∷ []) ≡ scenarioText k s
+  scenarioText-some k h = rw (ne-eqb k 0 h, scenarioText) (sym (tabulate-join (λ p. markOf (s / 2 ^ p)) k))
+
+-- the limit of the signals limits the scenarios
+pub few-scenarios : (k : ℕ) → k ≤ L.signals → 2 ^ k ≤ 2 ^ L.signals
+few-scenarios k h = pow-mono {j = L.signals} h

@@ -1,0 +1,110 @@
+-- `listing::push_names` meets its contract. The invariant: the names of the events below u are written, each behind its comma. A name is
+-- a part of the sheet of at most 8 bytes, so that there is room for all. The measure is the count of events left. Assumes nothing.
+use mathlib.Core.Path.{_≡_, refl}
+use mathlib.Core.List.{_∷_}
+use Prim.Native.Nat.{_-_}
+use native.Mathlib.Omega.{arith}
+use borrow.Author.Needs.{needs}
+use Rattle.text.specs.Lines.{comma}
+use Rattle.network.specs.Build.{nameOf}
+use denote.Ref.{now}
+use Rattle.listing.proofs.Names.{part-from, name-short}
+use Rattle.listing.proofs.Append.{append-then}
+use Rattle.listing.proofs.Join.{Joining, join-none, join-next, join-all}
+use Rattle.listing.proofs.push_names.Statement.{statement}
+use Rattle.listing.proofs.push_names.Tie as tie
+
+abbrev Inv-loop : tie.InvT-loop
+Inv-loop page₀ at sheet network next₀ u₀ u-end page next u =
+    Joining 9 (λ i. comma ∷ nameOf network sheet i) (network .events) page₀ at u page next × (u-end ≡ network .events)
+
+abbrev μ-loop : tie.MeasureT-loop
+μ-loop page₀ at sheet network next₀ u₀ u-end page next u = network .events - u
+
+loop-holds : tie.Need-loop-holds Inv-loop μ-loop
+loop-holds c = (join-none (omega arith), refl)
+
+mul-start : tie.Need-mul-start Inv-loop μ-loop
+mul-start c = omega arith
+
+element-copy-out-start : tie.Need-element-copy-out-start Inv-loop μ-loop
+element-copy-out-start c = omega arith
+
+mul-end : tie.Need-mul-end Inv-loop μ-loop
+mul-end c = omega arith
+
+element-copy-out-end : tie.Need-element-copy-out-end Inv-loop μ-loop
+element-copy-out-end c = omega arith
+
+add-end : tie.Need-add-end Inv-loop μ-loop
+add-end c =
+    let in-loop = c .before .before .before in
+    omega (arith, in-loop .before .before .before .pre .1 .inside (in-loop .loop .u) (omega arith))
+
+sub-push-field : tie.Need-sub-push-field Inv-loop μ-loop
+sub-push-field c = omega arith
+
+part-push-field-start : tie.Need-part-push-field-start Inv-loop μ-loop
+part-push-field-start c = omega arith
+
+part-push-field-end : tie.Need-part-push-field-end Inv-loop μ-loop
+part-push-field-end c =
+    let in-loop = c .before .before .before .before in
+    omega (arith, in-loop .before .before .before .pre .1 .inside (in-loop .loop .u) (omega arith))
+
+push-field-requires : tie.Need-push-field-requires Inv-loop μ-loop
+push-field-requires c κs =
+    let in-loop = c .before .before .before .before .before in
+    let start = in-loop .before .before .before in
+    let short = name-short (start .args .t4) (now (start .args .sheet)) (in-loop .loop .u) (start .pre .1) (omega arith) in
+    rw part-from (omega arith)
+
+add-u : tie.Need-add-u Inv-loop μ-loop
+add-u c = search needs
+
+loop-less : tie.Need-loop-less Inv-loop μ-loop
+loop-less c = search needs
+
+loop-again : tie.Need-loop-again Inv-loop μ-loop
+loop-again c =
+    let field = c .before .before in
+    let in-loop = field .before .before .before .before .before .before in
+    let start = in-loop .before .before .before in
+    let inv = in-loop .loop .inv in
+    let short = name-short (start .args .t4) (now (start .args .sheet)) (in-loop .loop .u) (start .pre .1) (omega arith) in
+    (join-next (inv .0) (omega arith) (rw part-from at (field .push-field .ensures)) (omega arith), inv .1)
+
+push-requires : tie.Need-push-requires Inv-loop μ-loop
+push-requires c κs = search needs
+
+same-length : tie.Need-same-length Inv-loop μ-loop
+same-length c = search needs
+
+returns : tie.Need-returns Inv-loop μ-loop
+returns c =
+    let last = c .before .before in
+    let loop = last .before .before .before .loop in
+    append-then (join-all (loop .inv .0) (omega arith)) (last .push .ensures) (omega arith)
+
+pub push-names-spec : {M : Type 1} → statement M
+push-names-spec =
+    tie.close
+    (tie.spec
+    Inv-loop
+    μ-loop
+    loop-holds
+    mul-start
+    element-copy-out-start
+    mul-end
+    element-copy-out-end
+    add-end
+    sub-push-field
+    part-push-field-start
+    part-push-field-end
+    push-field-requires
+    add-u
+    loop-less
+    loop-again
+    push-requires
+    same-length
+    returns)

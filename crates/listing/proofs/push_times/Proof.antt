@@ -1,0 +1,81 @@
+-- `listing::push_times` meets its contract. The invariant: the times of the events below u are written, each behind its comma. The
+-- measure is the count of events left. Assumes nothing.
+use mathlib.Core.List.{_∷_}
+use Prim.Native.Nat.{_-_}
+use native.Mathlib.Omega.{arith}
+use borrow.Author.Needs.{needs}
+use Rattle.text.specs.Lines.{comma}
+use Rattle.text.specs.Decimal.{decimal}
+use Rattle.network.specs.Strategy.{time}
+use Rattle.listing.proofs.Append.{append-then}
+use Rattle.listing.proofs.Join.{Joining, join-none, join-next, join-all}
+use Rattle.listing.proofs.push_times.Statement.{statement}
+use Rattle.listing.proofs.push_times.Tie as tie
+
+abbrev Inv-loop : tie.InvT-loop
+Inv-loop page₀ at table s events first next₀ u₀ page next u =
+    Joining 6 (λ i. comma ∷ decimal (time events table s i)) events page₀ at u page next
+
+abbrev μ-loop : tie.MeasureT-loop
+μ-loop page₀ at table s events first next₀ u₀ page next u = events - u
+
+mul-first : tie.Need-mul-first Inv-loop μ-loop
+mul-first c = omega arith
+
+loop-holds : tie.Need-loop-holds Inv-loop μ-loop
+loop-holds c = join-none (omega arith)
+
+add-push-time : tie.Need-add-push-time Inv-loop μ-loop
+add-push-time c = omega arith
+
+mul-push-time : tie.Need-mul-push-time Inv-loop μ-loop
+mul-push-time c = omega arith
+
+shared-slice-read-push-time : tie.Need-shared-slice-read-push-time Inv-loop μ-loop
+shared-slice-read-push-time c = omega arith
+
+push-time-requires : tie.Need-push-time-requires Inv-loop μ-loop
+push-time-requires c κs = search needs
+
+add-u : tie.Need-add-u Inv-loop μ-loop
+add-u c = search needs
+
+loop-less : tie.Need-loop-less Inv-loop μ-loop
+loop-less c = search needs
+
+loop-again : tie.Need-loop-again Inv-loop μ-loop
+loop-again c =
+    let time = c .before .before in
+    let loop = time .before .before .before .before .loop in
+    join-next (loop .inv) (omega arith) (time .push-time .ensures) (omega arith)
+
+push-requires : tie.Need-push-requires Inv-loop μ-loop
+push-requires c κs = search needs
+
+same-length : tie.Need-same-length Inv-loop μ-loop
+same-length c = search needs
+
+returns : tie.Need-returns Inv-loop μ-loop
+returns c =
+    let last = c .before .before in
+    let loop = last .before .before .before .loop in
+    append-then (join-all (loop .inv) (omega arith)) (last .push .ensures) (omega arith)
+
+pub push-times-spec : {M : Type 1} → statement M
+push-times-spec =
+    tie.close
+    (tie.spec
+    Inv-loop
+    μ-loop
+    mul-first
+    loop-holds
+    add-push-time
+    mul-push-time
+    shared-slice-read-push-time
+    push-time-requires
+    add-u
+    loop-less
+    loop-again
+    push-requires
+    same-length
+    returns)

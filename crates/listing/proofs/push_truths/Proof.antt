@@ -1,0 +1,88 @@
+-- `listing::push_truths` meets its contract. The invariant: the marks of the propositions below p are written, and the rest is s halved
+-- p times. The measure is the count of propositions left. Assumes nothing.
+use mathlib.Core.Path.{_≡_, sym}
+use mathlib.Core.List.{[], _∷_}
+use Prim.Native.Nat.{_-_, _/_, _^_}
+use native.Mathlib.Omega.{arith}
+use borrow.Author.Needs.{needs}
+use Rattle.listing.specs.Line.{markOf}
+use Rattle.listing.proofs.Append.{append-as}
+use Rattle.listing.proofs.Join.{Joining, join-none, join-next, join-all}
+use Rattle.listing.proofs.Truths.{halved-none, halved-more, scenarioText-none, scenarioText-some}
+use Rattle.listing.proofs.push_truths.Statement.{statement}
+use Rattle.listing.proofs.push_truths.Tie as tie
+
+abbrev Inv-loop : tie.InvT-loop
+Inv-loop page₀ at s signals next₀ rest₀ p₀ page next rest p =
+    Joining 1 (λ i. markOf (s / 2 ^ i) ∷ []) signals page₀ at p page next × (rest ≡ s / 2 ^ p)
+
+abbrev μ-loop : tie.MeasureT-loop
+μ-loop page₀ at s signals next₀ rest₀ p₀ page next rest p = signals - p
+
+push-requires : tie.Need-push-requires Inv-loop μ-loop
+push-requires c κs = search needs
+
+same-length : tie.Need-same-length Inv-loop μ-loop
+same-length c = search needs
+
+returns : tie.Need-returns Inv-loop μ-loop
+returns c =
+    let dash = c .before .before in
+    let branch = dash .before .before in
+    let args = branch .before .before .args in
+    append-as (scenarioText-none (args .s) (args .signals) (branch .if1 .taken)) (dash .push .ensures) (omega arith)
+
+loop-holds : tie.Need-loop-holds Inv-loop μ-loop
+loop-holds c = (join-none (omega arith), halved-none (c .before .before .args .s))
+
+mark-of-requires : tie.Need-mark-of-requires Inv-loop μ-loop
+mark-of-requires c κs = search needs
+
+push-requires-2 : tie.Need-push-requires-2 Inv-loop μ-loop
+push-requires-2 c κs = search needs
+
+add-p : tie.Need-add-p Inv-loop μ-loop
+add-p c = search needs
+
+loop-less : tie.Need-loop-less Inv-loop μ-loop
+loop-less c = search needs
+
+loop-again : tie.Need-loop-again Inv-loop μ-loop
+loop-again c =
+    let mark = c .before .before .before in
+    let in-loop = mark .before .before .before in
+    let loop = in-loop .loop in
+    let s = in-loop .before .before .before .args .s in
+    let right : markOf (s / 2 ^ loop .p) ≡ mark .mark-of .result =
+    sym (rw (← loop .inv .1) (mark .mark-of .ensures)) in (
+      join-next (loop .inv .0) (omega arith) (rw (← right) at (c .before .before .push2 .ensures)) (omega arith),
+      rw (loop .inv .1) (halved-more s (loop .p)),
+    )
+
+same-length-2 : tie.Need-same-length-2 Inv-loop μ-loop
+same-length-2 c = search needs
+
+returns-2 : tie.Need-returns-2 Inv-loop μ-loop
+returns-2 c =
+    let loop = c .before .loop in
+    let branch = c .before .before in
+    let args = branch .before .before .args in
+    append-as (scenarioText-some (args .s) (args .signals) (branch .if1 .left)) (join-all (loop .inv .0) (omega arith)) (omega arith)
+
+pub push-truths-spec : {M : Type 1} → statement M
+push-truths-spec =
+    tie.close
+    (tie.spec
+    Inv-loop
+    μ-loop
+    push-requires
+    same-length
+    returns
+    loop-holds
+    mark-of-requires
+    push-requires-2
+    add-p
+    loop-less
+    loop-again
+    same-length-2
+    returns-2)
