@@ -1,0 +1,89 @@
+-- `apart` meets its contract. The loop's invariant: `first` is the definition's time for the propositions passed; one more that differs
+-- may make it sooner. The measure is what is left of the propositions. Assumes nothing.
+use mathlib.Core.Path.{_≡_, refl, sym, _∙_, ap₂}
+use mathlib.Core.Logic.{⊎-elim}
+use Prim.Native.Nat.{_-_, _≤_, min}
+use native.Mathlib.Omega.{arith}
+use borrow.Author.Needs.{needs}
+use borrow.Author.Tests.{not-true, not-false}
+use denote.Ref.{now}
+use Rattle.checker.specs.Plain.{apart}
+use Rattle.checker.proofs.Plain.{apart-agree, apart-differ}
+use Rattle.checker.proofs.apart.Statement.{statement}
+use Rattle.checker.proofs.apart.Tie as tie
+
+abbrev Inv-loop : tie.InvT-loop
+Inv-loop σ os n k s r first₀ p₀ first p = (p ≤ k) × (first ≡ apart n σ s os r p)
+
+abbrev μ-loop : tie.MeasureT-loop
+μ-loop σ os n k s r first₀ p₀ first p = k - p
+
+loop-holds : tie.Need-loop-holds Inv-loop μ-loop
+loop-holds c = (omega arith, refl)
+
+agree-requires : tie.Need-agree-requires Inv-loop μ-loop
+agree-requires c κs =
+    let asked = c .before .before .before .pre in
+    (asked .0 .scenario, asked .1, omega (arith, asked .0 .few))
+
+mul-observation : tie.Need-mul-observation Inv-loop μ-loop
+mul-observation c = omega (arith, c .before .before .before .before .before .pre .0 .few)
+
+element-copy-out-observation : tie.Need-element-copy-out-observation Inv-loop μ-loop
+element-copy-out-observation c =
+    let asked = c .before .before .before .before .before .pre .0 in
+    omega (arith, asked .few, asked .array)
+
+known-after-requires : tie.Need-known-after-requires Inv-loop μ-loop
+known-after-requires c κs =
+    let in-loop = c .before .before .before in
+    in-loop .before .before .before .pre .0 .inside (in-loop .before .loop .p) (in-loop .loop-test .taken)
+
+sooner-requires : tie.Need-sooner-requires Inv-loop μ-loop
+sooner-requires c κs = search needs
+
+add-p : tie.Need-add-p Inv-loop μ-loop
+add-p c = omega (arith, c .before .before .before .before .before .pre .0 .few)
+
+loop-less : tie.Need-loop-less Inv-loop μ-loop
+loop-less c = search needs
+
+loop-again : tie.Need-loop-again Inv-loop μ-loop
+loop-again c =
+    let at-loop = c .before .before .before in
+    let a = at-loop .before .before .args in
+    let here = at-loop .loop .inv .1 in
+    let p = at-loop .loop .p in
+    let agreed = sym (c .before .agree .ensures) in
+    let os = now (a .observations) in
+    let σ = now (a .table) in (
+      omega arith,
+      ⊎-elim
+          (λ w.
+          w .4 ∙ w .3 .ensures ∙ ap₂ min here (w .2 .ensures)
+          ∙ apart-differ (a .events) os σ (a .s) (a .r) p (agreed ∙ not-true _ (w .0 .taken)))
+          (λ w. w .1 ∙ here ∙ apart-agree (a .events) os σ (a .s) (a .r) p (agreed ∙ not-false _ (w .0 .left)))
+          (c .if1 .came),
+    )
+
+returns : tie.Need-returns Inv-loop μ-loop
+returns c =
+    let all : c .before .loop .p ≡ c .before .before .before .args .signals = omega arith in
+    rw (← all) (c .before .loop .inv .1)
+
+pub apart-spec : {M : Type 1} → statement M
+apart-spec =
+    tie.close
+    (tie.spec
+    Inv-loop
+    μ-loop
+    loop-holds
+    agree-requires
+    mul-observation
+    element-copy-out-observation
+    known-after-requires
+    sooner-requires
+    add-p
+    loop-less
+    loop-again
+    returns)

@@ -1,0 +1,98 @@
+-- `check` meets its contract: the three searches are tried in the definition's order, and the first that finds a breach decides.
+-- Assumes nothing.
+use mathlib.Core.Path.{_≡_, sym, _∙_}
+use mathlib.Core.Option.{none}
+use borrow.Author.Needs.{needs}
+use denote.Ref.{now}
+use Rattle.checker.specs.Verdict.{firstLate, firstBroken, firstUnheard, verdict}
+use Rattle.checker.proofs.Seeking.{some-of-found, none-of-found}
+use Rattle.checker.proofs.check.Statement.{statement}
+use Rattle.checker.proofs.check.Tie as tie
+
+-- nothing was found on the way here
+no-late : (c : tie.After-enum-told)
+    → let a = c .before .before .before .before .args in firstLate (a .network) (now (a .table)) ≡ none
+no-late c =
+    let a = c .before .before .before .before .args in
+    none-of-found (firstLate (a .network) (now (a .table))) (sym (c .before .before .first-late .ensures) ∙ c .enum-told .given .1)
+
+no-broken : (c : tie.After-enum-told2)
+    → let a = c .before .before .before .before .before .before .before .args in firstBroken (a .network) (now (a .table)) ≡ none
+no-broken c =
+    let a = c .before .before .before .before .before .before .before .args in
+    none-of-found (firstBroken (a .network) (now (a .table))) (sym (c .before .before .first-broken .ensures) ∙ c .enum-told2 .given .1)
+
+first-late-requires : tie.Need-first-late-requires
+first-late-requires c κs = search needs
+
+enum-known-late : tie.Need-enum-known-late
+enum-known-late c = search needs
+
+returns : tie.Need-returns
+unfolding verdict
+returns c =
+    let a = c .before .before .before .before .before .args in
+    let found = sym (c .before .before .before .first-late .ensures) ∙ c .before .late .given .1 in
+    rw (some-of-found (firstLate (a .network) (now (a .table))) _ found)
+
+enum-told : tie.Need-enum-told
+enum-told c = search needs
+
+first-broken-requires : tie.Need-first-broken-requires
+first-broken-requires c κs = search needs
+
+enum-known-broken : tie.Need-enum-known-broken
+enum-known-broken c = search needs
+
+returns-2 : tie.Need-returns-2
+unfolding verdict
+returns-2 c =
+    let a = c .before .before .before .before .before .before .before .before .args in
+    let found = sym (c .before .before .before .first-broken .ensures) ∙ c .before .broken .given .1 in
+    rw (no-late (c .before .before .before .before), some-of-found (firstBroken (a .network) (now (a .table))) _ found)
+
+enum-told-2 : tie.Need-enum-told-2
+enum-told-2 c = search needs
+
+first-unheard-requires : tie.Need-first-unheard-requires
+first-unheard-requires c κs = search needs
+
+enum-known-unheard : tie.Need-enum-known-unheard
+enum-known-unheard c = search needs
+
+returns-3 : tie.Need-returns-3
+unfolding verdict
+returns-3 c =
+    let a = c .before .before .before .before .before .before .before .before .before .before .before .args in
+    let at = c .before .before .before .before in
+    let found = sym (c .before .before .before .first-unheard .ensures) ∙ c .before .unheard .given .1 in
+    rw (no-late (at .before .before .before), no-broken at, some-of-found (firstUnheard (a .network) (now (a .table))) _ found)
+
+enum-told-3 : tie.Need-enum-told-3
+enum-told-3 c = search needs
+
+returns-4 : tie.Need-returns-4
+unfolding verdict
+returns-4 c =
+    let a = c .before .before .before .before .before .before .before .before .before .before .args in
+    let at = c .before .before .before in
+    let nothing = sym (c .before .before .first-unheard .ensures) ∙ c .enum-told3 .given .1 in
+    rw (no-late (at .before .before .before), no-broken at, none-of-found (firstUnheard (a .network) (now (a .table))) nothing)
+
+pub check-spec : {M : Type 1} → statement M
+check-spec =
+    tie.close
+    (tie.spec
+    first-late-requires
+    enum-known-late
+    returns
+    enum-told
+    first-broken-requires
+    enum-known-broken
+    returns-2
+    enum-told-2
+    first-unheard-requires
+    enum-known-unheard
+    returns-3
+    enum-told-3
+    returns-4)

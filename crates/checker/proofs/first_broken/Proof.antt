@@ -1,0 +1,130 @@
+-- `first_broken` meets its contract: a constraint's test is the definition's, so the loops are its searches, by scenario and then place.
+-- The invariant of each loop: its search has come to its index, and nothing was found. The measures are what is left of each.
+-- Assumes nothing.
+use mathlib.Core.Path.{_≡_, refl, sym, _∙_, ap}
+use mathlib.Core.List.{List}
+use mathlib.Core.Option.{Option}
+use Prim.Native.Nat.{ℕ, _-_, _^_}
+use native.Mathlib.Omega.{arith}
+use borrow.Author.Needs.{needs}
+use borrow.Author.Tests.{not-true, not-false}
+use denote.Ref.{now}
+use Rattle.prelude.specs.Search.{unless}
+use Rattle.network.specs.Build.{constraint}
+use Rattle.network.specs.declared.Network.{Network}
+use Rattle.checker.specs.Verdict.{doesHold, brokenIn}
+use Rattle.checker.specs.Found.{foundOf}
+use Rattle.checker.specs.declared.Breach.{Breach}
+use Rattle.checker.specs.declared.Breach.the-variants.{Rule}
+use Rattle.checker.proofs.Plain.{keeps-is}
+use Rattle.checker.proofs.Reach.{in-reach}
+use Rattle.checker.proofs.Seeking.{Seeking, seeking-start, seeking-on, nothing-found, past-row, row-hit}
+use Rattle.checker.proofs.first_broken.Statement.{statement}
+use Rattle.checker.proofs.first_broken.Tie as tie
+
+-- the search at one constraint
+abbrev brokenAt : Network → List ℕ → ℕ → ℕ → Option Breach
+brokenAt Γ σ s c = unless (doesHold Γ σ s (constraint Γ c)) (Rule s c)
+
+abbrev Inv-loop : tie.InvT-loop
+Inv-loop σ Γ n m k scenarios found₀ s c₀ found c = Seeking (brokenAt Γ σ s) m c found
+
+abbrev μ-loop : tie.MeasureT-loop
+μ-loop σ Γ n m k scenarios found₀ s c₀ found c = m - c
+
+abbrev Inv-broken : tie.InvT-broken
+Inv-broken σ Γ n m k scenarios found₀ s₀ found s = Seeking (brokenIn Γ σ) (2 ^ k) s found
+
+abbrev μ-broken : tie.MeasureT-broken
+μ-broken σ Γ n m k scenarios found₀ s₀ found s = 2 ^ k - s
+
+-- the code's test of a constraint
+tested : (c : tie.After-keeps Inv-loop μ-loop Inv-broken μ-broken)
+    → let a = c .before .before .before .before .before .before .before .before .args in
+    let s = c .before .before .before .before .before .broken .s in
+    c .keeps .result ≡ doesHold (a .t1) (now (a .table)) s (constraint (a .t1) (c .before .before .before .loop .c))
+tested c =
+    let a = c .before .before .before .before .before .before .before .before .args in
+    let s = c .before .before .before .before .before .broken .s in
+    c .keeps .ensures ∙ keeps-is (a .t1) (now (a .table)) s (constraint (a .t1) (c .before .before .before .loop .c))
+
+scenario-count-requires : tie.Need-scenario-count-requires Inv-loop μ-loop Inv-broken μ-broken
+scenario-count-requires c κs = c .before .pre .0 .signals
+
+broken-holds : tie.Need-broken-holds Inv-loop μ-loop Inv-broken μ-broken
+broken-holds c = seeking-start _ _ refl
+
+loop-holds : tie.Need-loop-holds Inv-loop μ-loop Inv-broken μ-broken
+loop-holds c = seeking-start _ _ (c .before .broken .inv .nothing)
+
+mul-constraint : tie.Need-mul-constraint Inv-loop μ-loop Inv-broken μ-broken
+mul-constraint c = omega (arith, c .before .before .before .before .before .before .pre .0 .rules)
+
+element-copy-out-constraint :
+    tie.Need-element-copy-out-constraint Inv-loop μ-loop Inv-broken μ-broken
+element-copy-out-constraint c =
+    let good = c .before .before .before .before .before .before .pre .0 in
+    omega (arith, good .rules, good .arrays .constraints)
+
+keeps-requires : tie.Need-keeps-requires Inv-loop μ-loop Inv-broken μ-broken
+keeps-requires c κs =
+    let in-loop = c .before in
+    let s = c .before .before .before .before .broken .s in
+    let start = c .before .before .before .before .before .before .before in
+    in-reach (start .args .t1) (now (start .args .table)) (start .pre) s (in-loop .before .loop .c) (omega arith)
+    (in-loop .loop-test .taken)
+
+add-c : tie.Need-add-c Inv-loop μ-loop Inv-broken μ-broken
+add-c c = search needs
+
+loop-less : tie.Need-loop-less Inv-loop μ-loop Inv-broken μ-broken
+loop-less c = search needs
+
+loop-again : tie.Need-loop-again Inv-loop μ-loop Inv-broken μ-broken
+loop-again c =
+    let in-loop = c .before .before .before in
+    let kept = sym (tested (c .before)) ∙ not-false _ (c .if1 .left) in
+    seeking-on (in-loop .before .loop .inv) (in-loop .loop-test .taken) (rw kept)
+
+add-s : tie.Need-add-s Inv-loop μ-loop Inv-broken μ-broken
+add-s c = search needs
+
+broken-less : tie.Need-broken-less Inv-loop μ-loop Inv-broken μ-broken
+broken-less c = search needs
+
+broken-again : tie.Need-broken-again Inv-loop μ-loop Inv-broken μ-broken
+broken-again c = past-row (c .before .before .before .broken .inv) (c .before .loop .inv) refl (omega arith) (c .loop-test .left)
+
+returns : tie.Need-returns Inv-loop μ-loop Inv-broken μ-broken
+returns c = nothing-found (c .before .broken .inv) (omega arith)
+
+returns-2 : tie.Need-returns-2 Inv-loop μ-loop Inv-broken μ-broken
+returns-2 c =
+    let in-loop = c .before .before .before in
+    let at-broken = in-loop .before .before .before in
+    let broken = sym (tested (c .before)) ∙ not-true _ (c .if1 .taken) in
+    let at = row-hit (at-broken .broken .inv) (in-loop .before .loop .inv) refl in
+    ap foundOf (sym (at _ (omega arith) (in-loop .loop-test .taken) (rw broken)))
+
+pub first-broken-spec : {M : Type 1} → statement M
+first-broken-spec =
+    tie.close
+    (tie.spec
+    Inv-loop
+    μ-loop
+    Inv-broken
+    μ-broken
+    scenario-count-requires
+    broken-holds
+    loop-holds
+    mul-constraint
+    element-copy-out-constraint
+    keeps-requires
+    add-c
+    loop-less
+    loop-again
+    add-s
+    broken-less
+    broken-again
+    returns
+    returns-2)

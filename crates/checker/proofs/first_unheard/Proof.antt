@@ -1,0 +1,178 @@
+-- `first_unheard` meets its contract: before s is told apart from r nothing is known on which they differ, so the two comparisons are
+-- the definition's test, and the loops are its searches, by s, then r, then event.
+-- The invariant of each loop: its search has come to its index, and nothing was found. The measures are what is left of each.
+-- Assumes nothing.
+use mathlib.Core.Path.{_∙_, refl, sym, ap}
+use mathlib.Core.Logic.{⊎-elim}
+use mathlib.Core.List.{List}
+use mathlib.Core.Option.{Option}
+use Prim.Native.Nat.{ℕ, _-_, _^_}
+use native.Mathlib.Omega.{arith}
+use borrow.Author.Needs.{needs}
+use borrow.Author.Tests.{not-true, not-false}
+use denote.Ref.{now}
+use Rattle.prelude.specs.Search.{firstBelow}
+use Rattle.checker.specs.Found.{foundOf}
+use Rattle.checker.specs.declared.Breach.{Breach}
+use Rattle.checker.specs.declared.Breach.the-variants.{Unheard}
+use Rattle.checker.proofs.Plain.{unheardAt, unheard-is, Compared, alike-told, alike-same, not-alike}
+use Rattle.checker.proofs.Reach.{scenario-lt, cell-in, observed}
+use Rattle.checker.proofs.Seeking.{Seeking, seeking-start, seeking-on, nothing-found, hit, past-row, row-hit}
+use Rattle.checker.proofs.first_unheard.Statement.{statement}
+use Rattle.checker.proofs.first_unheard.Tie as tie
+
+-- the search over the events of two scenarios
+abbrev unheardIn : ℕ → ℕ → List ℕ → List ℕ → ℕ → ℕ → Option Breach
+unheardIn n k os σ s r = firstBelow n (unheardAt n os σ s r k)
+
+abbrev Inv-loop2 : tie.InvT-loop2
+Inv-loop2 σ n k os scenarios found₀ s r told u₀ found u = Seeking (unheardAt n os σ s r k) n u found
+
+abbrev μ-loop2 : tie.MeasureT-loop2
+μ-loop2 σ n k os scenarios found₀ s r told u₀ found u = n - u
+
+abbrev Inv-loop : tie.InvT-loop
+Inv-loop σ n k os scenarios found₀ s r₀ found r = Seeking (unheardIn n k os σ s) (2 ^ k) r found
+
+abbrev μ-loop : tie.MeasureT-loop
+μ-loop σ n k os scenarios found₀ s r₀ found r = 2 ^ k - r
+
+abbrev Inv-unheard : tie.InvT-unheard
+Inv-unheard σ n k os scenarios found₀ s₀ found s = Seeking (λ t. firstBelow (2 ^ k) (unheardIn n k os σ t)) (2 ^ k) s found
+
+abbrev μ-unheard : tie.MeasureT-unheard
+μ-unheard σ n k os scenarios found₀ s₀ found s = 2 ^ k - s
+
+-- what the code compares of an event
+compared : (c : tie.After-time-of Inv-loop2 μ-loop2 Inv-loop μ-loop Inv-unheard μ-unheard)
+    → let a = c .before .before .before .before .before .before .before .before .before .before .before .before .args in
+    let s = c .before .before .before .before .before .before .before .before .unheard .s in
+    let r = c .before .before .before .before .before .before .loop .r in
+    Compared (a .network .events) (a .network .observations) (now (a .table)) s r (a .network .signals) (c .before .before .loop2 .u)
+    (c .before .before .before .apart .result) (c .time-of .result)
+compared c = record { told-is = c .before .before .before .apart .ensures; mine-is = c .time-of .ensures; small = omega arith }
+
+scenario-count-requires :
+    tie.Need-scenario-count-requires Inv-loop2 μ-loop2 Inv-loop μ-loop Inv-unheard μ-unheard
+scenario-count-requires c κs = c .before .before .pre .0 .signals
+
+unheard-holds : tie.Need-unheard-holds Inv-loop2 μ-loop2 Inv-loop μ-loop Inv-unheard μ-unheard
+unheard-holds c = seeking-start _ _ refl
+
+loop-holds : tie.Need-loop-holds Inv-loop2 μ-loop2 Inv-loop μ-loop Inv-unheard μ-unheard
+loop-holds c = seeking-start _ _ (c .before .unheard .inv .nothing)
+
+apart-requires : tie.Need-apart-requires Inv-loop2 μ-loop2 Inv-loop μ-loop Inv-unheard μ-unheard
+apart-requires c κs =
+    let start = c .before .before .before .before .before .before .before .before in
+    let Γ = start .args .network in
+    let σ = now (start .args .table) in
+    let s = c .before .before .before .before .unheard .s in
+    let r = c .before .before .loop .r in
+    (observed Γ σ (start .pre) s (omega arith), scenario-lt Γ σ (start .pre) r (omega arith))
+
+loop2-holds : tie.Need-loop2-holds Inv-loop2 μ-loop2 Inv-loop μ-loop Inv-unheard μ-unheard
+loop2-holds c = seeking-start _ _ (c .before .before .before .loop .inv .nothing)
+
+time-of-requires :
+    tie.Need-time-of-requires Inv-loop2 μ-loop2 Inv-loop μ-loop Inv-unheard μ-unheard
+time-of-requires c κs =
+    let start = c .before .before .before .before .before .before .before .before .before .before .before in
+    let s = c .before .before .before .before .before .before .before .unheard .s in
+    cell-in (start .args .network) (now (start .args .table)) (start .pre) s (c .before .loop2 .u) (omega arith) (c .loop2-test .taken)
+
+cast-if1 : tie.Need-cast-if1 Inv-loop2 μ-loop2 Inv-loop μ-loop Inv-unheard μ-unheard
+cast-if1 c = search needs
+
+time-of-requires-2 :
+    tie.Need-time-of-requires-2 Inv-loop2 μ-loop2 Inv-loop μ-loop Inv-unheard μ-unheard
+time-of-requires-2 c κs =
+    let in-loop = c .before .before in
+    let start = c .before .before .before .before .before .before .before .before .before .before .before .before .before in
+    let r = c .before .before .before .before .before .before .before .loop .r in
+    let u = in-loop .before .loop2 .u in
+    cell-in (start .args .network) (now (start .args .table)) (start .pre) r u (omega arith) (in-loop .loop2-test .taken)
+
+add-u : tie.Need-add-u Inv-loop2 μ-loop2 Inv-loop μ-loop Inv-unheard μ-unheard
+add-u c = search needs
+
+loop2-less : tie.Need-loop2-less Inv-loop2 μ-loop2 Inv-loop μ-loop Inv-unheard μ-unheard
+loop2-less c = search needs
+
+loop2-again : tie.Need-loop2-again Inv-loop2 μ-loop2 Inv-loop μ-loop Inv-unheard μ-unheard
+loop2-again c =
+    let here = compared (c .before) in
+    seeking-on (c .before .before .before .loop2 .inv) (c .before .before .loop2-test .taken)
+    (⊎-elim
+    (λ w. rw (alike-same here (w .1 .result) (w .1 .ensures) (not-false _ (w .2 .left))))
+    (λ w. rw (alike-told here (w .left)))
+    (c .if1 .came))
+
+add-r : tie.Need-add-r Inv-loop2 μ-loop2 Inv-loop μ-loop Inv-unheard μ-unheard
+add-r c = search needs
+
+loop-less : tie.Need-loop-less Inv-loop2 μ-loop2 Inv-loop μ-loop Inv-unheard μ-unheard
+loop-less c = search needs
+
+loop-again : tie.Need-loop-again Inv-loop2 μ-loop2 Inv-loop μ-loop Inv-unheard μ-unheard
+loop-again c =
+    let at-loop = c .before .before .before .before .before in
+    past-row (at-loop .loop .inv) (c .before .loop2 .inv) refl (omega arith) (c .loop2-test .left)
+
+add-s : tie.Need-add-s Inv-loop2 μ-loop2 Inv-loop μ-loop Inv-unheard μ-unheard
+add-s c = search needs
+
+unheard-less : tie.Need-unheard-less Inv-loop2 μ-loop2 Inv-loop μ-loop Inv-unheard μ-unheard
+unheard-less c = search needs
+
+unheard-again : tie.Need-unheard-again Inv-loop2 μ-loop2 Inv-loop μ-loop Inv-unheard μ-unheard
+unheard-again c = past-row (c .before .before .before .unheard .inv) (c .before .loop .inv) refl (omega arith) (omega arith)
+
+returns : tie.Need-returns Inv-loop2 μ-loop2 Inv-loop μ-loop Inv-unheard μ-unheard
+returns c =
+    let a = c .before .before .before .before .before .args in
+    nothing-found (c .before .unheard .inv) (omega arith) ∙ ap foundOf (unheard-is (a .network) (now (a .table)))
+
+returns-2 : tie.Need-returns-2 Inv-loop2 μ-loop2 Inv-loop μ-loop Inv-unheard μ-unheard
+returns-2 c =
+    let here = compared (c .before .before .before) in
+    let theirs = c .before .time-of2 in
+    let unheard = not-alike here (theirs .result) (theirs .ensures) (c .before .before .if1 .taken) (not-true _ (c .if2 .taken)) in
+    let in-loop2 = c .before .before .before .before in
+    let at-loop = in-loop2 .before .before .before .before .before in
+    let at-unheard = at-loop .before .before in
+    let breach = Unheard (at-unheard .unheard .s) (at-loop .loop .r) (in-loop2 .before .loop2 .u) in
+    let at = row-hit (at-loop .loop .inv) (in-loop2 .before .loop2 .inv) refl breach (omega arith) in
+    let found = hit (at-unheard .unheard .inv) breach (omega arith) (at (in-loop2 .loop2-test .taken) (rw unheard)) in
+    let a = at-unheard .before .before .before .before .args in
+    ap foundOf (sym found ∙ unheard-is (a .network) (now (a .table)))
+
+pub first-unheard-spec : {M : Type 1} → statement M
+first-unheard-spec =
+    tie.close
+    (tie.spec
+    Inv-loop2
+    μ-loop2
+    Inv-loop
+    μ-loop
+    Inv-unheard
+    μ-unheard
+    scenario-count-requires
+    unheard-holds
+    loop-holds
+    apart-requires
+    loop2-holds
+    time-of-requires
+    cast-if1
+    time-of-requires-2
+    add-u
+    loop2-less
+    loop2-again
+    add-r
+    loop-less
+    loop-again
+    add-s
+    unheard-less
+    unheard-again
+    returns
+    returns-2)

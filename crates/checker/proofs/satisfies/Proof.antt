@@ -1,0 +1,31 @@
+-- `satisfies` meets its contract: the masks say what the label asks of each proposition. Assumes nothing.
+use borrow.Author.Tests.{eq-eqb, ne-eqb}
+use borrow.Author.Needs.{needs}
+use Rattle.checker.proofs.Masks.{satisfies-bits}
+use Rattle.checker.proofs.satisfies.Statement.{statement}
+use Rattle.checker.proofs.satisfies.Tie as tie
+
+cast-positive : tie.Need-cast-positive
+cast-positive c = search needs
+
+cast-negative : tie.Need-cast-negative
+cast-negative c = search needs
+
+returns : tie.Need-returns
+returns c =
+    let start = c .before .before .before in
+    rw (
+      ← satisfies-bits (start .args .s) (start .args .label) (start .pre .0) (start .pre .1) (start .pre .2),
+      ne-eqb _ _ (c .if1 .taken),
+    )
+
+returns-2 : tie.Need-returns-2
+returns-2 c =
+    let start = c .before .before .before in
+    rw (
+      ← satisfies-bits (start .args .s) (start .args .label) (start .pre .0) (start .pre .1) (start .pre .2),
+      eq-eqb _ _ (c .if1 .left),
+    )
+
+pub satisfies-spec : {M : Type 1} → statement M
+satisfies-spec = tie.close (tie.spec cast-positive cast-negative returns returns-2)
