@@ -5,7 +5,6 @@ pub mod Nested
 pub mod Judged
 pub mod Examples
 -- Laws of the code's own parts: masks, signed differences, the tests over plain numbers, places in the table, labelled loops.
-pub mod Masks
 pub mod Differences
 pub mod Plain
 pub mod Reach

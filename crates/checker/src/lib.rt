@@ -1,7 +1,6 @@
 // The checker: which of document 01's three points a strategy breaks first.
 use network::Constraint;
 use network::Kind;
-use network::Label;
 use network::Network;
 ghost use mathlib.Core.Path.{_≡_};
 ghost use Prim.Native.Nat.{_+_, _*_, _^_, _≤_, _<_, min};
@@ -45,14 +44,6 @@ enum Found {
     At(Breach),
 }
 
-// How many scenarios so many propositions have.
-fn scenario_count(signals: usize) -> usize
-    requires { ⌜ signals ≤ L.signals ⌝ }
-    ensures { λ r. ⌜ r ≡ 2 ^ signals ⌝ }
-{
-    1 << signals
-}
-
 // The time of event u in scenario s.
 fn time_of(table: &[u16], events: usize, s: usize, u: usize) -> u16
     requires { ⌜ s * events + u < length (now table) ⌝ }
@@ -79,7 +70,7 @@ fn first_late(network: Network, table: &[u16]) -> Found
     let horizon = network.horizon;
     let events = network.events;
     let signals = network.signals;
-    let scenarios = scenario_count(signals);
+    let scenarios = network::scenario_count(signals);
     let mut found = Found::Nothing;
     let mut s = 0;
     'late: while s < scenarios {
@@ -97,19 +88,6 @@ fn first_late(network: Network, table: &[u16]) -> Found
         s += 1;
     }
     found
-}
-
-// Whether s satisfies the label: all of its true letters, and none of its false ones.
-fn satisfies(s: usize, label: Label) -> bool
-    requires { ⌜ (s < 16) × (label .positive < 16) × (label .negative < 16) ⌝ }
-    ensures { λ r. ⌜ r ≡ S.satisfies s label ⌝ }
-{
-    let positive = label.positive as usize;
-    let negative = label.negative as usize;
-    if s & positive != positive {
-        return false;
-    }
-    s & negative == 0
 }
 
 // Whether the time a of `from` and the time b of `to` keep the kind and its limit.
@@ -130,7 +108,7 @@ fn keeps(table: &[u16], events: usize, s: usize, constraint: Constraint) -> bool
     ensures { λ r. ⌜ r ≡ P.keeps events (now (table .entry)) s constraint ⌝ }
 {
     let label = constraint.label;
-    if !satisfies(s, label) {
+    if !network::satisfies(s, label) {
         return true;
     }
     let kind = constraint.kind;
@@ -147,7 +125,7 @@ fn first_broken(network: Network, table: &[u16]) -> Found
     let events = network.events;
     let rules = network.rules;
     let signals = network.signals;
-    let scenarios = scenario_count(signals);
+    let scenarios = network::scenario_count(signals);
     let mut found = Found::Nothing;
     let mut s = 0;
     'broken: while s < scenarios {
@@ -226,7 +204,7 @@ fn first_unheard(network: Network, table: &[u16]) -> Found
     let events = network.events;
     let signals = network.signals;
     let observations = network.observations;
-    let scenarios = scenario_count(signals);
+    let scenarios = network::scenario_count(signals);
     let mut found = Found::Nothing;
     let mut s = 0;
     'unheard: while s < scenarios {

@@ -144,14 +144,6 @@ fn push_line(
     push_times(page, next, table, s, events)
 }
 
-// How many scenarios there are.
-fn scenario_count(signals: usize) -> usize
-    requires { ⌜ signals ≤ L.signals ⌝ }
-    ensures { λ r. ⌜ r ≡ 2 ^ signals ⌝ }
-{
-    1usize << signals
-}
-
 // The lines of all scenarios.
 fn push_lines(page: &mut [u8], at: usize, table: &[u16], signals: usize, events: usize) -> usize
     requires { ⌜ (signals ≤ L.signals) × (events ≤ L.events) × (at + mostLines ≤ length (now page))
@@ -159,7 +151,7 @@ fn push_lines(page: &mut [u8], at: usize, table: &[u16], signals: usize, events:
     ensures { λ r. ⌜ Appended mostLines (now (page .entry)) at
         (joinFrom 0 (2 ^ signals) (lineOf signals events (now (table .entry)))) (now (page .exit)) r ⌝ }
 {
-    let count = scenario_count(signals);
+    let count = network::scenario_count(signals);
     let mut next = at;
     for s in 0..count {
         next = push_line(page, next, table, s, signals, events);

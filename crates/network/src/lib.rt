@@ -1,8 +1,9 @@
 // The conditional simple temporal network (CSTN) that a sheet describes, and its limits. Document 01's signals are its propositions,
 // their events its observation events, and the rules its constraints.
 ghost use mathlib.Core.Path.{_≡_};
-ghost use Prim.Native.Nat.{_<_};
+ghost use Prim.Native.Nat.{_*_, _^_, _≤_, _<_};
 ghost use Rattle.network.specs.Limits as L;
+ghost use Rattle.network.specs.Scenario as S;
 ghost use Rattle.network.specs.Build.{limits, empty, withEvent, withSignal, withRule};
 
 // What a rule says of the difference between its two times.
@@ -134,4 +135,33 @@ impl Network {
         self.rules = c + 1;
         self
     }
+}
+
+// Whether s satisfies the label: all of its true letters, and none of its false ones.
+pub fn satisfies(s: usize, label: Label) -> bool
+    requires { ⌜ (s < 16) × (label .positive < 16) × (label .negative < 16) ⌝ }
+    ensures { λ r. ⌜ r ≡ S.satisfies s label ⌝ }
+{
+    let positive = label.positive as usize;
+    let negative = label.negative as usize;
+    if s & positive != positive {
+        return false;
+    }
+    s & negative == 0
+}
+
+// How many scenarios so many propositions have.
+pub fn scenario_count(signals: usize) -> usize
+    requires { ⌜ signals ≤ L.signals ⌝ }
+    ensures { λ r. ⌜ r ≡ 2 ^ signals ⌝ }
+{
+    1 << signals
+}
+
+// How many cells the table of a network has.
+pub fn cell_count(events: usize, signals: usize) -> usize
+    requires { ⌜ (events ≤ L.events) × (signals ≤ L.signals) ⌝ }
+    ensures { λ r. ⌜ r ≡ events * 2 ^ signals ⌝ }
+{
+    events * scenario_count(signals)
 }

@@ -1,6 +1,6 @@
 -- `agree` meets its contract: the bit of s ^ r at p is 0 just where s and r give p the same truth. Assumes nothing.
 use borrow.Author.Needs.{needs}
-use Rattle.checker.proofs.Masks.{agree-bits}
+use Rattle.network.proofs.Masks.{agree-bits}
 use Rattle.checker.proofs.agree.Statement.{statement}
 use Rattle.checker.proofs.agree.Tie as tie
 

@@ -1,9 +1,9 @@
 -- `satisfies` meets its contract: the masks say what the label asks of each proposition. Assumes nothing.
 use borrow.Author.Tests.{eq-eqb, ne-eqb}
 use borrow.Author.Needs.{needs}
-use Rattle.checker.proofs.Masks.{satisfies-bits}
-use Rattle.checker.proofs.satisfies.Statement.{statement}
-use Rattle.checker.proofs.satisfies.Tie as tie
+use Rattle.network.proofs.Masks.{satisfies-bits}
+use Rattle.network.proofs.satisfies.Statement.{statement}
+use Rattle.network.proofs.satisfies.Tie as tie
 
 cast-positive : tie.Need-cast-positive
 cast-positive c = search needs

@@ -7,8 +7,11 @@ use lib.Bits.{bitAnd, bitXor}
 use lib.Dec.{eqb}
 use Rattle.prelude.specs.Bounded.{allBelow}
 use Rattle.prelude.proofs.Bounded.{true-of-allBelow}
 use Rattle.network.specs.Scenario.{truth, agree, satisfies}
+use Rattle.network.specs.Constraint.{covers}
 use Rattle.network.specs.declared.Label.{Label}
+use Rattle.network.specs.declared.Constraint.{Constraint}
+use Rattle.network.specs.declared.Network.{Network}
 
 beq-true : (a b : Bool) → Bool·beq a b ≡ true → a ≡ b
 beq-true true true e = refl
@@ -69,3 +72,8 @@ unfolding satisfies
 satisfies-bits s ℓ hs hp hn =
     rw (all-of s (ℓ .positive) hs hp, none-of s (ℓ .negative) hs hn)
     (allBelow-and (has s (ℓ .positive)) (lacks s (ℓ .negative)) 4)
+
+-- a constraint covers the scenarios that satisfy its label
+pub covers-satisfies : (Γ : Network) (c : Constraint) (s : ℕ) → covers Γ c s ≡ satisfies s (c .label)
+unfolding covers
+covers-satisfies Γ c s = refl

@@ -2,8 +2,8 @@
 use native.Mathlib.Omega.{arith}
 use borrow.Author.Needs.{needs}
 use lib.Pow.{pow-mono}
-use Rattle.checker.proofs.scenario_count.Statement.{statement}
-use Rattle.checker.proofs.scenario_count.Tie as tie
+use Rattle.network.proofs.scenario_count.Statement.{statement}
+use Rattle.network.proofs.scenario_count.Tie as tie
 
 shl-result : tie.Need-shl-result
 shl-result c = search needs
