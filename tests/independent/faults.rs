@@ -1,0 +1,350 @@
+//! Wrong programs, to see that the comparison notices them: those of document 01's last section, and some like them.
+//! Only in builds with `--cfg standalone`.
+
+use crate::library::own::{self, minutes_of, refused, refused_call, verdict, write};
+use crate::library::Library;
+use crate::model::{self, truth, Kind, Net, Refusal, Rule, Verdict};
+
+const fn solver(solve: fn(&[u8], &mut [u8]) -> u64) -> Library {
+    Library { solve, judge: own::judge }
+}
+
+const fn judge(judge: fn(&[u8], &[u8]) -> u64) -> Library {
+    Library { solve: own::solve, judge }
+}
+
+pub const FAULTS: [(&str, Library); 43] = [
+    ("13-at-once", solver(|sheet, table| with_solver(sheet, table, |_| None))),
+    ("refuses-all", Library { solve: |_, _| refused_call(13), judge: |_, _| refused_call(11) }),
+    ("minute-0-throughout", solver(|sheet, table| with_solver(sheet, table, |net| model::solve(net).map(|good| vec![0; good.len()])))),
+    ("success-untouched", solver(|sheet, table| own::solve(sheet, &mut table.to_vec()))),
+    ("case-0-copied", solver(|sheet, table| with_solver(sheet, table, case_0_copied))),
+    ("not-the-least", solver(|sheet, table| with_solver(sheet, table, one_later))),
+    ("same-minute-solver", solver(|sheet, table| with_solver(sheet, table, same_minute_solve))),
+    ("single-timetable", solver(|sheet, table| with_solver(sheet, table, single_timetable))),
+    ("max-ends-swapped", solver(|sheet, table| with_solver(sheet, table, |net| model::solve(&ends_swapped(net))))),
+    ("weights-reversed", solver(|sheet, table| with_solver(sheet, table, |net| model::solve(&weights_reversed(net))))),
+    ("horizon-excluded", solver(|sheet, table| with_solver(sheet, table, horizon_excluded))),
+    ("writes-behind", solver(writes_behind)),
+    ("writes-odd-byte", solver(writes_odd_byte)),
+    ("writes-before-13", solver(writes_before_13)),
+    ("writes-before-12", solver(writes_before_12)),
+    ("13-before-12", solver(|sheet, table| if solves_to_none(sheet) { refused_call(13) } else { own::solve(sheet, table) })),
+    ("high-byte-first", solver(high_byte_first)),
+    ("half-pair-counts", solver(half_pair_counts)),
+    ("passes-all", judge(|sheet, table| with_judge(sheet, table, |_, _| Verdict::Pass))),
+    ("case-0-only", judge(|sheet, table| with_judge(sheet, table, case_0_only))),
+    ("one-signal-judge", judge(|sheet, table| with_judge(sheet, table, |net, table| judge_with(net, table, ONE_SIGNAL)))),
+    ("minute-in-r", judge(|sheet, table| with_judge(sheet, table, |net, table| judge_with(net, table, MINUTE_IN_R)))),
+    ("same-minute-judge", judge(|sheet, table| with_judge(sheet, table, |net, table| judge_with(net, table, SAME_MINUTE)))),
+    ("event-before-case", judge(|sheet, table| with_judge(sheet, table, |net, table| judge_with(net, table, EVENT_FIRST)))),
+    ("only-later-cases", judge(|sheet, table| with_judge(sheet, table, |net, table| judge_with(net, table, LATER_CASES)))),
+    ("start-not-asked", judge(|sheet, table| with_judge(sheet, table, start_not_asked))),
+    ("horizon-is-late", judge(|sheet, table| with_judge(sheet, table, horizon_is_late))),
+    ("minutes-are-signed", judge(|sheet, table| with_judge(sheet, table, minutes_are_signed))),
+    ("rules-from-1", judge(|sheet, table| with_judge(sheet, table, rules_from_1))),
+    ("rule-before-case", judge(|sheet, table| with_judge(sheet, table, rule_before_case))),
+    ("longer-table-judged", judge(longer_table_judged)),
+    ("odd-byte-ignored", judge(|sheet, table| own::judge(sheet, &table[..table.len() & !1]))),
+    ("odd-before-sheet", judge(|sheet, table| if table.len() % 2 == 1 { refused_call(11) } else { own::judge(sheet, table) })),
+    ("invented-line", judge(|sheet, table| with_refusal(sheet, table, |refusal| refusal.line = 1))),
+    ("next-line", judge(|sheet, table| with_refusal(sheet, table, |refusal| refusal.line += 1))),
+    ("self-rule-refused", judge(self_rule_refused)),
+    ("wraps-at-2-64", judge(|sheet, table| own::judge(&replaced(sheet, b"18446744073709551621", b"5"), table))),
+    ("minus-0-accepted", judge(|sheet, table| own::judge(&replaced(sheet, b",-0", b",0"), table))),
+    ("cr-ignored", judge(|sheet, table| own::judge(&replaced(sheet, b"\r", b""), table))),
+    ("last-feed-missing", judge(|sheet, table| own::judge(&with_last_feed(sheet), table))),
+    ("empty-lines-skipped", judge(|sheet, table| own::judge(&replaced(sheet, b"\n\n", b"\n"), table))),
+    ("4097-bytes-accepted", judge(|sheet, table| own::judge(if sheet.len() == 4097 { &sheet[..4096] } else { sheet }, table))),
+    ("upper-case-names", judge(|sheet, table| own::judge(&sheet.to_ascii_lowercase(), table))),
+];
+
+// ---------------------------------------------------------------- Wrong solvers
+
+fn with_solver(sheet: &[u8], table: &mut [u8], solve: fn(&Net) -> Option<Vec<u16>>) -> u64 {
+    match model::read(sheet) {
+        Ok(net) if table.len() / 2 >= net.cells() => match solve(&net) {
+            None => refused_call(13),
+            Some(minutes) => write(&minutes, table),
+        },
+        _ => own::solve(sheet, table),
+    }
+}
+
+fn solves_to_none(sheet: &[u8]) -> bool {
+    model::read(sheet).is_ok_and(|net| model::solve(&net).is_none())
+}
+
+fn case_0_copied(net: &Net) -> Option<Vec<u16>> {
+    model::solve(net).map(|good| good[..net.events.len()].repeat(net.cases()))
+}
+
+/// A good table, but not the least: the last event a minute later wherever that is still good.
+fn one_later(net: &Net) -> Option<Vec<u16>> {
+    let good = model::solve(net)?;
+    let mut later = good.clone();
+    (0..net.cases()).for_each(|case| later[net.cell(case, net.events.len() - 1)] += 1);
+    Some(if model::judge(net, &later) == Verdict::Pass { later } else { good })
+}
+
+/// A solver by sweeps that uses a signal in the minute it is given. (One that looks only at cases that differ in one signal would
+/// be no fault: point 3 for those implies point 3 for all. A judge may not do so, since it must name the first breach.)
+fn same_minute_solve(net: &Net) -> Option<Vec<u16>> {
+    let mut minutes = vec![0i64; net.cells()];
+    loop {
+        let before = minutes.clone();
+        for s in 0..net.cases() {
+            net.rules.iter().filter(|rule| model::agrees(rule, s)).for_each(|rule| sweep_rule(net, &mut minutes, s, rule));
+            (0..net.cases()).filter(|&r| r != s).for_each(|r| sweep_case(net, &mut minutes, s, r));
+        }
+        let over = |cell: usize| minutes[cell] > if cell % net.events.len() == 0 { 0 } else { net.horizon };
+        if (0..net.cells()).any(over) {
+            return None;
+        }
+        if minutes == before {
+            return Some(minutes.iter().map(|&minute| minute as u16).collect());
+        }
+    }
+}
+
+fn sweep_rule(net: &Net, minutes: &mut [i64], case: usize, rule: &Rule) {
+    let (from, to) = (net.cell(case, rule.from), net.cell(case, rule.to));
+    if rule.kind != Kind::Min {
+        minutes[from] = minutes[from].max(minutes[to] - rule.limit);
+    }
+    if rule.kind != Kind::Max {
+        minutes[to] = minutes[to].max(minutes[from] + rule.limit);
+    }
+}
+
+fn sweep_case(net: &Net, minutes: &mut [i64], s: usize, r: usize) {
+    for u in 0..net.events.len() {
+        let given = |signal: usize| minutes[net.cell(s, net.signals[signal].event)];
+        let differing = (0..net.signals.len()).filter(|&signal| truth(s, signal) != truth(r, signal));
+        let earliest = differing.map(given).min().unwrap();
+        let bound = minutes[net.cell(r, u)].min(earliest);
+        minutes[net.cell(s, u)] = minutes[net.cell(s, u)].max(bound);
+    }
+}
+
+fn single_timetable(net: &Net) -> Option<Vec<u16>> {
+    let mut strict = net.clone();
+    strict.rules.iter_mut().for_each(|rule| rule.label.clear());
+    model::solve(&strict).and_then(|_| model::solve(net))
+}
+
+fn ends_swapped(net: &Net) -> Net {
+    let mut swapped = net.clone();
+    for rule in swapped.rules.iter_mut().filter(|rule| rule.kind == Kind::Max && rule.limit < 0) {
+        (rule.from, rule.to) = (rule.to, rule.from);
+    }
+    swapped
+}
+
+fn weights_reversed(net: &Net) -> Net {
+    let mut reversed = net.clone();
+    reversed.signals.reverse();
+    let last = net.signals.len().saturating_sub(1);
+    reversed.rules.iter_mut().flat_map(|rule| rule.label.iter_mut()).for_each(|letter| letter.0 = last - letter.0);
+    reversed
+}
+
+fn horizon_excluded(net: &Net) -> Option<Vec<u16>> {
+    model::solve(net).filter(|good| net.horizon == 0 || good.iter().all(|&minute| i64::from(minute) < net.horizon))
+}
+
+fn writes_behind(sheet: &[u8], table: &mut [u8]) -> u64 {
+    let answer = own::solve(sheet, table);
+    if answer & 0xff == 0 {
+        let written = 2 * (answer >> 24 & 0xffff) as usize;
+        table[written..].fill(0);
+    }
+    answer
+}
+
+fn writes_odd_byte(sheet: &[u8], table: &mut [u8]) -> u64 {
+    let answer = own::solve(sheet, table);
+    if answer & 0xff == 0 && table.len() % 2 == 1 {
+        *table.last_mut().unwrap() = 0;
+    }
+    answer
+}
+
+fn writes_before_13(sheet: &[u8], table: &mut [u8]) -> u64 {
+    let answer = own::solve(sheet, table);
+    if answer == 13 {
+        let cells = model::read(sheet).unwrap().cells();
+        table[..2 * cells].fill(0);
+    }
+    answer
+}
+
+fn writes_before_12(sheet: &[u8], table: &mut [u8]) -> u64 {
+    let answer = own::solve(sheet, table);
+    if answer == 12 {
+        table.fill(0);
+    }
+    answer
+}
+
+fn high_byte_first(sheet: &[u8], table: &mut [u8]) -> u64 {
+    let answer = own::solve(sheet, table);
+    let written = 2 * (answer >> 24 & 0xffff) as usize;
+    table[..written].chunks_exact_mut(2).for_each(|pair| pair.swap(0, 1));
+    answer
+}
+
+/// An odd length is rounded up: the last minute loses its high byte.
+fn half_pair_counts(sheet: &[u8], table: &mut [u8]) -> u64 {
+    let mut longer = [table, &[0][..]].concat();
+    let answer = own::solve(sheet, &mut longer);
+    let length = table.len();
+    table.copy_from_slice(&longer[..length]);
+    answer
+}
+
+// ---------------------------------------------------------------- Wrong judges
+
+fn with_judge(sheet: &[u8], table: &[u8], judge: fn(&Net, &[u16]) -> Verdict) -> u64 {
+    match model::read(sheet) {
+        Ok(net) if table.len() == 2 * net.cells() => verdict(judge(&net, &minutes_of(table))),
+        _ => own::judge(sheet, table),
+    }
+}
+
+fn case_0_only(net: &Net, table: &[u16]) -> Verdict {
+    match model::judge(net, table) {
+        found @ (Verdict::Late { case: 0, .. } | Verdict::Rule { case: 0, .. } | Verdict::Unheard { s: 0, .. }) => found,
+        _ => Verdict::Pass,
+    }
+}
+
+#[derive(Clone, Copy)]
+struct Wrong {
+    one_signal: bool,
+    minute_in_r: bool,
+    same_minute: bool,
+    event_first: bool,
+    later_cases: bool,
+}
+
+const RIGHT: Wrong = Wrong { one_signal: false, minute_in_r: false, same_minute: false, event_first: false, later_cases: false };
+const ONE_SIGNAL: Wrong = Wrong { one_signal: true, ..RIGHT };
+const MINUTE_IN_R: Wrong = Wrong { minute_in_r: true, ..RIGHT };
+const SAME_MINUTE: Wrong = Wrong { same_minute: true, ..RIGHT };
+const EVENT_FIRST: Wrong = Wrong { event_first: true, ..RIGHT };
+const LATER_CASES: Wrong = Wrong { later_cases: true, ..RIGHT };
+
+/// Points 1 and 2 as they should be, point 3 with something wrong.
+fn judge_with(net: &Net, table: &[u16], wrong: Wrong) -> Verdict {
+    if let found @ (Verdict::Late { .. } | Verdict::Rule { .. }) = model::judge(net, table) {
+        return found;
+    }
+    let (cases, events) = (net.cases(), net.events.len());
+    for place in 0..cases * cases * events {
+        let (s, r, u) = match wrong.event_first {
+            true => (place / events / cases, place % cases, place / cases % events),
+            false => (place / events / cases, place / events % cases, place % events),
+        };
+        let skipped = wrong.one_signal && (s ^ r).count_ones() != 1 || wrong.later_cases && r < s;
+        if !skipped && breach_with(net, table, s, r, u, wrong) {
+            return Verdict::Unheard { s, r, u };
+        }
+    }
+    Verdict::Pass
+}
+
+fn breach_with(net: &Net, table: &[u16], s: usize, r: usize, u: usize, wrong: Wrong) -> bool {
+    let minute = table[net.cell(s, u)];
+    let heard = |signal: usize| {
+        let given = table[net.cell(if wrong.minute_in_r { r } else { s }, net.signals[signal].event)];
+        truth(s, signal) != truth(r, signal) && (given < minute || wrong.same_minute && given == minute)
+    };
+    !(0..net.signals.len()).any(heard) && minute != table[net.cell(r, u)]
+}
+
+fn start_not_asked(net: &Net, table: &[u16]) -> Verdict {
+    let over = |cell: &usize| i64::from(table[*cell]) > net.horizon;
+    match model::judge(net, table) {
+        Verdict::Late { .. } => match (0..net.cells()).find(over) {
+            Some(cell) => Verdict::Late { case: cell / net.events.len(), event: cell % net.events.len() },
+            None => Verdict::Pass,
+        },
+        found => found,
+    }
+}
+
+fn horizon_is_late(net: &Net, table: &[u16]) -> Verdict {
+    let mut shorter = net.clone();
+    shorter.horizon = (net.horizon - 1).max(0);
+    model::judge(&shorter, table)
+}
+
+fn minutes_are_signed(net: &Net, table: &[u16]) -> Verdict {
+    if table.contains(&65_535) { Verdict::Pass } else { model::judge(net, table) }
+}
+
+fn rules_from_1(net: &Net, table: &[u16]) -> Verdict {
+    match model::judge(net, table) {
+        Verdict::Rule { case, rule } => Verdict::Rule { case, rule: rule + 1 },
+        found => found,
+    }
+}
+
+fn rule_before_case(net: &Net, table: &[u16]) -> Verdict {
+    let Verdict::Rule { .. } = model::judge(net, table) else { return model::judge(net, table) };
+    let broken = |case: usize, rule: &Rule| {
+        model::agrees(rule, case) && !model::holds(rule, table[net.cell(case, rule.from)], table[net.cell(case, rule.to)])
+    };
+    let pairs = (0..net.rules.len()).flat_map(|rule| (0..net.cases()).map(move |case| (case, rule)));
+    let (case, rule) = pairs.into_iter().find(|&(case, rule)| broken(case, &net.rules[rule])).unwrap();
+    Verdict::Rule { case, rule }
+}
+
+fn longer_table_judged(sheet: &[u8], table: &[u8]) -> u64 {
+    match model::read(sheet) {
+        Ok(net) if table.len() > 2 * net.cells() => own::judge(sheet, &table[..2 * net.cells()]),
+        _ => own::judge(sheet, table),
+    }
+}
+
+// ---------------------------------------------------------------- Wrong readers
+
+fn with_refusal(sheet: &[u8], table: &[u8], change: fn(&mut Refusal)) -> u64 {
+    match model::read(sheet) {
+        Err(mut refusal) if refusal.line > 0 => {
+            change(&mut refusal);
+            refused(refusal)
+        }
+        _ => own::judge(sheet, table),
+    }
+}
+
+fn self_rule_refused(sheet: &[u8], table: &[u8]) -> u64 {
+    match model::read(sheet) {
+        Ok(net) if net.rules.iter().any(|rule| rule.from == rule.to) => refused_call(6),
+        _ => own::judge(sheet, table),
+    }
+}
+
+fn with_last_feed(sheet: &[u8]) -> Vec<u8> {
+    match sheet.last() {
+        Some(b'\n') | None => sheet.to_vec(),
+        _ => [sheet, b"\n"].concat(),
+    }
+}
+
+fn replaced(text: &[u8], old: &[u8], new: &[u8]) -> Vec<u8> {
+    let mut result = vec![];
+    let mut rest = text;
+    while !rest.is_empty() {
+        if rest.starts_with(old) {
+            result.extend_from_slice(new);
+            rest = &rest[old.len()..];
+        } else {
+            result.push(rest[0]);
+            rest = &rest[1..];
+        }
+    }
+    result
+}

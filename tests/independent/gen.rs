@@ -1,0 +1,721 @@
+//! Sheets and tables to try, made from a seed and nothing else.
+//!
+//! `sheet` makes valid and damaged sheets of all sizes, `tiny_sheet` those that the search of `model.rs` can finish, and `table`
+//! the bytes of a table for a sheet that was accepted.
+
+use crate::model::{self, Net, Verdict};
+
+// ---------------------------------------------------------------- Chance
+
+/// A small generator (splitmix64): the same seed gives the same numbers on every machine.
+pub struct Rng(u64);
+
+impl Rng {
+    pub fn new(seed: u64) -> Self {
+        Rng(seed)
+    }
+
+    pub fn next(&mut self) -> u64 {
+        self.0 = self.0.wrapping_add(0x9e37_79b9_7f4a_7c15);
+        let mut z = self.0;
+        z = (z ^ (z >> 30)).wrapping_mul(0xbf58_476d_1ce4_e5b9);
+        z = (z ^ (z >> 27)).wrapping_mul(0x94d0_49bb_1331_11eb);
+        z ^ (z >> 31)
+    }
+
+    /// A number below `end`, which is not 0.
+    pub fn below(&mut self, end: usize) -> usize {
+        (self.next() % end as u64) as usize
+    }
+
+    /// A number from `least` to `most`, both possible.
+    pub fn between(&mut self, least: i64, most: i64) -> i64 {
+        least + (self.next() % (most - least + 1) as u64) as i64
+    }
+
+    pub fn chance(&mut self, percent: usize) -> bool {
+        self.below(100) < percent
+    }
+
+    pub fn pick<T: Copy>(&mut self, from: &[T]) -> T {
+        from[self.below(from.len())]
+    }
+
+    /// `count` different numbers below `end`, in any order.
+    fn different(&mut self, count: usize, end: usize) -> Vec<usize> {
+        let mut all: Vec<usize> = (0..end).collect();
+        for place in 0..count {
+            let other = place + self.below(end - place);
+            all.swap(place, other);
+        }
+        all.truncate(count);
+        all
+    }
+}
+
+// ---------------------------------------------------------------- Valid sheets
+
+struct DraftRule {
+    kind: &'static str,
+    from: usize,
+    to: usize,
+    limit: i64,
+    label: Vec<(usize, bool)>,
+}
+
+struct Draft {
+    horizon: i64,
+    events: Vec<String>,
+    signals: Vec<(u8, usize)>,
+    rules: Vec<DraftRule>,
+}
+
+/// What a line is for.
+#[derive(Clone, Copy, PartialEq)]
+enum Place {
+    Section,
+    Name,
+    Signal,
+    Rule,
+}
+
+/// A sheet cut into lines and fields, so that it can be damaged with aim.
+#[derive(Clone)]
+struct Paper {
+    lines: Vec<(Place, Vec<Vec<u8>>)>,
+}
+
+impl Paper {
+    fn bytes(&self) -> Vec<u8> {
+        self.lines.iter().flat_map(|(_, fields)| [fields.join(&b","[..]), b"\n".to_vec()].concat()).collect()
+    }
+
+    fn put(&mut self, place: Place, fields: &[&str]) {
+        self.lines.push((place, fields.iter().map(|field| field.as_bytes().to_vec()).collect()));
+    }
+
+    /// The numbers of the lines that are for this.
+    fn of(&self, place: Place) -> Vec<usize> {
+        (0..self.lines.len()).filter(|&line| self.lines[line].0 == place).collect()
+    }
+}
+
+impl Draft {
+    fn paper(&self) -> Paper {
+        let mut paper = Paper { lines: vec![] };
+        paper.put(Place::Section, &["horizon", &self.horizon.to_string()]);
+        paper.put(Place::Section, &["events", &self.events.len().to_string()]);
+        for name in &self.events {
+            paper.put(Place::Name, &[name]);
+        }
+        paper.put(Place::Section, &["signals", &self.signals.len().to_string()]);
+        for &(letter, event) in &self.signals {
+            paper.put(Place::Signal, &[&char::from(letter).to_string(), &self.events[event]]);
+        }
+        paper.put(Place::Section, &["rules", &self.rules.len().to_string()]);
+        for rule in &self.rules {
+            let (from, to) = (&self.events[rule.from], &self.events[rule.to]);
+            paper.put(Place::Rule, &[rule.kind, from, to, &rule.limit.to_string(), &self.label_text(&rule.label)]);
+        }
+        paper
+    }
+
+    fn label_text(&self, label: &[(usize, bool)]) -> String {
+        if label.is_empty() {
+            return "-".to_string();
+        }
+        let one = |&(signal, truth): &(usize, bool)| {
+            format!("{}{}", if truth { "" } else { "!" }, char::from(self.signals[signal].0))
+        };
+        label.iter().map(one).collect()
+    }
+
+    fn solved(&self) -> Option<Vec<u16>> {
+        model::solve(&model::read(&self.paper().bytes()).expect("a drafted sheet is valid"))
+    }
+}
+
+/// How many events, signals and rules.
+struct Size {
+    events: usize,
+    signals: usize,
+    rules: usize,
+}
+
+fn size(rng: &mut Rng) -> Size {
+    let (events, signals, rules) = match rng.below(20) {
+        0..=3 => (rng.between(1, 3), rng.between(0, 2), rng.between(0, 4)),
+        4..=10 => (rng.between(2, 6), rng.between(0, 3), rng.between(0, 12)),
+        11..=15 => (rng.between(3, 6), rng.between(2, 4), rng.between(0, 5)),
+        16..=18 => (rng.between(1, 16), rng.between(0, 4), rng.between(0, 64)),
+        _ => (16, 4, 64),
+    };
+    Size { events: events as usize, signals: signals.min(events) as usize, rules: rules as usize }
+}
+
+fn horizon(rng: &mut Rng) -> i64 {
+    match rng.below(8) {
+        0 => rng.between(0, 3),
+        1..=2 => rng.between(4, 20),
+        3..=5 => 60,
+        6 => 10_080,
+        _ => rng.between(0, 10_080),
+    }
+}
+
+/// Names that a careless reader might mistake for something else.
+const TRAPS: [&str; 16] = [
+    "horizon", "events", "signals", "rules", "max", "min", "fix", "p", "q", "a", "aa", "a0", "a00", "start", "zzzzzzzz", "z9999999",
+];
+
+fn name(rng: &mut Rng, length: usize) -> String {
+    let letter = |rng: &mut Rng, set: &[u8]| char::from(rng.pick(set));
+    let mut name = letter(rng, b"abcdefghijklmnopqrstuvwxyz").to_string();
+    while name.len() < length {
+        name.push(letter(rng, b"abcxyz0123456789"));
+    }
+    name
+}
+
+fn names(rng: &mut Rng, count: usize) -> Vec<String> {
+    let mut names: Vec<String> = vec![];
+    while names.len() < count {
+        let length = rng.between(1, 8) as usize;
+        let new = if rng.chance(30) { rng.pick(&TRAPS).to_string() } else { name(rng, length) };
+        if !names.contains(&new) {
+            names.push(new);
+        }
+    }
+    names
+}
+
+fn label(rng: &mut Rng, signals: usize) -> Vec<(usize, bool)> {
+    if signals == 0 || rng.chance(25) {
+        return vec![];
+    }
+    let letters = if rng.chance(60) { 1 } else { rng.between(1, signals as i64) as usize };
+    rng.different(letters, signals).into_iter().map(|signal| (signal, rng.chance(50))).collect()
+}
+
+/// A draft without rules.
+fn bare(rng: &mut Rng, size: &Size, horizon: i64) -> Draft {
+    let letters = rng.different(size.signals, 26);
+    let givers = rng.different(size.signals, size.events);
+    let signals = letters.into_iter().zip(givers).map(|(letter, event)| (b'a' + letter as u8, event)).collect();
+    Draft { horizon, events: names(rng, size.events), signals, rules: vec![] }
+}
+
+/// A draft of the given size. The first rules push events to later minutes; the others are laid close to the table that the
+/// first ones give, at times a little too tight, so that about half of the sheets have a table.
+fn draft(rng: &mut Rng, size: Size, horizon: i64) -> Draft {
+    let mut draft = bare(rng, &size, horizon);
+    let pushing = rng.below(size.rules.min(24) + 1);
+    let branching = size.signals > 0 && rng.chance(60);
+    while draft.rules.len() < pushing {
+        let rule = if branching && rng.chance(60) { branching_rule(rng, &draft) } else { pushing_rule(rng, &draft) };
+        draft.rules.push(rule);
+    }
+    let solved = draft.solved();
+    let mut tight = if rng.chance(90) { rng.between(1, 4) as usize } else { 0 };
+    while draft.rules.len() < size.rules {
+        let rule = match &solved {
+            Some(table) if rng.chance(90) => close_rule(rng, &draft, table, &mut tight),
+            _ => any_rule(rng, &draft),
+        };
+        draft.rules.push(rule);
+    }
+    shuffle_and_repeat(rng, &mut draft.rules);
+    draft
+}
+
+/// A rule that asks for a later minute of an event further down the sheet.
+fn pushing_rule(rng: &mut Rng, draft: &Draft) -> DraftRule {
+    let events = draft.events.len();
+    let (one, two) = (rng.below(events), rng.below(events));
+    let (first, then) = if rng.chance(97) { (one.min(two), one.max(two)) } else { (one, two) };
+    let step = (3 * draft.horizon / (events as i64 + 2)).max(1);
+    let wait = if first == then { -rng.between(0, 3) } else { rng.between(0, step.min(draft.horizon)) };
+    let label = label(rng, draft.signals.len());
+    if rng.chance(60) {
+        DraftRule { kind: "min", from: first, to: then, limit: wait, label }
+    } else {
+        DraftRule { kind: "max", from: then, to: first, limit: -wait, label }
+    }
+}
+
+/// A rule that asks for a later minute of some event, counted from a signal and only where it has one of its truths.
+fn branching_rule(rng: &mut Rng, draft: &Draft) -> DraftRule {
+    let signal = rng.below(draft.signals.len());
+    let from = if rng.chance(70) { draft.signals[signal].1 } else { 0 };
+    let to = if rng.chance(90) { draft.events.len() - 1 - rng.below(draft.events.len().div_ceil(2)) } else { from };
+    let wait = if from == to { 0 } else { rng.between(1, (draft.horizon / 3).max(3)) };
+    DraftRule { kind: "min", from, to, limit: wait, label: vec![(signal, rng.chance(50))] }
+}
+
+/// A rule with a limit near to what the table has in the cases of its label; `tight` counts those that may ask for more.
+fn close_rule(rng: &mut Rng, draft: &Draft, table: &[u16], tight: &mut usize) -> DraftRule {
+    let events = draft.events.len();
+    let from = rng.below(events);
+    let to = if rng.chance(8) { from } else { rng.below(events) };
+    let label = label(rng, draft.signals.len());
+    let (least, most) = differences(draft, table, from, to, &label);
+    let mut slack = rng.pick(&[0, 0, 0, 1, 2, 30]);
+    if *tight > 0 && rng.chance(50) {
+        *tight -= 1;
+        slack = -rng.between(1, 3);
+    }
+    let (kind, limit) = match rng.below(5) {
+        0..=1 => ("max", most + slack),
+        2..=3 => ("min", least - slack),
+        _ if least == most => ("fix", if slack < 0 { least - slack } else { least }),
+        _ => ("max", most + slack),
+    };
+    DraftRule { kind, from, to, limit: limit.clamp(-10_080, 10_080), label }
+}
+
+/// The least and the greatest minute(to) - minute(from) over the cases that agree with the label.
+fn differences(draft: &Draft, table: &[u16], from: usize, to: usize, label: &[(usize, bool)]) -> (i64, i64) {
+    let agrees = |case: &usize| label.iter().all(|&(signal, asked)| model::truth(*case, signal) == asked);
+    let row = |case: usize| &table[case * draft.events.len()..];
+    let difference = |case: usize| i64::from(row(case)[to]) - i64::from(row(case)[from]);
+    let all: Vec<i64> = (0..1 << draft.signals.len()).filter(agrees).map(difference).collect();
+    (*all.iter().min().unwrap(), *all.iter().max().unwrap())
+}
+
+/// A rule from anywhere to anywhere, with limits at both ends and around 0 among them.
+fn any_rule(rng: &mut Rng, draft: &Draft) -> DraftRule {
+    let events = draft.events.len();
+    let limit = match rng.below(4) {
+        0 => rng.between(-3, 3),
+        1 => rng.pick(&[10_080, -10_080, 10_079, -10_079]),
+        _ => rng.between(-draft.horizon, draft.horizon),
+    };
+    let (kind, from, to) = (rng.pick(&["max", "min", "fix"]), rng.below(events), rng.below(events));
+    DraftRule { kind, from, to, limit, label: label(rng, draft.signals.len()) }
+}
+
+/// Moves rules about, and writes one over another at times: "Rules may repeat."
+fn shuffle_and_repeat(rng: &mut Rng, rules: &mut [DraftRule]) {
+    for place in 0..rules.len() {
+        let other = rng.below(rules.len());
+        rules.swap(place, other);
+    }
+    if rules.len() >= 2 && rng.chance(15) {
+        let (old, new) = (rng.below(rules.len()), rng.below(rules.len()));
+        let DraftRule { kind, from, to, limit, .. } = rules[old];
+        rules[new] = DraftRule { kind, from, to, limit, label: rules[old].label.clone() };
+    }
+}
+
+fn valid(rng: &mut Rng) -> Paper {
+    let (size, horizon) = (size(rng), horizon(rng));
+    draft(rng, size, horizon).paper()
+}
+
+/// A valid or a damaged sheet.
+pub fn sheet(rng: &mut Rng) -> Vec<u8> {
+    let paper = valid(rng);
+    if rng.chance(55) { paper.bytes() } else { damaged(rng, paper) }
+}
+
+/// A valid sheet so small that all its tables can be tried.
+pub fn tiny_sheet(rng: &mut Rng) -> Vec<u8> {
+    loop {
+        let events = rng.pick(&[1, 2, 3, 3, 3, 4]);
+        let signals = rng.pick(&[0, 1, 1, 1, 2, 2, 2, 3]).min(events);
+        let size = Size { events, signals, rules: rng.below(9) };
+        let horizon = rng.between(0, 7);
+        let sheet = draft(rng, size, horizon).paper().bytes();
+        if model::search_size(&model::read(&sheet).unwrap()) <= 2_000_000.0 {
+            return sheet;
+        }
+    }
+}
+
+// ---------------------------------------------------------------- Damaged sheets
+
+/// A sheet with one or two things done to it; most of them are refused.
+fn damaged(rng: &mut Rng, mut paper: Paper) -> Vec<u8> {
+    if rng.chance(65) {
+        damage_fields(rng, &mut paper);
+    }
+    if rng.chance(25) {
+        damage_fields(rng, &mut paper);
+    }
+    let mut bytes = paper.bytes();
+    if rng.chance(45) {
+        damage_bytes(rng, &mut bytes);
+    }
+    bytes
+}
+
+fn damage_fields(rng: &mut Rng, paper: &mut Paper) {
+    match rng.below(16) {
+        0..=1 => put_number(rng, paper),
+        2 => shift_count(rng, paper),
+        3..=4 => put_name(rng, paper),
+        5..=8 => put_label(rng, paper),
+        9 => put_letter(rng, paper),
+        10 => put_word(rng, paper),
+        11..=12 => define_twice(rng, paper),
+        13 => move_lines(rng, paper),
+        14 => if rng.chance(50) { change_field_count(rng, paper) } else { empty_field(rng, paper) },
+        _ => damage_one_rule_twice(rng, paper),
+    }
+}
+
+/// Writes a field of one of the lines for `place`, if there are any.
+fn put(rng: &mut Rng, paper: &mut Paper, place: Place, field: usize, text: Vec<u8>) {
+    let lines = paper.of(place);
+    if !lines.is_empty() {
+        let line = rng.pick(&lines);
+        if let Some(old) = paper.lines[line].1.get_mut(field) {
+            *old = text;
+        }
+    }
+}
+
+fn odd_number(rng: &mut Rng) -> Vec<u8> {
+    const NUMBERS: [&str; 32] = [
+        "010", "-0", "+5", "-", "", "18446744073709551621", "18446744073709551616", "4294967301", "65541", "10081", "-10081", "10080",
+        "-10080", "00", "0", "-1", "--1", "1-", "1.0", " 1", "1 ", "1e3", "0x1", "5\r", "-010", "16", "17", "4", "5", "64", "65",
+        "99999",
+    ];
+    match rng.below(10) {
+        0 => [if rng.chance(50) { "-" } else { "" }, &"7".repeat(rng.between(3_000, 4_000) as usize)].concat().into_bytes(),
+        1 => (18_446_744_073_709_551_616u128 + rng.below(10_081) as u128).to_string().into_bytes(),
+        2 => (4_294_967_296u64 + rng.below(10_081) as u64).to_string().into_bytes(),
+        3 => format!("-{}", 18_446_744_073_709_551_616u128 - rng.below(10_081) as u128).into_bytes(),
+        4 => vec![b'1', rng.below(256) as u8],
+        _ => rng.pick(&NUMBERS).as_bytes().to_vec(),
+    }
+}
+
+fn put_number(rng: &mut Rng, paper: &mut Paper) {
+    let text = odd_number(rng);
+    if rng.chance(50) {
+        put(rng, paper, Place::Section, 1, text);
+    } else {
+        put(rng, paper, Place::Rule, 3, text);
+    }
+}
+
+/// A count that is one too high or too low for the lines behind it.
+fn shift_count(rng: &mut Rng, paper: &mut Paper) {
+    let place = rng.pick(&[Place::Name, Place::Signal, Place::Rule]);
+    let word: &[u8] = match place {
+        Place::Name => b"events",
+        Place::Signal => b"signals",
+        _ => b"rules",
+    };
+    let count = paper.of(place).len() as i64 + rng.pick(&[-1, 1]);
+    for (_, fields) in paper.lines.iter_mut().filter(|line| line.1.first().is_some_and(|first| first == word)) {
+        *fields = vec![word.to_vec(), count.to_string().into_bytes()];
+    }
+}
+
+fn odd_name(rng: &mut Rng) -> Vec<u8> {
+    let (nine, byte) = (name(rng, 9), rng.below(256) as u8);
+    match rng.below(8) {
+        0 => nine.into_bytes(),
+        1 => nine[..8].as_bytes().to_vec(),
+        2 => vec![b'a', byte],
+        3 => vec![byte],
+        4 => b"Start".to_vec(),
+        5 => b"1a".to_vec(),
+        6 => b"undef".to_vec(),
+        _ => rng.pick(&["", "a b", "start ", "start\r", "-", "a-b", "a_b", "caf\u{e9}"]).as_bytes().to_vec(),
+    }
+}
+
+fn put_name(rng: &mut Rng, paper: &mut Paper) {
+    let text = odd_name(rng);
+    match rng.below(4) {
+        0 => put(rng, paper, Place::Name, 0, text),
+        1 => put(rng, paper, Place::Signal, 1, text),
+        place => put(rng, paper, Place::Rule, place - 1, text),
+    }
+}
+
+/// A label made of the sheet's own letters and of others, with each way to be wrong.
+fn put_label(rng: &mut Rng, paper: &mut Paper) {
+    let letters = paper.of(Place::Signal).into_iter().filter_map(|line| paper.lines[line].1.first());
+    let own: Vec<u8> = letters.filter_map(|letter| letter.first().copied()).collect();
+    let letter = |rng: &mut Rng| match own.is_empty() || rng.chance(25) {
+        true => rng.pick(b"abpqz"),
+        false => rng.pick(&own),
+    };
+    let (p, q) = (letter(rng), letter(rng));
+    const PATTERNS: [&str; 20] = [
+        "p", "!p", "pq", "p!q", "!p!q", "!!p", "p!", "!", "", "p-", "-p", "--", "!-", "pp", "p!p", "!p!p", "pqp", "P", "p ", "p1",
+    ];
+    let pattern = rng.pick(&PATTERNS);
+    let write = |byte: u8| match byte {
+        b'p' => p,
+        b'q' => q,
+        other => other,
+    };
+    put(rng, paper, Place::Rule, 4, pattern.bytes().map(write).collect());
+}
+
+fn put_letter(rng: &mut Rng, paper: &mut Paper) {
+    let text = rng.pick(&["", "pq", "P", "1", "-", "!", "!p", " ", "p ", "p\r", "\u{e9}", "z", "a", "p"]);
+    put(rng, paper, Place::Signal, 0, text.as_bytes().to_vec());
+}
+
+fn put_word(rng: &mut Rng, paper: &mut Paper) {
+    if rng.chance(50) {
+        let word = rng.pick(&["", "max", "min", "fix", "Max", "MIN", "max ", "mix", "fixx", "ma", " fix", "max\0"]);
+        put(rng, paper, Place::Rule, 0, word.as_bytes().to_vec());
+    } else {
+        let word = rng.pick(&["horizon", "events", "signals", "rules", "rule", "Events", "signals ", "", "event", "eventss", "rul\u{e9}s"]);
+        put(rng, paper, Place::Section, 0, word.as_bytes().to_vec());
+    }
+}
+
+/// A name, a letter or a signal's event that another line has already.
+fn define_twice(rng: &mut Rng, paper: &mut Paper) {
+    let (place, field) = rng.pick(&[(Place::Name, 0), (Place::Signal, 0), (Place::Signal, 1)]);
+    let lines = paper.of(place);
+    if lines.len() >= 2 {
+        let text = paper.lines[rng.pick(&lines)].1.get(field).cloned().unwrap_or_default();
+        put(rng, paper, place, field, text);
+    }
+}
+
+/// A line dropped, doubled or swapped with another.
+fn move_lines(rng: &mut Rng, paper: &mut Paper) {
+    let (line, other) = (rng.below(paper.lines.len()), rng.below(paper.lines.len()));
+    match rng.below(3) {
+        0 => drop(paper.lines.remove(line)),
+        1 => paper.lines.insert(line, paper.lines[line].clone()),
+        _ => paper.lines.swap(line, other),
+    }
+}
+
+fn change_field_count(rng: &mut Rng, paper: &mut Paper) {
+    let line = rng.below(paper.lines.len());
+    let fields = &mut paper.lines[line].1;
+    match rng.below(3) {
+        0 => fields.push(vec![]),
+        1 => fields.insert(0, vec![]),
+        _ => drop(fields.pop()),
+    }
+}
+
+fn empty_field(rng: &mut Rng, paper: &mut Paper) {
+    let line = rng.below(paper.lines.len());
+    let fields = &mut paper.lines[line].1;
+    if !fields.is_empty() {
+        let field = rng.below(fields.len());
+        fields[field].clear();
+    }
+}
+
+/// Two faults on one line: "on one line the lowest number does".
+fn damage_one_rule_twice(rng: &mut Rng, paper: &mut Paper) {
+    let rules = paper.of(Place::Rule);
+    let Some(&line) = rules.get(rng.below(rules.len().max(1))) else { return };
+    for field in rng.different(2, 5) {
+        let text = match field {
+            0 => b"mox".to_vec(),
+            3 => odd_number(rng),
+            4 => rng.pick(&["", "!", "zz", "z", "y!y"]).as_bytes().to_vec(),
+            _ => odd_name(rng),
+        };
+        if let Some(old) = paper.lines[line].1.get_mut(field) {
+            *old = text;
+        }
+    }
+}
+
+fn damage_bytes(rng: &mut Rng, bytes: &mut Vec<u8>) {
+    match rng.below(12) {
+        0..=2 => change_byte(rng, bytes),
+        3 => append_bytes(rng, bytes),
+        4 => all_lines_end_in_crlf(bytes),
+        5 => drop(bytes.pop()),
+        6 => bytes.truncate(rng.below(bytes.len() + 1)),
+        7..=8 => pad(rng, bytes),
+        9 => bytes.clear(),
+        10 => insert_line_feed(rng, bytes),
+        _ => append_bytes(rng, bytes),
+    }
+}
+
+fn some_byte(rng: &mut Rng) -> u8 {
+    if rng.chance(50) { rng.pick(b",\n!-0159 apz\r\0\x7f\x80\xff") } else { rng.below(256) as u8 }
+}
+
+/// A byte changed, removed or inserted.
+fn change_byte(rng: &mut Rng, bytes: &mut Vec<u8>) {
+    let byte = some_byte(rng);
+    if bytes.is_empty() {
+        return bytes.push(byte);
+    }
+    let place = rng.below(bytes.len());
+    match rng.below(3) {
+        0 => bytes[place] = byte,
+        1 => drop(bytes.remove(place)),
+        _ => bytes.insert(place, byte),
+    }
+}
+
+fn append_bytes(rng: &mut Rng, bytes: &mut Vec<u8>) {
+    let text = rng.pick(&["\n", "\n\n", " ", "x", "\r\n", "\0", "max,start,start,0,-\n", "rules,0\n"]);
+    bytes.extend_from_slice(text.as_bytes());
+}
+
+fn all_lines_end_in_crlf(bytes: &mut Vec<u8>) {
+    *bytes = bytes.iter().flat_map(|&byte| if byte == b'\n' { vec![b'\r', b'\n'] } else { vec![byte] }).collect();
+}
+
+fn insert_line_feed(rng: &mut Rng, bytes: &mut Vec<u8>) {
+    let place = rng.below(bytes.len() + 1);
+    bytes.insert(place, b'\n');
+}
+
+/// Lengths at the edge of refusal 1: padded behind the end, or within a number.
+fn pad(rng: &mut Rng, bytes: &mut Vec<u8>) {
+    let length = rng.pick(&[4_095, 4_096, 4_097, 4_098, 5_000]);
+    let missing = usize::saturating_sub(length, bytes.len());
+    if rng.chance(50) || bytes.len() < 9 {
+        let byte = rng.pick(b"\nx");
+        bytes.extend(std::iter::repeat(byte).take(missing));
+    } else {
+        bytes.splice(8..8, std::iter::repeat(b'1').take(missing));
+    }
+}
+
+// ---------------------------------------------------------------- Tables
+
+/// A table as the bench hands it in: "two bytes a minute, low byte first".
+pub fn bytes_of(table: &[u16]) -> Vec<u8> {
+    table.iter().flat_map(|minute| minute.to_le_bytes()).collect()
+}
+
+/// The bytes of a table for an accepted sheet; `solved` is its least good table, if it has one.
+pub fn table(rng: &mut Rng, net: &Net, solved: Option<&[u16]>) -> Vec<u8> {
+    let mut table = match solved {
+        Some(solved) if rng.chance(65) => solved.to_vec(),
+        _ if rng.chance(70) => heard_table(rng, net),
+        _ => random_table(rng, net),
+    };
+    match rng.below(16) {
+        0..=2 => {}
+        3..=5 => nudge_cell(rng, &mut table),
+        6 => change_cell(rng, net, &mut table),
+        7 => edge_cell(rng, net, &mut table),
+        8 => nudge_event(rng, net, &mut table),
+        9..=12 => table = far_breach(rng, net, &table),
+        13 => change_length(rng, &mut table),
+        _ => {}
+    }
+    let mut bytes = bytes_of(&table);
+    if rng.chance(6) {
+        make_odd(rng, &mut bytes);
+    }
+    bytes
+}
+
+/// Any bytes, for a sheet that is refused.
+pub fn any_bytes(rng: &mut Rng) -> Vec<u8> {
+    (0..rng.below(80)).map(|_| rng.next() as u8).collect()
+}
+
+fn random_minute(rng: &mut Rng, net: &Net) -> u16 {
+    let most = if rng.chance(50) { net.horizon } else { net.horizon.min(4) };
+    rng.between(0, most) as u16
+}
+
+fn random_table(rng: &mut Rng, net: &Net) -> Vec<u16> {
+    let start_is_0 = rng.chance(80);
+    let minute = |cell: usize, rng: &mut Rng| match cell % net.events.len() {
+        0 if start_is_0 => 0,
+        _ => random_minute(rng, net),
+    };
+    (0..net.cells()).map(|cell| minute(cell, rng)).collect()
+}
+
+/// A table that keeps points 1 and 3, whatever the rules say: each signal has one minute in all cases, and each other event has
+/// a minute that depends on earlier signals only.
+fn heard_table(rng: &mut Rng, net: &Net) -> Vec<u16> {
+    let mut table = vec![0; net.cells()];
+    for event in 1..net.events.len() {
+        let minute = random_minute(rng, net);
+        (0..net.cases()).for_each(|case| table[net.cell(case, event)] = minute);
+    }
+    for event in 1..net.events.len() {
+        if net.signals.iter().all(|signal| signal.event != event) && rng.chance(60) {
+            put_off(rng, net, &mut table, event);
+        }
+    }
+    table
+}
+
+/// Moves an event to later minutes in cases that earlier signals tell apart.
+fn put_off(rng: &mut Rng, net: &Net, table: &mut [u16], event: usize) {
+    let minute = table[event];
+    let heard = |signal: usize| table[net.signals[signal].event] < minute;
+    let mask: usize = (0..net.signals.len()).filter(|&signal| heard(signal)).map(|signal| 1 << signal).sum();
+    let room = net.horizon - i64::from(minute);
+    let waits: Vec<i64> = (0..net.cases()).map(|_| rng.between(0, room.min(3))).collect();
+    for case in 0..net.cases() {
+        table[net.cell(case, event)] += waits[case & mask] as u16;
+    }
+}
+
+fn nudge_cell(rng: &mut Rng, table: &mut [u16]) {
+    let cell = rng.below(table.len());
+    table[cell] = if rng.chance(50) { table[cell].saturating_add(1) } else { table[cell].saturating_sub(1) };
+}
+
+fn change_cell(rng: &mut Rng, net: &Net, table: &mut [u16]) {
+    let cell = rng.below(table.len());
+    table[cell] = random_minute(rng, net);
+}
+
+/// The horizon, one beyond it, 65,535 and its neighbours.
+fn edge_cell(rng: &mut Rng, net: &Net, table: &mut [u16]) {
+    let horizon = net.horizon as u16;
+    let cell = rng.below(table.len());
+    table[cell] = rng.pick(&[horizon, horizon, horizon + 1, 65_535, 65_534, 32_768, 256, 10_081]);
+}
+
+/// One event a minute later in all cases.
+fn nudge_event(rng: &mut Rng, net: &Net, table: &mut [u16]) {
+    let event = rng.below(net.events.len());
+    for case in 0..net.cases() {
+        let cell = net.cell(case, event);
+        table[cell] = table[cell].saturating_add(1);
+    }
+}
+
+/// A table near this one whose first breach stands between cases that differ in two signals or more, if a few trials find one.
+fn far_breach(rng: &mut Rng, net: &Net, table: &[u16]) -> Vec<u16> {
+    let mut near = table.to_vec();
+    for _ in 0..8 {
+        near = table.to_vec();
+        for _ in 0..rng.between(1, 2) {
+            nudge_cell(rng, &mut near);
+        }
+        match model::judge(net, &near) {
+            Verdict::Unheard { s, r, .. } if (s ^ r).count_ones() >= 2 => return near,
+            _ => {}
+        }
+    }
+    near
+}
+
+fn change_length(rng: &mut Rng, table: &mut Vec<u16>) {
+    let length = table.len();
+    table.resize(rng.pick(&[length - 1, length + 1, 0, 2 * length, length + 7, length / 2]), 0);
+}
+
+fn make_odd(rng: &mut Rng, bytes: &mut Vec<u8>) {
+    if rng.chance(50) || bytes.is_empty() {
+        bytes.push(0);
+    } else {
+        bytes.pop();
+    }
+}

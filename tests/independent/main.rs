@@ -1,0 +1,399 @@
+//! The comparison of `libopening.a` with the model of document 01.
+//!
+//! compare [SEED [COUNT]]            generated sheets and tables, every answer and every lent byte compared
+//! compare expected DIR              the answers that document 01 asks for the trial files DIR/001.csv, 002.csv, ..
+//! compare selftest [SEED [COUNT]]   the model's two solvers against each other on tiny sheets
+//! compare faults [SEED [COUNT]]     (standalone builds) that the comparison notices each wrong program of faults.rs
+//!
+//! Build: rustc --edition 2021 -O -o compare main.rs -L native=DIR   (DIR has libopening.a)
+//!    or: rustc --edition 2021 -O -o compare main.rs --cfg standalone
+
+#[cfg(standalone)]
+mod faults;
+mod gen;
+mod library;
+mod model;
+
+use gen::Rng;
+use library::Library;
+use model::{Net, Refusal, Verdict};
+use std::collections::BTreeMap;
+use std::io::Write;
+use std::process::exit;
+
+const SEED: u64 = 1;
+const COUNT: u64 = 20_000;
+const TINY_COUNT: u64 = 5_000;
+
+fn main() {
+    let arguments: Vec<String> = std::env::args().skip(1).collect();
+    let words: Vec<&str> = arguments.iter().map(String::as_str).collect();
+    match words[..] {
+        ["expected", directory] => print(&expected(directory)),
+        ["selftest", ref numbers @ ..] => selftest(number(numbers, 0, SEED), number(numbers, 1, TINY_COUNT)),
+        #[cfg(standalone)]
+        ["faults", ref numbers @ ..] => notice_faults(number(numbers, 0, SEED), number(numbers, 1, COUNT)),
+        ref numbers => compare(number(numbers, 0, SEED), number(numbers, 1, COUNT)),
+    }
+}
+
+fn number(words: &[&str], place: usize, otherwise: u64) -> u64 {
+    match words.get(place).map(|word| word.parse()) {
+        None => otherwise,
+        Some(Ok(number)) if words.len() <= 2 => number,
+        Some(_) => fail(2, "usage: compare [SEED [COUNT]] | expected DIR | selftest [SEED [COUNT]] | faults [SEED [COUNT]]"),
+    }
+}
+
+fn fail(status: i32, words: &str) -> ! {
+    eprintln!("{words}");
+    exit(status)
+}
+
+fn print(text: &[u8]) {
+    std::io::stdout().write_all(text).unwrap_or_else(|error| fail(2, &error.to_string()));
+}
+
+// ---------------------------------------------------------------- Lent memory
+
+/// Bytes lent to the library, with guarding bytes before and behind them.
+#[derive(Clone, PartialEq)]
+struct Lent {
+    all: Vec<u8>,
+    length: usize,
+}
+
+const GUARD: usize = 24;
+
+impl Lent {
+    /// Lends these bytes between guarding bytes drawn from `guards`.
+    fn new(rng: &mut Rng, guards: &[u8], bytes: &[u8]) -> Self {
+        let mut guard = || -> Vec<u8> { (0..GUARD).map(|_| rng.pick(guards)).collect() };
+        Lent { all: [&guard()[..], bytes, &guard()].concat(), length: bytes.len() }
+    }
+
+    fn slice(&self) -> &[u8] {
+        &self.all[GUARD..GUARD + self.length]
+    }
+
+    fn slice_mut(&mut self) -> &mut [u8] {
+        &mut self.all[GUARD..GUARD + self.length]
+    }
+}
+
+/// Around a sheet stand bytes that would change its reading, such as a line feed where the last line has none.
+fn lend_sheet(rng: &mut Rng, sheet: &[u8]) -> Lent {
+    let guards: &[u8] = rng.pick(&[&b"\n"[..], b"0123456789", b"abcp!-", b",\n0ap"]);
+    Lent::new(rng, guards, sheet)
+}
+
+/// A table of so many bytes with any contents.
+fn lend_table(rng: &mut Rng, length: usize) -> Lent {
+    let bytes: Vec<u8> = (0..length).map(|_| rng.next() as u8).collect();
+    lend_bytes(rng, &bytes)
+}
+
+fn lend_bytes(rng: &mut Rng, bytes: &[u8]) -> Lent {
+    let guards: Vec<u8> = (0..=255).collect();
+    Lent::new(rng, &guards, bytes)
+}
+
+// ---------------------------------------------------------------- The answers that document 01 asks for
+
+/// The number and the line stand in the lowest three bytes of both answers; on a refusal the other numbers are 0.
+fn refusal_answer(refusal: Refusal) -> u64 {
+    u64::from(refusal.number) | (refusal.line as u64) << 8
+}
+
+/// A refusal of a call: "Lines are 0 for refusals 1 and 11 to 13."
+fn of_call(number: u8) -> Refusal {
+    Refusal { number, line: 0 }
+}
+
+/// What the solver does with a table of so many bytes: refusals 1 to 10, 12 and 13 in this order, or the minutes.
+fn solver_outcome<'a>(case: &'a Case, length: usize) -> Result<&'a [u16], Refusal> {
+    let net = case.reading.as_ref().map_err(|refusal| *refusal)?;
+    if length / 2 < net.cells() {
+        return Err(of_call(12));
+    }
+    case.solved.as_deref().ok_or(of_call(13))
+}
+
+/// What the judge says of these bytes: refusals 1 to 10, then 11, then the verdict.
+fn judge_outcome(reading: &Result<Net, Refusal>, table: &[u8]) -> Result<Verdict, Refusal> {
+    let net = reading.as_ref().map_err(|refusal| *refusal)?;
+    if table.len() % 2 == 1 || table.len() / 2 != net.cells() {
+        return Err(of_call(11));
+    }
+    Ok(model::judge(net, &minutes(table)))
+}
+
+/// The minutes of the whole pairs, low byte first.
+fn minutes(table: &[u8]) -> Vec<u16> {
+    table.chunks_exact(2).map(|pair| u16::from(pair[0]) + 256 * u16::from(pair[1])).collect()
+}
+
+/// The word and its three bytes: "Late case, event; Rule case, rule; Unheard case, case, event".
+fn verdict_answer(verdict: Verdict) -> u64 {
+    let (word, first, second, third) = match verdict {
+        Verdict::Pass => (0, 0, 0, 0),
+        Verdict::Late { case, event } => (1, case, event, 0),
+        Verdict::Rule { case, rule } => (2, case, rule, 0),
+        Verdict::Unheard { s, r, u } => (3, s, r, u),
+    };
+    word << 24 | (first as u64) << 32 | (second as u64) << 40 | (third as u64) << 48
+}
+
+// ---------------------------------------------------------------- compare
+
+/// A generated sheet and what the model makes of it.
+struct Case {
+    sheet: Lent,
+    reading: Result<Net, Refusal>,
+    solved: Option<Vec<u16>>,
+}
+
+type Counts = BTreeMap<String, u64>;
+
+fn count(counts: &mut Counts, kind: String) {
+    *counts.entry(kind).or_insert(0) += 1;
+}
+
+fn compare(seed: u64, cases: u64) {
+    let mut counts = Counts::new();
+    for seed in seed..seed + cases {
+        if let Err(words) = compare_one(&library::LIBRARY, seed, &mut counts) {
+            println!("{words}\nagain: compare {seed} 1");
+            exit(1);
+        }
+    }
+    for (kind, count) in &counts {
+        println!("{count:>8}  {kind}");
+    }
+    println!("{cases} cases from seed {seed}: no difference");
+}
+
+/// All calls for the sheet of one seed.
+fn compare_one(library: &Library, seed: u64, counts: &mut Counts) -> Result<(), String> {
+    let mut rng = Rng::new(seed);
+    let bytes = gen::sheet(&mut rng);
+    let reading = model::read(&bytes);
+    let solved = reading.as_ref().ok().and_then(model::solve);
+    let case = Case { sheet: lend_sheet(&mut rng, &bytes), reading, solved };
+    count(counts, reading_kind(&case.reading));
+    for length in solver_lengths(&mut rng, &case.reading) {
+        let table = lend_table(&mut rng, length);
+        compare_solver(library, &case, table, counts)?;
+    }
+    for _ in 0..3 {
+        let table = match &case.reading {
+            Ok(net) => gen::table(&mut rng, net, case.solved.as_deref()),
+            Err(_) => gen::any_bytes(&mut rng),
+        };
+        let table = lend_bytes(&mut rng, &table);
+        compare_judge(library, &case, table, counts)?;
+    }
+    Ok(())
+}
+
+/// Exact, generous, odd and too short tables; for a refused sheet a short and a long one.
+fn solver_lengths(rng: &mut Rng, reading: &Result<Net, Refusal>) -> Vec<usize> {
+    match reading {
+        Err(_) => vec![rng.below(40), 600],
+        Ok(net) => {
+            let exact = 2 * net.cells();
+            vec![exact, exact + 2 + rng.below(64), exact + 1, exact - 1, exact - 2, 0]
+        }
+    }
+}
+
+/// One call of the solver. Its bytes from the sixth on count rounds, of which document 01 says nothing.
+fn compare_solver(library: &Library, case: &Case, table: Lent, counts: &mut Counts) -> Result<(), String> {
+    let outcome = solver_outcome(case, table.length);
+    let (mut sheet, mut asked, mut lent) = (case.sheet.clone(), table.clone(), table.clone());
+    let answer = (library.solve)(sheet.slice_mut(), lent.slice_mut()) & 0xff_ffff_ffff;
+    let right = match outcome {
+        Err(refusal) => refusal_answer(refusal),
+        Ok(minutes) => {
+            asked.slice_mut()[..2 * minutes.len()].copy_from_slice(&gen::bytes_of(minutes));
+            (minutes.len() as u64) << 24
+        }
+    };
+    count(counts, solver_kind(case, &outcome));
+    check_answer("solver", case, &table, right, answer)?;
+    check_memory("solver's table", case, &table, &asked, &lent)?;
+    check_memory("solver's sheet", case, &table, &case.sheet, &sheet)
+}
+
+/// One call of the judge; it alters nothing.
+fn compare_judge(library: &Library, case: &Case, table: Lent, counts: &mut Counts) -> Result<(), String> {
+    let outcome = judge_outcome(&case.reading, table.slice());
+    let (sheet, lent) = (case.sheet.clone(), table.clone());
+    let answer = (library.judge)(sheet.slice(), lent.slice());
+    let right = match outcome {
+        Err(refusal) => refusal_answer(refusal),
+        Ok(verdict) => verdict_answer(verdict),
+    };
+    count(counts, judge_kind(&outcome));
+    check_answer("judge", case, &table, right, answer)?;
+    check_memory("judge's table", case, &table, &table, &lent)?;
+    check_memory("judge's sheet", case, &table, &case.sheet, &sheet)
+}
+
+fn check_answer(call: &str, case: &Case, table: &Lent, right: u64, answer: u64) -> Result<(), String> {
+    if answer == right {
+        return Ok(());
+    }
+    let bytes = |answer: u64| answer.to_le_bytes().map(|byte| byte.to_string()).join(" ");
+    Err(format!("the {call} answers the bytes\n  {}\nand not\n  {}\n{}", bytes(answer), bytes(right), scene(case, table)))
+}
+
+fn check_memory(which: &str, case: &Case, table: &Lent, right: &Lent, lent: &Lent) -> Result<(), String> {
+    let Some(place) = (0..right.all.len()).find(|&place| right.all[place] != lent.all[place]) else { return Ok(()) };
+    Err(format!(
+        "the {which} has at byte {} of {} (from 0, negative before it) {} and not {}\n{}",
+        place as i64 - GUARD as i64,
+        right.length,
+        lent.all[place],
+        right.all[place],
+        scene(case, table)
+    ))
+}
+
+/// The sheet and the table, so that the call can be made by hand.
+fn scene(case: &Case, table: &Lent) -> String {
+    let lines = case.sheet.slice().split_inclusive(|&byte| byte == b'\n');
+    let text: String = lines.map(|line| format!("  {}\n", line.escape_ascii())).collect();
+    format!("sheet of {} bytes\n{text}table of {} bytes {:?}", case.sheet.length, table.length, table.slice())
+}
+
+fn reading_kind(reading: &Result<Net, Refusal>) -> String {
+    match reading {
+        Ok(_) => "sheet accepted".to_string(),
+        Err(refusal) => format!("sheet refused {:>2}", refusal.number),
+    }
+}
+
+fn solver_kind(case: &Case, outcome: &Result<&[u16], Refusal>) -> String {
+    match (&case.reading, outcome) {
+        (Ok(net), Ok(table)) => format!("solver wrote a table, {}", alike(net, table)),
+        (_, Ok(_)) => "solver wrote a table for a refused sheet".to_string(),
+        (_, Err(refusal)) => format!("solver refused {:>2}", refusal.number),
+    }
+}
+
+/// Whether all cases of a table have the same minutes.
+fn alike(net: &Net, table: &[u16]) -> &'static str {
+    let events = net.events.len();
+    if table.chunks(events).all(|row| *row == table[..events]) { "cases alike" } else { "cases differ" }
+}
+
+fn judge_kind(outcome: &Result<Verdict, Refusal>) -> String {
+    match outcome {
+        Ok(Verdict::Pass) => "judge pass".to_string(),
+        Ok(Verdict::Late { .. }) => "judge late".to_string(),
+        Ok(Verdict::Rule { .. }) => "judge rule".to_string(),
+        Ok(Verdict::Unheard { s, r, .. }) => format!("judge unheard, {} signals differ", (s ^ r).count_ones()),
+        Err(refusal) => format!("judge refused {:>2}", refusal.number),
+    }
+}
+
+// ---------------------------------------------------------------- selftest and faults
+
+/// Raising and searching agree on tiny sheets.
+fn selftest(seed: u64, cases: u64) {
+    let mut counts = Counts::new();
+    for seed in seed..seed + cases {
+        let sheet = gen::tiny_sheet(&mut Rng::new(seed));
+        let net = model::read(&sheet).expect("a valid sheet");
+        let (raised, found) = (model::solve(&net), model::solve_by_search(&net));
+        if raised != found {
+            println!("raised {raised:?}\nfound {found:?}\n{}again: compare selftest {seed} 1", sheet.escape_ascii());
+            exit(1);
+        }
+        let kind = raised.map_or("no table".to_string(), |table| format!("a table, {}", alike(&net, &table)));
+        count(&mut counts, format!("{} cases, {kind}", net.cases()));
+    }
+    for (kind, count) in &counts {
+        println!("{count:>8}  {kind}");
+    }
+    println!("{cases} tiny sheets from seed {seed}: raising and searching agree");
+}
+
+/// Each wrong program is noticed within so many cases.
+#[cfg(standalone)]
+fn notice_faults(seed: u64, cases: u64) {
+    let mut missed = 0;
+    for (name, library) in &faults::FAULTS {
+        let noticed = (seed..seed + cases).position(|seed| compare_one(library, seed, &mut Counts::new()).is_err());
+        match noticed {
+            Some(place) => println!("{:>8}  {name}", place + 1),
+            None => println!("  missed  {name}"),
+        }
+        missed += u32::from(noticed.is_none());
+    }
+    println!("{} wrong programs, {missed} missed", faults::FAULTS.len());
+    exit(if missed == 0 { 0 } else { 1 });
+}
+
+// ---------------------------------------------------------------- expected
+
+/// What document 01 asks for the trial files of a directory, up to the first missing number.
+fn expected(directory: &str) -> Vec<u8> {
+    let mut text = vec![];
+    for number in 1.. {
+        let Ok(sheet) = std::fs::read(format!("{directory}/{number:03}.csv")) else { break };
+        let table = std::fs::read(format!("{directory}/{number:03}.tab")).unwrap_or_default();
+        text.extend(format!("{number:03} ").into_bytes());
+        text.extend(expected_one(&sheet, &table));
+    }
+    if text.is_empty() {
+        fail(2, &format!("there is no {directory}/001.csv"));
+    }
+    text
+}
+
+fn expected_one(sheet: &[u8], table: &[u8]) -> Vec<u8> {
+    let reading = model::read(sheet);
+    let mut text = reading_line(&reading).into_bytes();
+    if !table.is_empty() {
+        text.extend(judged_line(&judge_outcome(&reading, table)).into_bytes());
+        text.extend(listed(sheet, &reading, &minutes(table)));
+    } else if let Ok(net) = &reading {
+        text.extend(match model::solve(net) {
+            Some(table) => model::listing(sheet, net, &table),
+            None => refused_line("solved ", of_call(13)).into_bytes(),
+        });
+    }
+    text
+}
+
+fn refused_line(before: &str, refusal: Refusal) -> String {
+    format!("{before}refused {} line {}\n", refusal.number, refusal.line)
+}
+
+fn reading_line(reading: &Result<Net, Refusal>) -> String {
+    match reading {
+        Ok(net) => format!("accepted {} {} {} {}\n", net.horizon, net.events.len(), net.signals.len(), net.rules.len()),
+        Err(refusal) => refused_line("", *refusal),
+    }
+}
+
+fn judged_line(outcome: &Result<Verdict, Refusal>) -> String {
+    match outcome {
+        Ok(Verdict::Pass) => "judged pass\n".to_string(),
+        Ok(Verdict::Late { case, event }) => format!("judged late {case} {event}\n"),
+        Ok(Verdict::Rule { case, rule }) => format!("judged rule {case} {rule}\n"),
+        Ok(Verdict::Unheard { s, r, u }) => format!("judged unheard {s} {r} {u}\n"),
+        Err(refusal) => refused_line("judged ", *refusal),
+    }
+}
+
+/// The listing "prints any table of the right length"; another length is refusal 11, after the sheet's own.
+fn listed(sheet: &[u8], reading: &Result<Net, Refusal>, table: &[u16]) -> Vec<u8> {
+    match reading {
+        Err(refusal) => refused_line("listed ", *refusal).into_bytes(),
+        Ok(net) if table.len() != net.cells() => refused_line("listed ", of_call(11)).into_bytes(),
+        Ok(net) => model::listing(sheet, net, table),
+    }
+}

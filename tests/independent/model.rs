@@ -1,0 +1,630 @@
+//! Document 01 in plain Rust, written from the paper alone.
+//!
+//! Nothing here is fast or clever on purpose: each function renders one rule of the paper, and its comment says which.
+//! Quoted words are document 01's. "Readings" means READINGS.md, section "Document 01".
+
+use std::collections::VecDeque;
+use std::ops::Range;
+
+/// Refusal 1: "The sheet is longer than 4,096 bytes."
+pub const SHEET_MOST: usize = 4096;
+/// "H from 0 to 10,080"; a limit runs "from -10,080 to 10,080".
+pub const MINUTES_MOST: i64 = 10_080;
+/// "n from 1 to 16".
+pub const EVENTS_MOST: i64 = 16;
+/// "k from 0 to 4".
+pub const SIGNALS_MOST: i64 = 4;
+/// "m from 0 to 64".
+pub const RULES_MOST: i64 = 64;
+/// An event name has "1 to 8 bytes".
+pub const NAME_MOST: usize = 8;
+
+/// "A refusal gives its number and a line, the first line being 1."
+#[derive(Clone, Copy, Debug, PartialEq, Eq)]
+pub struct Refusal {
+    pub number: u8,
+    pub line: usize,
+}
+
+#[derive(Clone, Copy, Debug, PartialEq, Eq)]
+pub enum Kind {
+    Max,
+    Min,
+    Fix,
+}
+
+/// A signal has a letter and the event that gives it.
+#[derive(Clone, Debug, PartialEq, Eq)]
+pub struct Signal {
+    pub letter: u8,
+    pub event: usize,
+}
+
+/// A rule line; the label is the list of its signals, each with the truth that it asks (none for `-`).
+#[derive(Clone, Debug, PartialEq, Eq)]
+pub struct Rule {
+    pub kind: Kind,
+    pub from: usize,
+    pub to: usize,
+    pub limit: i64,
+    pub label: Vec<(usize, bool)>,
+}
+
+/// What a sheet says. An event is the place of its name in the sheet.
+#[derive(Clone, Debug, PartialEq, Eq)]
+pub struct Net {
+    pub horizon: i64,
+    pub events: Vec<Range<usize>>,
+    pub signals: Vec<Signal>,
+    pub rules: Vec<Rule>,
+}
+
+/// "The verdict is either a pass or a breach, and the breach is itself one of three."
+#[derive(Clone, Copy, Debug, PartialEq, Eq)]
+pub enum Verdict {
+    Pass,
+    Late { case: usize, event: usize },
+    Rule { case: usize, rule: usize },
+    Unheard { s: usize, r: usize, u: usize },
+}
+
+impl Net {
+    /// "There are 2^k cases, numbered from 0."
+    pub fn cases(&self) -> usize {
+        1 << self.signals.len()
+    }
+
+    /// A table has "n × 2^k" minutes "in all".
+    pub fn cells(&self) -> usize {
+        self.events.len() * self.cases()
+    }
+
+    /// "case 0 first, events in sheet order".
+    pub fn cell(&self, case: usize, event: usize) -> usize {
+        case * self.events.len() + event
+    }
+}
+
+/// "the signal is true where its weight is in the case number"; the first signal has weight 1, the next 2, and so on.
+pub fn truth(case: usize, signal: usize) -> bool {
+    (case >> signal) & 1 == 1
+}
+
+// ---------------------------------------------------------------- The sheet
+
+/// Reads a sheet, "from the top", and gives the network or the refusal of the first line at fault.
+pub fn read(sheet: &[u8]) -> Result<Net, Refusal> {
+    if sheet.len() > SHEET_MOST {
+        return Err(Refusal { number: 1, line: 0 });
+    }
+    let mut lines = Lines { sheet, at: 0, number: 0 };
+    let horizon = lines.section(b"horizon", 0, MINUTES_MOST)?;
+    let mut net = Net { horizon, events: vec![], signals: vec![], rules: vec![] };
+    for _ in 0..lines.section(b"events", 1, EVENTS_MOST)? {
+        let line = lines.take()?;
+        let name = event_line(sheet, line, &net).map_err(|number| lines.refuse(number))?;
+        net.events.push(name);
+    }
+    for _ in 0..lines.section(b"signals", 0, SIGNALS_MOST)? {
+        let line = lines.take()?;
+        let signal = signal_line(sheet, line, &net).map_err(|number| lines.refuse(number))?;
+        net.signals.push(signal);
+    }
+    for _ in 0..lines.section(b"rules", 0, RULES_MOST)? {
+        let line = lines.take()?;
+        let rule = rule_line(sheet, line, &net).map_err(|number| lines.refuse(number))?;
+        net.rules.push(rule);
+    }
+    lines.end()?;
+    Ok(net)
+}
+
+/// The sheet, the place of its first unread byte, and the number of the line taken last.
+struct Lines<'a> {
+    sheet: &'a [u8],
+    at: usize,
+    number: usize,
+}
+
+impl Lines<'_> {
+    /// A refusal of the line taken last.
+    fn refuse(&self, number: u8) -> Refusal {
+        Refusal { number, line: self.number }
+    }
+
+    /// The next line without its line feed. Refusal 2: "The sheet ends where a line is due, or that line has no line feed."
+    fn take(&mut self) -> Result<Range<usize>, Refusal> {
+        self.number += 1;
+        match self.sheet[self.at..].iter().position(|&byte| byte == b'\n') {
+            None => Err(self.refuse(2)),
+            Some(length) => {
+                let line = self.at..self.at + length;
+                self.at = line.end + 1;
+                Ok(line)
+            }
+        }
+    }
+
+    /// A section line: its word and a number in its range (refusals 3, 4 and 5).
+    fn section(&mut self, word: &[u8], least: i64, most: i64) -> Result<i64, Refusal> {
+        let line = self.take()?;
+        let fields = fields(&self.sheet[line]);
+        if fields.len() != 2 || fields[0] != word {
+            return Err(self.refuse(3));
+        }
+        number(fields[1], least, most).map_err(|number| self.refuse(number))
+    }
+
+    /// Refusal 10: "Bytes follow the last rule; the line is the one that they begin." Readings: never 2, and one line feed is enough.
+    fn end(&mut self) -> Result<(), Refusal> {
+        self.number += 1;
+        if self.at < self.sheet.len() { Err(self.refuse(10)) } else { Ok(()) }
+    }
+}
+
+/// "Fields are separated by one comma." Readings: an empty line has one empty field.
+fn fields(line: &[u8]) -> Vec<&[u8]> {
+    line.split(|&byte| byte == b',').collect()
+}
+
+/// "on one line the lowest number does": the least of the faults found on one line.
+fn lowest(faults: &[Option<u8>]) -> Option<u8> {
+    faults.iter().flatten().min().copied()
+}
+
+/// One event name. Refusals 3 (a comma in the line), 6 and 7.
+fn event_line(sheet: &[u8], line: Range<usize>, net: &Net) -> Result<Range<usize>, u8> {
+    let name = &sheet[line.clone()];
+    if fields(name).len() != 1 {
+        return Err(3);
+    }
+    if !is_name(name) {
+        return Err(6);
+    }
+    if find_event(sheet, net, name).is_some() {
+        return Err(7);
+    }
+    Ok(line)
+}
+
+/// `letter,event`. Refusals 3, 6, 7 and 8.
+fn signal_line(sheet: &[u8], line: Range<usize>, net: &Net) -> Result<Signal, u8> {
+    let fields = fields(&sheet[line]);
+    if fields.len() != 2 {
+        return Err(3);
+    }
+    let letter = new_letter(net, fields[0]);
+    let event = used_event(sheet, net, fields[1]).and_then(|event| gives_no_signal_yet(net, event));
+    match (letter, event) {
+        (Ok(letter), Ok(event)) => Ok(Signal { letter, event }),
+        (letter, event) => Err(lowest(&[letter.err(), event.err()]).unwrap()),
+    }
+}
+
+/// "The letter is one of a to z" (6), and not "defined a second time" (7).
+fn new_letter(net: &Net, field: &[u8]) -> Result<u8, u8> {
+    if field.len() != 1 || !field[0].is_ascii_lowercase() {
+        return Err(6);
+    }
+    if find_signal(net, field[0]).is_some() { Err(7) } else { Ok(field[0]) }
+}
+
+/// "An event gives at most one signal" (7).
+fn gives_no_signal_yet(net: &Net, event: usize) -> Result<usize, u8> {
+    if net.signals.iter().any(|signal| signal.event == event) { Err(7) } else { Ok(event) }
+}
+
+/// `kind,from,to,limit,label`. Refusals 3, 4, 5, 6, 8 and 9.
+fn rule_line(sheet: &[u8], line: Range<usize>, net: &Net) -> Result<Rule, u8> {
+    let fields = fields(&sheet[line]);
+    if fields.len() != 5 {
+        return Err(3);
+    }
+    let kind = kind(fields[0]);
+    let from = used_event(sheet, net, fields[1]);
+    let to = used_event(sheet, net, fields[2]);
+    let limit = number(fields[3], -MINUTES_MOST, MINUTES_MOST);
+    let label = label(net, fields[4]);
+    match (kind, from, to, limit, label) {
+        (Ok(kind), Ok(from), Ok(to), Ok(limit), Ok(label)) => Ok(Rule { kind, from, to, limit, label }),
+        (kind, from, to, limit, label) => {
+            Err(lowest(&[kind.err(), from.err(), to.err(), limit.err(), label.err()]).unwrap())
+        }
+    }
+}
+
+/// Refusal 3: "another .. kind".
+fn kind(field: &[u8]) -> Result<Kind, u8> {
+    match field {
+        b"max" => Ok(Kind::Max),
+        b"min" => Ok(Kind::Min),
+        b"fix" => Ok(Kind::Fix),
+        _ => Err(3),
+    }
+}
+
+/// An event where it is used: its name well-formed (6, by the readings also here) and defined (8).
+fn used_event(sheet: &[u8], net: &Net, field: &[u8]) -> Result<usize, u8> {
+    if !is_name(field) {
+        return Err(6);
+    }
+    find_event(sheet, net, field).ok_or(8)
+}
+
+fn find_event(sheet: &[u8], net: &Net, name: &[u8]) -> Option<usize> {
+    net.events.iter().position(|event| &sheet[event.clone()] == name)
+}
+
+fn find_signal(net: &Net, letter: u8) -> Option<usize> {
+    net.signals.iter().position(|signal| signal.letter == letter)
+}
+
+/// "1 to 8 bytes, a lower-case letter, then lower-case letters or digits".
+fn is_name(field: &[u8]) -> bool {
+    let rest_is_good = |rest: &[u8]| rest.iter().all(|byte| byte.is_ascii_lowercase() || byte.is_ascii_digit());
+    match field {
+        [] => false,
+        [first, rest @ ..] => field.len() <= NAME_MOST && first.is_ascii_lowercase() && rest_is_good(rest),
+    }
+}
+
+/// "A number is `0`, or digits without a leading zero, with one `-` before it if it is negative" (4), within its range (5).
+fn number(field: &[u8], least: i64, most: i64) -> Result<i64, u8> {
+    let (negative, digits) = match field {
+        [b'-', digits @ ..] => (true, digits),
+        digits => (false, digits),
+    };
+    if digits.is_empty() || !digits.iter().all(u8::is_ascii_digit) {
+        return Err(4);
+    }
+    if digits[0] == b'0' && (negative || digits.len() > 1) {
+        return Err(4);
+    }
+    let size = magnitude(digits);
+    let value = if negative { -size } else { size };
+    if least <= value && value <= most { Ok(value) } else { Err(5) }
+}
+
+/// The value of digits without a leading zero. More than six digits are beyond every range, "however many" there are.
+fn magnitude(digits: &[u8]) -> i64 {
+    if digits.len() > 6 {
+        return 1_000_000;
+    }
+    digits.iter().fold(0, |value, digit| 10 * value + i64::from(digit - b'0'))
+}
+
+/// "A label is `-` (every case) or one or more letters, each with an optional `!` before it" (6), each defined (8), none twice (9).
+fn label(net: &Net, field: &[u8]) -> Result<Vec<(usize, bool)>, u8> {
+    let letters = letters(field).ok_or(6)?;
+    if letters.iter().any(|&(letter, _)| find_signal(net, letter).is_none()) {
+        return Err(8);
+    }
+    let twice = |place: usize| letters[..place].iter().any(|&(letter, _)| letter == letters[place].0);
+    if (0..letters.len()).any(twice) {
+        return Err(9);
+    }
+    Ok(letters.iter().map(|&(letter, truth)| (find_signal(net, letter).unwrap(), truth)).collect())
+}
+
+/// The letters of a label with their signs, or nothing if the label is ill-formed.
+fn letters(field: &[u8]) -> Option<Vec<(u8, bool)>> {
+    if field == b"-" {
+        return Some(vec![]);
+    }
+    if field.is_empty() {
+        return None;
+    }
+    let mut letters = vec![];
+    let mut rest = field;
+    while !rest.is_empty() {
+        let (letter, truth, behind) = match rest {
+            [b'!', letter, behind @ ..] => (*letter, false, behind),
+            [letter, behind @ ..] => (*letter, true, behind),
+            [] => unreachable!(),
+        };
+        if !letter.is_ascii_lowercase() {
+            return None;
+        }
+        letters.push((letter, truth));
+        rest = behind;
+    }
+    Some(letters)
+}
+
+// ---------------------------------------------------------------- Good tables and the judge
+
+/// A case agrees with a label when each letter has the truth that the label asks.
+pub fn agrees(rule: &Rule, case: usize) -> bool {
+    rule.label.iter().all(|&(signal, asked)| truth(case, signal) == asked)
+}
+
+/// Whether minute(to) - minute(from) is as the rule's kind asks.
+pub fn holds(rule: &Rule, from: u16, to: u16) -> bool {
+    let difference = i64::from(to) - i64::from(from);
+    match rule.kind {
+        Kind::Max => difference <= rule.limit,
+        Kind::Min => difference >= rule.limit,
+        Kind::Fix => difference == rule.limit,
+    }
+}
+
+/// Point 1 for one cell: "at most H, and the start is at minute 0".
+fn on_time(net: &Net, table: &[u16], case: usize, event: usize) -> bool {
+    let minute = i64::from(table[net.cell(case, event)]);
+    minute <= net.horizon && (event != 0 || minute == 0)
+}
+
+/// Point 2 for one case and rule.
+fn rule_kept(net: &Net, table: &[u16], case: usize, rule: &Rule) -> bool {
+    !agrees(rule, case) || holds(rule, table[net.cell(case, rule.from)], table[net.cell(case, rule.to)])
+}
+
+/// Point 3's condition: "no signal on which s and r differ has its event, in s, at a minute less than the minute of u in s".
+fn cannot_tell(net: &Net, table: &[u16], s: usize, r: usize, u: usize) -> bool {
+    let heard = |signal: usize| table[net.cell(s, net.signals[signal].event)] < table[net.cell(s, u)];
+    !(0..net.signals.len()).any(|signal| truth(s, signal) != truth(r, signal) && heard(signal))
+}
+
+/// Point 3 for s, r and u: "then u has the same minute in s and in r".
+fn same_unless_told(net: &Net, table: &[u16], s: usize, r: usize, u: usize) -> bool {
+    !cannot_tell(net, table, s, r, u) || table[net.cell(s, u)] == table[net.cell(r, u)]
+}
+
+/// The judge. "Points 1, 2, 3 are tried in that order, and the first breach ends the search." The table has n × 2^k numbers.
+pub fn judge(net: &Net, table: &[u16]) -> Verdict {
+    assert_eq!(table.len(), net.cells());
+    first_late(net, table)
+        .or_else(|| first_rule(net, table))
+        .or_else(|| first_unheard(net, table))
+        .unwrap_or(Verdict::Pass)
+}
+
+/// "Late: the lowest cell, by case and then event".
+fn first_late(net: &Net, table: &[u16]) -> Option<Verdict> {
+    for case in 0..net.cases() {
+        for event in 0..net.events.len() {
+            if !on_time(net, table, case, event) {
+                return Some(Verdict::Late { case, event });
+            }
+        }
+    }
+    None
+}
+
+/// "Rule: the case and the rule's place in the sheet (from 0), by case and then rule."
+fn first_rule(net: &Net, table: &[u16]) -> Option<Verdict> {
+    for case in 0..net.cases() {
+        for (rule, line) in net.rules.iter().enumerate() {
+            if !rule_kept(net, table, case, line) {
+                return Some(Verdict::Rule { case, rule });
+            }
+        }
+    }
+    None
+}
+
+/// "Unheard: the cases s, r and the event u, in that order of search."
+fn first_unheard(net: &Net, table: &[u16]) -> Option<Verdict> {
+    for s in 0..net.cases() {
+        for r in 0..net.cases() {
+            for u in 0..net.events.len() {
+                if !same_unless_told(net, table, s, r, u) {
+                    return Some(Verdict::Unheard { s, r, u });
+                }
+            }
+        }
+    }
+    None
+}
+
+// ---------------------------------------------------------------- The least good table, by raising
+
+/// The least good table, or nothing if there is no good table.
+///
+/// All cells start at 0, so at or below every good table. A cell is raised only as far as it stands in every good table, so this
+/// stays true, and a cell beyond its highest minute shows that there is no good table. Cells that rose wait in a queue until
+/// everything that they force has been looked at.
+pub fn solve(net: &Net) -> Option<Vec<u16>> {
+    let mut raising = Raising::new(net);
+    while let Some((case, event)) = raising.next() {
+        raising.force_by_rules(case, event);
+        raising.force_in_other_cases(case, event);
+        raising.force_by_signal(case, event);
+        if raising.too_late {
+            return None;
+        }
+    }
+    let table: Vec<u16> = raising.minutes.iter().map(|&minute| minute as u16).collect();
+    assert_eq!(judge(net, &table), Verdict::Pass, "the raised table is not good");
+    Some(table)
+}
+
+struct Raising<'a> {
+    net: &'a Net,
+    minutes: Vec<i64>,
+    queue: VecDeque<usize>,
+    queued: Vec<bool>,
+    too_late: bool,
+}
+
+impl<'a> Raising<'a> {
+    fn new(net: &'a Net) -> Self {
+        let cells = net.cells();
+        Raising { net, minutes: vec![0; cells], queue: (0..cells).collect(), queued: vec![true; cells], too_late: false }
+    }
+
+    fn next(&mut self) -> Option<(usize, usize)> {
+        let cell = self.queue.pop_front()?;
+        self.queued[cell] = false;
+        Some((cell / self.net.events.len(), cell % self.net.events.len()))
+    }
+
+    fn minute(&self, case: usize, event: usize) -> i64 {
+        self.minutes[self.net.cell(case, event)]
+    }
+
+    /// In every good table the cell has at least this minute. Point 1 says how far it may rise.
+    fn raise(&mut self, case: usize, event: usize, minute: i64) {
+        let cell = self.net.cell(case, event);
+        if minute <= self.minutes[cell] {
+            return;
+        }
+        self.minutes[cell] = minute;
+        let highest = if event == 0 { 0 } else { self.net.horizon };
+        self.too_late |= minute > highest;
+        if !self.queued[cell] {
+            self.queued[cell] = true;
+            self.queue.push_back(cell);
+        }
+    }
+
+    /// Point 2: the rules of this case that name the event.
+    fn force_by_rules(&mut self, case: usize, event: usize) {
+        let net = self.net;
+        for rule in &net.rules {
+            if (rule.from == event || rule.to == event) && agrees(rule, case) {
+                self.force_by_rule(case, rule);
+            }
+        }
+    }
+
+    /// to - from <= limit forces `from` up to to - limit; to - from >= limit forces `to` up to from + limit; `fix` is both.
+    fn force_by_rule(&mut self, case: usize, rule: &Rule) {
+        if rule.kind != Kind::Min {
+            self.raise(case, rule.from, self.minute(case, rule.to) - rule.limit);
+        }
+        if rule.kind != Kind::Max {
+            self.raise(case, rule.to, self.minute(case, rule.from) + rule.limit);
+        }
+    }
+
+    /// Point 3, for the other cases' minute of an event that rose here.
+    fn force_in_other_cases(&mut self, case: usize, event: usize) {
+        for other in 0..self.net.cases() {
+            self.force_by_case(other, case, event);
+        }
+    }
+
+    /// Point 3, where the event that rose gives a signal: all events of this case, against the cases that differ on it.
+    fn force_by_signal(&mut self, case: usize, event: usize) {
+        let Some(signal) = self.net.signals.iter().position(|signal| signal.event == event) else { return };
+        for other in (0..self.net.cases()).filter(|&other| truth(other, signal) != truth(case, signal)) {
+            for u in 0..self.net.events.len() {
+                self.force_by_case(case, other, u);
+            }
+        }
+    }
+
+    /// Point 3 in the form of the hyperarcs: "a minute is at least the lesser of the other case's minute and one more than the
+    /// earliest differing signal in its own case". In any good table u in s either is later than a differing signal in s, or
+    /// has the same minute as in r.
+    fn force_by_case(&mut self, s: usize, r: usize, u: usize) {
+        let signals = &self.net.signals;
+        let differing = (0..signals.len()).filter(|&signal| truth(s, signal) != truth(r, signal));
+        if let Some(earliest) = differing.map(|signal| self.minute(s, signals[signal].event)).min() {
+            self.raise(s, u, self.minute(r, u).min(earliest + 1));
+        }
+    }
+}
+
+// ---------------------------------------------------------------- The least good table, by search
+
+/// The same by trying everything, for small networks only: every row of every case that points 1 and 2 allow, every choice of
+/// one row per case that point 3 allows, and of all these good tables the least minute cell by cell. That this minimum is
+/// itself good is checked. Hyperarcs are not used.
+pub fn solve_by_search(net: &Net) -> Option<Vec<u16>> {
+    let rows = (0..net.cases()).map(|case| lawful_rows(net, case)).collect();
+    let mut search = Search { net, rows, table: vec![], least: None };
+    search.fill(0);
+    if let Some(least) = &search.least {
+        assert_eq!(judge(net, least), Verdict::Pass, "the minimum of all good tables is not good");
+    }
+    search.least
+}
+
+/// How many tables the search may have to look at: a row per case, a minute per event after the start.
+pub fn search_size(net: &Net) -> f64 {
+    let free_cells = (net.events.len() - 1) * net.cases();
+    ((net.horizon + 1) as f64).powi(free_cells as i32)
+}
+
+/// All rows of one case that keep points 1 and 2.
+fn lawful_rows(net: &Net, case: usize) -> Vec<Vec<u16>> {
+    let mut rows = vec![vec![0u16]];
+    for _ in 1..net.events.len() {
+        rows = rows.iter().flat_map(|row| one_more(row, net.horizon as u16)).collect();
+    }
+    rows.retain(|row| net.rules.iter().all(|rule| !agrees(rule, case) || holds(rule, row[rule.from], row[rule.to])));
+    rows
+}
+
+/// The row with each minute from 0 to H put behind it.
+fn one_more(row: &[u16], horizon: u16) -> Vec<Vec<u16>> {
+    (0..=horizon).map(|minute| [row, &[minute]].concat()).collect()
+}
+
+struct Search<'a> {
+    net: &'a Net,
+    rows: Vec<Vec<Vec<u16>>>,
+    table: Vec<u16>,
+    least: Option<Vec<u16>>,
+}
+
+impl Search<'_> {
+    /// Puts each lawful row of this case behind those of the cases before it, and goes on where point 3 holds among them.
+    fn fill(&mut self, case: usize) {
+        if case == self.net.cases() {
+            return self.take_good_table();
+        }
+        for place in 0..self.rows[case].len() {
+            let end = self.table.len();
+            self.table.extend_from_slice(&self.rows[case][place]);
+            if (0..case).all(|other| self.point_3(case, other) && self.point_3(other, case)) {
+                self.fill(case + 1);
+            }
+            self.table.truncate(end);
+        }
+    }
+
+    fn point_3(&self, s: usize, r: usize) -> bool {
+        (0..self.net.events.len()).all(|u| same_unless_told(self.net, &self.table, s, r, u))
+    }
+
+    /// Keeps the lesser minute of each cell.
+    fn take_good_table(&mut self) {
+        match &mut self.least {
+            None => self.least = Some(self.table.clone()),
+            Some(least) => least.iter_mut().zip(&self.table).for_each(|(least, &minute)| *least = (*least).min(minute)),
+        }
+    }
+}
+
+// ---------------------------------------------------------------- The listing
+
+/// The listing of "any table of the right length"; the names are taken out of the sheet.
+pub fn listing(sheet: &[u8], net: &Net, table: &[u16]) -> Vec<u8> {
+    assert_eq!(table.len(), net.cells());
+    let mut text = b"case".to_vec();
+    for name in &net.events {
+        text.push(b',');
+        text.extend_from_slice(&sheet[name.clone()]);
+    }
+    text.push(b'\n');
+    for case in 0..net.cases() {
+        text.extend(case_line(net, table, case).into_bytes());
+    }
+    text
+}
+
+/// "one `T` or `F` per signal in sheet order (`-` if there is none), then a comma and a minute per event".
+fn case_line(net: &Net, table: &[u16], case: usize) -> String {
+    let mut line: String = (0..net.signals.len()).map(|signal| if truth(case, signal) { 'T' } else { 'F' }).collect();
+    if net.signals.is_empty() {
+        line.push('-');
+    }
+    for event in 0..net.events.len() {
+        line.push_str(&format!(",{}", table[net.cell(case, event)]));
+    }
+    line.push('\n');
+    line
+}
