@@ -1,5 +1,7 @@
--- The sheet. Read in this order: names, letters and labels; what has been defined so far; a line of each section; the whole.
+-- The sheet. Read in this order: names, letters and labels; what has been defined so far; a line of each section; the whole; and the layout
+-- said without reading.
 pub mod Names
 pub mod Defined
 pub mod Rows
 pub mod Reading
+pub mod Layout

@@ -1,0 +1,71 @@
+-- The word of a kind, and the letters of a label that are defined. Assumes nothing.
+use mathlib.Core.Path.{_≡_, refl, sym, _∙_, ap}
+use mathlib.Core.Logic.{inl, inr}
+use mathlib.Core.Bool.{Bool, true, false, _&&_}
+use mathlib.Core.Option.{Option·getD}
+use mathlib.Core.List.{List, [], _∷_}
+use Prim.Native.Nat.{ℕ}
+use Rattle.prelude.specs.Search.{when, answers}
+use Rattle.prelude.specs.Bytes.{ascii, same, every}
+use Rattle.prelude.proofs.Bytes.{same-true}
+use Rattle.prelude.proofs.Tests.{either}
+use Rattle.network.specs.declared.Kind.{Kind}
+use Rattle.network.specs.declared.Kind.the-variants.{Max, Min, Fix}
+use Rattle.sheet.specs.Names.{isLetter}
+use Rattle.sheet.specs.Defined.{placeOf, allDefined}
+use Rattle.sheet.specs.Rows.{kindOf}
+use Rattle.sheet.specs.Layout.{Signal, In, Each, kindText}
+use Rattle.sheet.proofs.LayoutLines.{plain}
+use Rattle.sheet.proofs.LayoutLists.{each-mono, each-of-every, every-of-each}
+use Rattle.sheet.proofs.LayoutContains.{lettersOf, SignalsAre}
+use Rattle.sheet.proofs.LayoutFinds.{letter-in, letter-answers, letter-is}
+
+-- a field is a kind exactly where it is its word
+pub kind-read : (sheet f : List ℕ) → answers (kindOf sheet f) ≡ true → (k : Kind) × (f ≡ kindText k)
+kind-read sheet f e =
+    elim (either (same f (ascii "max"))) [
+      | inl p ↦ (Max, same-true f (ascii "max") p)
+      | inr p ↦ elim (either (same f (ascii "min"))) [
+        | inl q ↦ (Min, same-true f (ascii "min") q)
+        | inr q ↦ (Fix, same-true f (ascii "fix") (fix (same f (ascii "fix")) (rw (p, kindOf, q) at e)))
+      ]
+    ]
+  where
+    fix : (b : Bool) → answers (when b Fix) ≡ true → b ≡ true
+    fix true e = refl
+    fix false e = e
+
+pub kind-passes : (sheet : List ℕ) (k : Kind) → answers (kindOf sheet (kindText k)) ≡ true
+kind-passes sheet Max = refl
+kind-passes sheet Min = refl
+kind-passes sheet Fix = refl
+
+pub kind-is : (sheet : List ℕ) (k : Kind) → Option·getD (kindOf sheet (kindText k)) Max ≡ k
+kind-is sheet Max = refl
+kind-is sheet Min = refl
+kind-is sheet Fix = refl
+
+pub plain-kind : (k : Kind) → every plain (kindText k) ≡ true
+plain-kind Max = refl
+plain-kind Min = refl
+plain-kind Fix = refl
+
+allDefined-every : (k : ℕ) (letters bs : List ℕ) → allDefined k letters bs ≡ every (λ b. answers (placeOf k letters b)) bs
+allDefined-every k letters [] = refl
+allDefined-every k letters (b ∷ bs) = ap (λ (t : Bool). answers (placeOf k letters b) && t) (allDefined-every k letters bs)
+
+-- letters are defined exactly where each is that of a signal
+module _ {k : ℕ} {letters observations : List ℕ} {names : List (List ℕ)} {xs : List Signal}
+    (s : SignalsAre k letters observations names xs) (bs : List ℕ) where
+  pub defined-read : allDefined k letters bs ≡ true → Each (λ b. In b (lettersOf xs) 0) bs 0
+  defined-read e =
+      each-mono (λ b h. letter-in s b h)
+      (each-of-every (λ b. answers (placeOf k letters b)) bs (sym (allDefined-every k letters bs) ∙ e))
+
+  pub defined-passes : Each (λ b. In b (lettersOf xs) 0) bs 0 → allDefined k letters bs ≡ true
+  defined-passes e =
+      allDefined-every k letters bs
+      ∙ every-of-each (λ b. answers (placeOf k letters b)) bs (each-mono (λ b h. letter-answers s b h) e)
+
+  pub letters-are : Each (λ b. In b (lettersOf xs) 0) bs 0 → every isLetter bs ≡ true
+  letters-are e = every-of-each isLetter bs (each-mono (λ b h. letter-is s b h) e)

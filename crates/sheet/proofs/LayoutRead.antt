@@ -1,0 +1,148 @@
+-- A sheet that is the text of contents which keep the layout's rules is read to its end, and the network holds these contents.
+-- Assumes nothing.
+use mathlib.Core.Path.{_≡_, refl, ap}
+use mathlib.Core.List.{List, [], _++_}
+use Prim.Native.Nat.{ℕ, _≤_, zero-le}
+use borrow.Author.Tests.{le-leb}
+use lib.ListN.{length, drop}
+use Rattle.text.specs.Lines.{afterLine}
+use Rattle.network.specs.Limits as L
+use Rattle.network.specs.Build.{empty}
+use Rattle.network.specs.declared.Network.{Network}
+use Rattle.sheet.specs.Rows.{sectionCount}
+use Rattle.sheet.specs.Reading.{
+  longest,
+  Progress,
+  Go,
+  andThen,
+  readHorizon,
+  readEvents,
+  readSignals,
+  readRules,
+  readEnd,
+  progress,
+}
+use Rattle.sheet.specs.Layout.{Signal, Rule, Contents, Keeps, Layout, textOf}
+use Rattle.sheet.proofs.LayoutNumbers.{magnitude-decimal}
+use Rattle.sheet.proofs.LayoutContains.{Contains, contents}
+use Rattle.sheet.proofs.LayoutExtends.{empty-contains}
+use Rattle.sheet.proofs.LayoutRow.{Reads}
+use Rattle.sheet.proofs.LayoutEvents.{KeptNames, events-understood}
+use Rattle.sheet.proofs.LayoutSignals.{KeptSignals, signals-understood}
+use Rattle.sheet.proofs.LayoutRules.{KeptRules, rules-understood}
+use Rattle.sheet.proofs.LayoutSection.{count-line-reads, section-reads}
+use Rattle.sheet.proofs.LayoutText.{
+  horizonText,
+  eventsText,
+  signalsText,
+  rulesText,
+  toEvents,
+  toSignals,
+  toRules,
+  apart,
+  end-reads,
+  on,
+}
+
+-- a step behind another
+andThen-reads : (sheet : List ℕ) {X Y : Type 0} {Held : Network → List X → Type 0} {Held′ : Network → List Y → Type 0} {xs : List X}
+    {ys : List Y} {rest rest′ : List ℕ} (p : Progress) (next : Network → ℕ → ℕ → Progress) (r : Reads sheet Held p xs rest)
+    → Reads sheet Held′ (next (r .network) (r .at) (r .number)) ys rest′ → Reads sheet Held′ (andThen p next) ys rest′
+andThen-reads sheet p next r t = record {
+  network = t .network;
+  at = t .at;
+  number = t .number;
+  goes = on p next (r .network) (r .at) (r .number) (Go (t .network) (t .at) (t .number)) (r .goes) (t .goes);
+  held = t .held;
+  behind = t .behind;
+}
+
+module _ (sheet : List ℕ) (h : ℕ) (ns : List (List ℕ)) (xs : List Signal) (rs : List Rule) where
+  -- how far the reading comes with each section, and what stands behind it
+  abbrev AtEvents : Progress → List (List ℕ) → List ℕ → Type 0
+  AtEvents p ms rest = Reads sheet (λ Γ ms. Contains sheet Γ (contents h ms [] [])) p ms rest
+
+  abbrev AtSignals : Progress → List Signal → List ℕ → Type 0
+  AtSignals p ys rest = Reads sheet (λ Γ ys. Contains sheet Γ (contents h ns ys [])) p ys rest
+
+  abbrev AtRules : Progress → List Rule → List ℕ → Type 0
+  AtRules p ys rest = Reads sheet (λ Γ ys. Contains sheet Γ (contents h ns xs ys)) p ys rest
+
+  horizon-reads : (rest : List ℕ) → h ≤ L.horizon → drop 0 sheet ≡ horizonText h ++ rest → AtEvents (readHorizon sheet) [] rest
+  horizon-reads rest high t =
+      let r = count-line-reads sheet "horizon" 0 L.horizon 0 1 (λ fs. Go (empty (sectionCount fs)) (afterLine sheet 0) 2)
+      refl h rest zero-le high t in
+      record {
+        network = empty h;
+        at = afterLine sheet 0;
+        number = 2;
+        goes = r .1 (Go (empty h) (afterLine sheet 0) 2) (ap (λ (n : ℕ). Go (empty n) (afterLine sheet 0) 2) (magnitude-decimal h));
+        held = empty-contains sheet h;
+        behind = r .0;
+      }
+
+  events-read : (rest : List ℕ) → KeptNames ns → 1 ≤ length ns → length ns ≤ L.events
+      → AtEvents (readHorizon sheet) [] (eventsText ns ++ rest) → AtEvents (toEvents sheet) ns rest
+  events-read rest kept some few r =
+      andThen-reads sheet (readHorizon sheet) (readEvents sheet) r
+      (section-reads (events-understood sheet h) "events" 1 (r .network) (r .at) (r .number) (r .held)
+      refl ns rest kept some few (r .behind))
+
+  signals-read : (rest : List ℕ) → KeptSignals ns xs → length xs ≤ L.signals
+      → AtEvents (toEvents sheet) ns (signalsText xs ++ rest) → AtSignals (toSignals sheet) xs rest
+  signals-read rest kept few r =
+      andThen-reads sheet (toEvents sheet) (readSignals sheet) r
+      (section-reads (signals-understood sheet h ns) "signals" 0 (r .network) (r .at) (r .number) (r .held)
+      refl xs rest kept zero-le few (r .behind))
+
+  rules-read : (rest : List ℕ) → KeptRules ns xs rs → length rs ≤ L.rules
+      → AtSignals (toSignals sheet) xs (rulesText rs ++ rest) → AtRules (toRules sheet) rs rest
+  rules-read rest kept few r =
+      andThen-reads sheet (toSignals sheet) (readRules sheet) r
+      (section-reads (rules-understood sheet h ns xs) "rules" 0 (r .network) (r .at) (r .number) (r .held)
+      refl rs rest kept zero-le few (r .behind))
+
+  end-read : AtRules (toRules sheet) rs [] → AtRules (andThen (toRules sheet) (readEnd sheet)) rs []
+  end-read r = record {
+    network = r .network;
+    at = r .at;
+    number = r .number;
+    goes =
+        on (toRules sheet) (readEnd sheet) (r .network) (r .at) (r .number) (Go (r .network) (r .at) (r .number)) (r .goes)
+        (end-reads sheet (r .network) (r .at) (r .number) (r .behind));
+    held = r .held;
+    behind = r .behind;
+  }
+
+  sections-read : Keeps (contents h ns xs rs) → sheet ≡ textOf (contents h ns xs rs)
+      → AtRules (andThen (toRules sheet) (readEnd sheet)) rs []
+  sections-read k t =
+      end-read
+      (rules-read [] (record { each = k .rules }) (k .few-rules)
+      (signals-read (rulesText rs ++ [])
+      (record { each = k .signals; letters-once = k .letters-once; events-once = k .events-once }) (k .few-signals)
+      (events-read (signalsText xs ++ (rulesText rs ++ []))
+      (record { each = k .names; once = k .names-once }) (k .some-event) (k .events)
+      (horizon-reads (eventsText ns ++ (signalsText xs ++ (rulesText rs ++ []))) (k .horizon)
+      (apart sheet (horizonText h) (eventsText ns) (signalsText xs) (rulesText rs) t)))))
+
+-- the reading comes to its end with a network that holds the contents
+pub record IsRead (sheet : List ℕ) (c : Contents) : Type 0 where
+  pub network : Network
+  pub at : ℕ
+  pub number : ℕ
+  pub goes : progress sheet ≡ Go network at number
+  pub held : Contains sheet network c
+
+pub layout-read : (sheet : List ℕ) (l : Layout sheet) → IsRead sheet (l .contents)
+unfolding progress
+layout-read sheet l =
+    let c = l .contents in
+    let r = sections-read sheet (c .horizon) (c .names) (c .signals) (c .rules) (l .keeps) (l .written) in
+    record {
+      network = r .network;
+      at = r .at;
+      number = r .number;
+      goes = rw (le-leb (length sheet) longest (l .short), progress) (r .goes);
+      held = r .held;
+    }

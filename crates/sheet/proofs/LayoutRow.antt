@@ -1,0 +1,154 @@
+-- The lines of a section, whatever they hold: where a line of one thing is understood, so many lines are. Assumes nothing.
+use mathlib.Core.Path.{_≡_, refl, sym, _∙_, ap}
+use mathlib.Core.Logic.{inl, inr}
+use mathlib.Core.Bool.{true}
+use mathlib.Core.Option.{Option, none}
+use mathlib.Core.List.{List, [], _∷_, _++_, append-nil, append-assoc, map}
+use Prim.Native.Nat.{ℕ, zero, suc, _+_, _≤_, _<_}
+use native.Mathlib.Omega.{arith}
+use lib.ListN.{length, drop, length-append}
+use lib.Seq.{append-snoc}
+use Rattle.prelude.proofs.Search.{some-or-none}
+use Rattle.prelude.proofs.Tests.{either}
+use Rattle.text.specs.Lines.{lineAt, endsAt, afterLine, fields}
+use Rattle.refusal.specs.Refusal.{refusal}
+use Rattle.refusal.specs.declared.Cause.{Cause}
+use Rattle.refusal.specs.declared.Cause.the-variants.{MissingLine}
+use Rattle.refusal.specs.declared.Refusal.{Refusal}
+use Rattle.network.specs.declared.Network.{Network}
+use Rattle.sheet.specs.Rows.{Row}
+use Rattle.sheet.specs.Reading.{Progress, Stop, Go, readLine, readRows}
+use Rattle.sheet.specs.Layout.{line, lines}
+use Rattle.sheet.proofs.LayoutLines.{Plain, IsRead, is-read, line-read}
+
+-- a line of this kind is that of an x: the network holds the xs that have been read, and x may follow them
+pub record Understood (sheet : List ℕ) (row : Row) (hi : ℕ) {X : Type 0} (first : X → List ℕ) (others : X → List (List ℕ))
+    (Held : Network → List X → Type 0) (Kept : List X → Type 0) (May : List X → X → Type 0) : Type 0 where
+  pub may : (xs ys : List X) (x : X) → Kept (xs ++ x ∷ ys) → May xs x
+  pub reads : {Γ : Network} {xs : List X} → Held Γ xs → (fs : List (List ℕ)) → row .refusal Γ fs ≡ none
+      → (x : X) × (fs ≡ first x ∷ others x) × May xs x
+  pub passes : {Γ : Network} {xs : List X} → Held Γ xs → (x : X) → May xs x → row .refusal Γ (first x ∷ others x) ≡ none
+  pub plain : {Γ : Network} {xs : List X} → Held Γ xs → (x : X) → May xs x → Plain (first x ∷ others x)
+  pub adds : {Γ : Network} {xs : List X} → Held Γ xs → (x : X) → May xs x → length xs < hi → (at : ℕ) (rest : List ℕ)
+      → drop at sheet ≡ line (first x) (others x) ++ rest → Held (row .add Γ at (first x ∷ others x)) (xs ++ x ∷ [])
+
+module _ {Γ : Network} {at k : ℕ} where
+  -- what stops does not go on
+  pub stops {ℓ} : {A : Type ℓ} (r : Refusal) → Stop r ≡ Go Γ at k → A
+  stops r e = absurd (let z : _≡_ {A = ℕ} 0 1 = cc in omega arith)
+
+  -- a line that is passed
+  pub readLine-passed : (sheet : List ℕ) (place number : ℕ) (refuses : List (List ℕ) → Option Cause)
+      (next : List (List ℕ) → Progress) → readLine sheet place number refuses next ≡ Go Γ at k
+      → (endsAt sheet place ≡ true) × (refuses (fields (lineAt sheet place)) ≡ none)
+      × (next (fields (lineAt sheet place)) ≡ Go Γ at k)
+  readLine-passed sheet place number refuses next g =
+      elim (either (endsAt sheet place)) [
+        | inl e ↦ elim (some-or-none (refuses (fields (lineAt sheet place)))) [
+          | inl r ↦ stops (refusal (r .0) number) (rw (e, readLine, r .1) at g)
+          | inr r ↦ (e, r, rw (e, readLine, r) at g)
+        ]
+        | inr e ↦ stops (refusal MissingLine number) (rw (e, readLine) at g)
+      ]
+
+pub readLine-passes : (sheet : List ℕ) (at k : ℕ) (refuses : List (List ℕ) → Option Cause) (next : List (List ℕ) → Progress)
+    (fs : List (List ℕ)) (rest : List ℕ) (p : Progress) → IsRead sheet at fs rest → refuses fs ≡ none → next fs ≡ p
+    → readLine sheet at k refuses next ≡ p
+readLine-passes sheet at k refuses next fs rest p e r n =
+    let passes : refuses (fields (lineAt sheet at)) ≡ none = ap refuses (e .fields-are) ∙ r in
+    rw (e .ends, readLine, passes) (ap next (e .fields-are) ∙ n)
+
+-- texts in a row
+pub joins : (s a r t u : List ℕ) → s ≡ a ++ r → r ≡ t ++ u → s ≡ (a ++ t) ++ u
+joins s a r t u e h = e ∙ ap (λ (x : List ℕ). a ++ x) h ∙ sym (append-assoc a t u)
+
+pub parts : (s a t u : List ℕ) → s ≡ (a ++ t) ++ u → s ≡ a ++ (t ++ u)
+parts s a t u e = e ∙ append-assoc a t u
+
+-- the text of so many lines
+abbrev pub texts : {X : Type 0} → (X → List ℕ) → List X → List ℕ
+texts text ys = lines (map text ys)
+
+module _ (sheet : List ℕ) {X : Type 0} (Held : Network → List X → Type 0) where
+  -- the lines that were read, behind those of xs, are those of some items, and the network holds them
+  pub record Read (text : X → List ℕ) (xs : List X) (m at : ℕ) (Γ : Network) (end : ℕ) : Type 0 where
+    pub items : List X
+    pub count : length items ≡ m
+    pub written : drop at sheet ≡ texts text items ++ drop end sheet
+    pub held : Held Γ (xs ++ items)
+
+  -- the reading comes to a network that holds xs, and to a place where the rest stands
+  pub record Reads (p : Progress) (xs : List X) (rest : List ℕ) : Type 0 where
+    pub network : Network
+    pub at : ℕ
+    pub number : ℕ
+    pub goes : p ≡ Go network at number
+    pub held : Held network xs
+    pub behind : drop at sheet ≡ rest
+
+module _ {sheet : List ℕ} {row : Row} {hi : ℕ} {X : Type 0} {first : X → List ℕ} {others : X → List (List ℕ)}
+    {Held : Network → List X → Type 0} {Kept : List X → Type 0} {May : List X → X → Type 0}
+    (w : Understood sheet row hi first others Held Kept May) where
+  abbrev text : X → List ℕ
+  text x = line (first x) (others x)
+
+  -- what follows a line
+  abbrev next : ℕ → Network → ℕ → ℕ → List (List ℕ) → Progress
+  next m Γ at k fs = readRows sheet row m (row .add Γ at fs) (afterLine sheet at) (suc k)
+
+  -- so many lines that were read are those of some items
+  pub rows-read : (m : ℕ) (Γ : Network) (xs : List X) (at k : ℕ) → Held Γ xs → length xs + m ≤ hi
+      → (Δ : Network) (end number : ℕ) → readRows sheet row m Γ at k ≡ Go Δ end number → Read sheet Held text xs m at Δ end
+  rows-read zero Γ xs at k h few Δ end number g =
+      let same-network : Γ ≡ Δ = cc in
+      let same-place : at ≡ end = cc in
+      record {
+        items = [];
+        count = refl;
+        written = ap (λ (i : ℕ). drop i sheet) same-place;
+        held = rw (append-nil xs, ← same-network) h;
+      }
+  rows-read (suc m) Γ xs at k h few Δ end number g =
+      let p = readLine-passed sheet at k (row .refusal Γ) (next m Γ at k) g in
+      let r = w .reads h (fields (lineAt sheet at)) (p .1) in
+      let x = r .0 in
+      let behind = drop (afterLine sheet at) sheet in
+      let t : drop at sheet ≡ text x ++ behind = rw (r .1) at (line-read sheet at (p .0)) in
+      let held = w .adds h x (r .2) (omega arith) at behind t in
+      let few-left : length (xs ++ x ∷ []) + m ≤ hi = omega (arith, length-append xs (x ∷ [])) in
+      let on =
+      rows-read m (row .add Γ at (first x ∷ others x)) (xs ++ x ∷ []) (afterLine sheet at) (suc k) held few-left Δ end number
+      (rw (r .1) at (p .2)) in
+      record {
+        items = x ∷ on .items;
+        count = omega (arith, on .count);
+        written = joins (drop at sheet) (text x) behind (texts text (on .items)) (drop end sheet) t (on .written);
+        held = rw append-snoc at (on .held);
+      }
+
+  -- where the lines of ys stand, they are read
+  pub rows-reads : (ys : List X) (Γ : Network) (xs : List X) (at k : ℕ) (rest : List ℕ) → Held Γ xs → Kept (xs ++ ys)
+      → length xs + length ys ≤ hi → drop at sheet ≡ texts text ys ++ rest
+      → Reads sheet Held (readRows sheet row (length ys) Γ at k) (xs ++ ys) rest
+  rows-reads [] Γ xs at k rest h kept few t =
+      record { network = Γ; at = at; number = k; goes = refl; held = rw append-nil h; behind = t }
+  rows-reads (x ∷ ys) Γ xs at k rest h kept few t =
+      let m = w .may xs ys x kept in
+      let behind = texts text ys ++ rest in
+      let l = parts (drop at sheet) (text x) (texts text ys) rest t in
+      let r = is-read sheet at (first x) (others x) behind (w .plain h x m) l in
+      let held = w .adds h x m (omega arith) at behind l in
+      let few-left : length (xs ++ x ∷ []) + length ys ≤ hi = omega (arith, length-append xs (x ∷ [])) in
+      let on =
+      rows-reads ys (row .add Γ at (first x ∷ others x)) (xs ++ x ∷ []) (afterLine sheet at) (suc k) rest held
+      (rw append-snoc kept) few-left (r .behind) in
+      record {
+        network = on .network;
+        at = on .at;
+        number = on .number;
+        goes =
+            readLine-passes sheet at k (row .refusal Γ) (next (length ys) Γ at k) (first x ∷ others x) behind
+            (Go (on .network) (on .at) (on .number)) r (w .passes h x m) (on .goes);
+        held = rw append-snoc at (on .held);
+        behind = on .behind;
+      }

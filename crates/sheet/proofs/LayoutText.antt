@@ -1,0 +1,85 @@
+-- The parts of a sheet's text, and the steps of the reading, one behind the other. Assumes nothing.
+use mathlib.Core.Path.{_≡_, refl, _∙_, ap}
+use mathlib.Core.Logic.{inl, inr}
+use mathlib.Core.List.{List, [], _∷_, _++_, append-nil, append-assoc, map}
+use Prim.Native.Nat.{ℕ, _≤_}
+use native.Mathlib.Omega.{arith}
+use borrow.Author.Tests.{ltb-false, le-ltb}
+use lib.Dec.{ltb}
+use lib.ListN.{length, drop, length-drop, drop-of-length-le}
+use Rattle.prelude.specs.Bytes.{ascii}
+use Rattle.prelude.proofs.Tests.{either}
+use Rattle.text.specs.Decimal.{decimal}
+use Rattle.refusal.specs.Refusal.{refusal}
+use Rattle.refusal.specs.declared.Cause.the-variants.{TrailingBytes}
+use Rattle.network.specs.declared.Network.{Network}
+use Rattle.sheet.specs.Reading.{Progress, Stop, Go, andThen, readHorizon, readEvents, readSignals, readRules, readEnd}
+use Rattle.sheet.specs.Layout.{Signal, Rule, line, section, kindText}
+use Rattle.sheet.proofs.LayoutRow.{stops, joins}
+use Rattle.sheet.proofs.LayoutRuleRead.{othersOf}
+
+abbrev pub horizonText : ℕ → List ℕ
+horizonText h = line (ascii "horizon") (decimal h ∷ [])
+
+abbrev pub eventsText : List (List ℕ) → List ℕ
+eventsText ns = section "events" (map (λ n. line n []) ns)
+
+abbrev pub signalsText : List Signal → List ℕ
+signalsText xs = section "signals" (map (λ x. line (x .letter ∷ []) (x .event ∷ [])) xs)
+
+abbrev pub rulesText : List Rule → List ℕ
+rulesText rs = section "rules" (map (λ x. line (kindText (x .kind)) (othersOf x)) rs)
+
+-- the reading as far as each section
+abbrev pub toEvents : List ℕ → Progress
+toEvents sheet = andThen (readHorizon sheet) (readEvents sheet)
+
+abbrev pub toSignals : List ℕ → Progress
+toSignals sheet = andThen (toEvents sheet) (readSignals sheet)
+
+abbrev pub toRules : List ℕ → Progress
+toRules sheet = andThen (toSignals sheet) (readRules sheet)
+
+module _ (sheet : List ℕ) where
+  -- four texts in a row, and nothing behind
+  pub in-a-row : (h e s r : List ℕ) (a b c d : ℕ) → drop 0 sheet ≡ h ++ drop a sheet → drop a sheet ≡ e ++ drop b sheet
+      → drop b sheet ≡ s ++ drop c sheet → drop c sheet ≡ r ++ drop d sheet → drop d sheet ≡ [] → sheet ≡ h ++ e ++ s ++ r
+  in-a-row h e s r a b c d p q t u v =
+      let one = joins sheet h (drop a sheet) e (drop b sheet) p q in
+      let two = joins sheet (h ++ e) (drop b sheet) s (drop c sheet) one t in
+      let three = joins sheet (h ++ e ++ s) (drop c sheet) r (drop d sheet) two u in
+      three ∙ ap (λ (x : List ℕ). h ++ e ++ s ++ r ++ x) v ∙ append-nil (h ++ e ++ s ++ r)
+
+  pub apart : (h e s r : List ℕ) → sheet ≡ h ++ e ++ s ++ r → drop 0 sheet ≡ h ++ (e ++ (s ++ (r ++ [])))
+  apart h e s r p = p ∙ rw (append-nil r, append-assoc (h ++ e) s r, append-assoc h e (s ++ r))
+
+  -- the reading ends where nothing is left
+  module _ (Γ : Network) (at k : ℕ) where
+    pub end-read : (Δ : Network) (end number : ℕ) → readEnd sheet Γ at k ≡ Go Δ end number → drop at sheet ≡ []
+    end-read Δ end number g =
+        elim (either (ltb at (length sheet))) [
+          | inl e ↦ stops (refusal TrailingBytes k) (rw (e, readEnd) at g)
+          | inr e ↦ drop-of-length-le sheet (ltb-false at (length sheet) e)
+        ]
+
+    pub end-reads : drop at sheet ≡ [] → readEnd sheet Γ at k ≡ Go Γ at k
+    end-reads e =
+        let h : length sheet ≤ at = omega (arith, ap length e, length-drop at sheet) in
+        rw (le-ltb at (length sheet) h, readEnd)
+
+-- a step and the one behind it
+pub record Steps (p : Progress) (next : Network → ℕ → ℕ → Progress) (Γ : Network) (at k : ℕ) : Type 0 where
+  pub network : Network
+  pub place : ℕ
+  pub number : ℕ
+  pub before : p ≡ Go network place number
+  pub then : next network place number ≡ Go Γ at k
+
+pub steps : (p : Progress) (next : Network → ℕ → ℕ → Progress) (Γ : Network) (at k : ℕ) → andThen p next ≡ Go Γ at k
+    → Steps p next Γ at k
+steps (Stop r) next Γ at k e = stops r e
+steps (Go Δ place number) next Γ at k e = record { network = Δ; place = place; number = number; before = refl; then = e }
+
+pub on : (p : Progress) (next : Network → ℕ → ℕ → Progress) (Γ : Network) (at k : ℕ) (q : Progress) → p ≡ Go Γ at k
+    → next Γ at k ≡ q → andThen p next ≡ q
+on p next Γ at k q e f = ap (λ (r : Progress). andThen r next) e ∙ f

@@ -1,0 +1,149 @@
+-- A sheet that is read to its end is the text of what was read: a horizon, names, signals and rules that keep the layout's rules.
+-- Assumes nothing.
+use mathlib.Core.Path.{_≡_, _∙_, ap}
+use mathlib.Core.Logic.{inl, inr}
+use mathlib.Core.List.{List, [], _∷_, _++_}
+use Prim.Native.Nat.{ℕ, _≤_}
+use borrow.Author.Tests.{leb-true}
+use lib.Dec.{leb}
+use lib.ListN.{length, drop}
+use Rattle.prelude.proofs.Tests.{either}
+use Rattle.text.specs.Lines.{afterLine}
+use Rattle.refusal.specs.Refusal.{refusal}
+use Rattle.refusal.specs.declared.Cause.the-variants.{TooLong}
+use Rattle.network.specs.Limits as L
+use Rattle.network.specs.Build.{empty}
+use Rattle.network.specs.declared.Network.{Network}
+use Rattle.sheet.specs.Rows.{sectionCount}
+use Rattle.sheet.specs.Reading.{longest, Go, andThen, readHorizon, readEvents, readSignals, readRules, readEnd, progress}
+use Rattle.sheet.specs.Layout.{Signal, Contents, Keeps, Layout, line, kindText}
+use Rattle.sheet.proofs.LayoutContains.{Contains, contents}
+use Rattle.sheet.proofs.LayoutExtends.{empty-contains}
+use Rattle.sheet.proofs.LayoutRow.{stops}
+use Rattle.sheet.proofs.LayoutEvents.{events-understood}
+use Rattle.sheet.proofs.LayoutSignals.{signals-understood}
+use Rattle.sheet.proofs.LayoutRuleRead.{othersOf}
+use Rattle.sheet.proofs.LayoutRules.{rules-understood}
+use Rattle.sheet.proofs.LayoutSection.{count-line-read, SectionRead, section-read}
+use Rattle.sheet.proofs.LayoutText.{
+  horizonText,
+  eventsText,
+  signalsText,
+  rulesText,
+  toEvents,
+  toSignals,
+  toRules,
+  in-a-row,
+  end-read,
+  Steps,
+  steps,
+}
+
+-- contents that a network holds keep the rules, where there are not too few or too many of anything
+keeps : {sheet : List ℕ} {Γ : Network} {c : Contents} → Contains sheet Γ c → c .horizon ≤ L.horizon → 1 ≤ length (c .names)
+    → length (c .names) ≤ L.events → length (c .signals) ≤ L.signals → length (c .rules) ≤ L.rules → Keeps c
+keeps held h some n k m = record {
+  horizon = h;
+  some-event = some;
+  events = n;
+  names = held .names .each;
+  names-once = held .names .once;
+  few-signals = k;
+  signals = held .signals .each;
+  letters-once = held .signals .letters-once;
+  events-once = held .signals .events-once;
+  few-rules = m;
+  rules = held .rules .each;
+}
+
+module _ (sheet : List ℕ) where
+  -- the first line and the sections that were read
+  record HorizonRead (Γ : Network) (end : ℕ) : Type 0 where
+    horizon : ℕ
+    high : horizon ≤ L.horizon
+    written : drop 0 sheet ≡ horizonText horizon ++ drop end sheet
+    held : Contains sheet Γ (contents horizon [] [] [])
+
+  abbrev EventsRead : ℕ → ℕ → Network → ℕ → Type 0
+  EventsRead h at Γ end =
+      SectionRead sheet (λ Γ ns. Contains sheet Γ (contents h ns [] [])) "events" (λ n. line n []) 1 L.events at Γ end
+
+  abbrev SignalsRead : ℕ → List (List ℕ) → ℕ → Network → ℕ → Type 0
+  SignalsRead h ns at Γ end =
+      SectionRead sheet (λ Γ xs. Contains sheet Γ (contents h ns xs [])) "signals"
+      (λ x. line (x .letter ∷ []) (x .event ∷ [])) 0 L.signals at Γ end
+
+  abbrev RulesRead : ℕ → List (List ℕ) → List Signal → ℕ → Network → ℕ → Type 0
+  RulesRead h ns xs at Γ end =
+      SectionRead sheet (λ Γ rs. Contains sheet Γ (contents h ns xs rs)) "rules"
+      (λ x. line (kindText (x .kind)) (othersOf x)) 0 L.rules at Γ end
+
+  horizon-read : (Γ : Network) (at k : ℕ) → readHorizon sheet ≡ Go Γ at k → HorizonRead Γ at
+  horizon-read Γ at k e =
+      let c = count-line-read sheet "horizon" 0 L.horizon 0 1 (λ fs. Go (empty (sectionCount fs)) (afterLine sheet 0) 2) Γ at k e in
+      let h = sectionCount (c .fs) in
+      let then = c .then in
+      let same-network : empty h ≡ Γ = cc in
+      let same-place : afterLine sheet 0 ≡ at = cc in
+      record {
+        horizon = h;
+        high = c .high;
+        written = c .text ∙ ap (λ (i : ℕ). horizonText h ++ drop i sheet) same-place;
+        held = rw same-network at (empty-contains sheet h);
+      }
+
+  -- from one section to the next, and at last all four
+  module _ {Γ₁ Γ₂ Γ₃ Γ₄ : Network} {a b c d : ℕ} (short : length sheet ≤ longest) (end : drop d sheet ≡ []) where
+    from-rules : (h : HorizonRead Γ₁ a) (es : EventsRead (h .horizon) a Γ₂ b)
+        (ss : SignalsRead (h .horizon) (es .items) b Γ₃ c) → RulesRead (h .horizon) (es .items) (ss .items) c Γ₄ d → Layout sheet
+    from-rules h es ss rs = record {
+      contents = contents (h .horizon) (es .items) (ss .items) (rs .items);
+      keeps = keeps (rs .held) (h .high) (es .low) (es .high) (ss .high) (rs .high);
+      written =
+          in-a-row sheet (horizonText (h .horizon)) (eventsText (es .items)) (signalsText (ss .items)) (rulesText (rs .items)) a b c d
+          (h .written) (es .written) (ss .written) (rs .written) end;
+      short = short;
+    }
+
+    from-signals : (h : HorizonRead Γ₁ a) (es : EventsRead (h .horizon) a Γ₂ b) → SignalsRead (h .horizon) (es .items) b Γ₃ c
+        → (l m : ℕ) → readRules sheet Γ₃ c l ≡ Go Γ₄ d m → Layout sheet
+    from-signals h es ss l m t =
+        from-rules h es ss
+        (section-read (rules-understood sheet (h .horizon) (es .items) (ss .items)) "rules" 0 Γ₃ c l (ss .held) Γ₄ d m t)
+
+    from-events : (h : HorizonRead Γ₁ a) → EventsRead (h .horizon) a Γ₂ b → (k l m : ℕ) → readSignals sheet Γ₂ b k ≡ Go Γ₃ c l
+        → readRules sheet Γ₃ c l ≡ Go Γ₄ d m → Layout sheet
+    from-events h es k l m r t =
+        from-signals h es
+        (section-read (signals-understood sheet (h .horizon) (es .items)) "signals" 0 Γ₂ b k (es .held) Γ₃ c l r) l m t
+
+    from-horizon : HorizonRead Γ₁ a → (j k l m : ℕ) → readEvents sheet Γ₁ a j ≡ Go Γ₂ b k → readSignals sheet Γ₂ b k ≡ Go Γ₃ c l
+        → readRules sheet Γ₃ c l ≡ Go Γ₄ d m → Layout sheet
+    from-horizon h j k l m q r t =
+        from-events h (section-read (events-understood sheet (h .horizon)) "events" 1 Γ₁ a j (h .held) Γ₂ b k q) k l m r t
+
+  -- the steps, the last one first
+  module _ (short : length sheet ≤ longest) (Γ : Network) (at k : ℕ) where
+    by-steps : (d : Steps (toRules sheet) (readEnd sheet) Γ at k)
+        (c : Steps (toSignals sheet) (readRules sheet) (d .network) (d .place) (d .number))
+        (b : Steps (toEvents sheet) (readSignals sheet) (c .network) (c .place) (c .number))
+        → Steps (readHorizon sheet) (readEvents sheet) (b .network) (b .place) (b .number) → Layout sheet
+    by-steps d c b a =
+        from-horizon short (end-read sheet (d .network) (d .place) (d .number) Γ at k (d .then))
+        (horizon-read (a .network) (a .place) (a .number) (a .before))
+        (a .number) (b .number) (c .number) (d .number) (a .then) (b .then) (c .then)
+
+    sections-written : andThen (toRules sheet) (readEnd sheet) ≡ Go Γ at k → Layout sheet
+    sections-written e =
+        let d = steps (toRules sheet) (readEnd sheet) Γ at k e in
+        let c = steps (toSignals sheet) (readRules sheet) (d .network) (d .place) (d .number) (d .before) in
+        let b = steps (toEvents sheet) (readSignals sheet) (c .network) (c .place) (c .number) (c .before) in
+        by-steps d c b (steps (readHorizon sheet) (readEvents sheet) (b .network) (b .place) (b .number) (b .before))
+
+  pub layout-of : (Γ : Network) (at k : ℕ) → progress sheet ≡ Go Γ at k → Layout sheet
+  unfolding progress
+  layout-of Γ at k g =
+      elim (either (leb (length sheet) longest)) [
+        | inl e ↦ sections-written (leb-true (length sheet) longest e) Γ at k (rw (e, progress) at g)
+        | inr e ↦ stops (refusal TooLong 0) (rw (e, progress) at g)
+      ]

@@ -1,0 +1,22 @@
+-- Laws of the sheet's definitions: the reading accepts exactly the layout (start at LayoutAccepted, which is the last and the theorem).
+pub mod LayoutChecks
+pub mod LayoutLines
+pub mod LayoutPlain
+pub mod LayoutNumbers
+pub mod LayoutLabels
+pub mod LayoutLists
+pub mod LayoutSearch
+pub mod LayoutContains
+pub mod LayoutFinds
+pub mod LayoutExtends
+pub mod LayoutRow
+pub mod LayoutEvents
+pub mod LayoutSignals
+pub mod LayoutKinds
+pub mod LayoutRuleRead
+pub mod LayoutRules
+pub mod LayoutSection
+pub mod LayoutText
+pub mod LayoutWritten
+pub mod LayoutRead
+pub mod LayoutAccepted

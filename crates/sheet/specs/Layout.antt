@@ -1,0 +1,134 @@
+-- The layout of a sheet, said by what a sheet contains and how that is written: nothing here reads (01, The sheet).
+use mathlib.Core.Path.{_≡_}
+use mathlib.Core.Bool.{Bool, true, false}
+use mathlib.Core.List.{List, [], _∷_, _++_, map}
+use Prim.Native.Nat.{ℕ, suc, _≤_, _<_}
+use Prim.Native.Char.{code}
+use Prim.Native.String.{String}
+use lib.IntN.{ℤ, pos, negsuc}
+use lib.ListN.{length, getD}
+use Rattle.prelude.specs.Bytes.{ascii}
+use Rattle.text.specs.Lines.{comma, lineFeed}
+use Rattle.text.specs.Decimal.{decimal}
+use Rattle.network.specs.Limits as L
+use Rattle.network.specs.WellFormed.{InLimits}
+use Rattle.network.specs.declared.Kind.{Kind}
+use Rattle.network.specs.declared.Kind.the-variants.{Max, Min, Fix}
+use Rattle.sheet.specs.Names.{isLetter, isName, Literal}
+use Rattle.sheet.specs.Reading.{longest}
+
+-- what a sheet contains; events are told by their names, signals by their letters
+pub record Signal : Type 0 where
+  pub letter : ℕ
+  pub event : List ℕ
+
+pub record Rule : Type 0 where
+  pub kind : Kind
+  pub from : List ℕ
+  pub to : List ℕ
+  pub limit : ℤ
+  pub label : List Literal
+
+pub record Contents : Type 0 where
+  pub horizon : ℕ
+  pub names : List (List ℕ)
+  pub signals : List Signal
+  pub rules : List Rule
+
+-- x stands in the list
+pub record In {A : Type 0} (x : A) (xs : List A) (d : A) : Type 0 where
+  pub place : ℕ
+  pub place-lt : place < length xs
+  pub is : getD xs place d ≡ x
+
+-- nothing stands in it twice
+pub record Distinct {A : Type 0} (xs : List A) (d : A) : Type 0 where
+  pub once : (i j : ℕ) → i < length xs → j < length xs → getD xs i d ≡ getD xs j d → i ≡ j
+
+-- f holds of each of them
+pub record Each {A : Type 0} (P : A → Type 0) (xs : List A) (d : A) : Type 0 where
+  pub each : (i : ℕ) → i < length xs → P (getD xs i d)
+
+abbrev pub lettersOf : List Literal → List ℕ
+lettersOf ls = map (λ l. l .letter) ls
+
+-- the rules of the layout
+pub record KeepsSignal (names : List (List ℕ)) (x : Signal) : Type 0 where
+  pub letter : isLetter (x .letter) ≡ true
+  pub event : In (x .event) names []
+
+pub record KeepsRule (names : List (List ℕ)) (letters : List ℕ) (x : Rule) : Type 0 where
+  pub from : In (x .from) names []
+  pub to : In (x .to) names []
+  pub limit : InLimits (x .limit)
+  pub known : Each (λ b. In b letters 0) (lettersOf (x .label)) 0
+  pub once : Distinct (lettersOf (x .label)) 0
+
+abbrev pub noSignal : Signal
+noSignal = record { letter = 0; event = [] }
+
+abbrev pub noRule : Rule
+noRule = record { kind = Max; from = []; to = []; limit = pos 0; label = [] }
+
+pub record Keeps (c : Contents) : Type 0 where
+  pub horizon : c .horizon ≤ L.horizon
+  pub some-event : 1 ≤ length (c .names)
+  pub events : length (c .names) ≤ L.events
+  pub names : Each (λ n. isName n ≡ true) (c .names) []
+  pub names-once : Distinct (c .names) []
+  pub few-signals : length (c .signals) ≤ L.signals
+  pub signals : Each (KeepsSignal (c .names)) (c .signals) noSignal
+  pub letters-once : Distinct (map (λ x. x .letter) (c .signals)) 0
+  pub events-once : Distinct (map (λ x. x .event) (c .signals)) []
+  pub few-rules : length (c .rules) ≤ L.rules
+  pub rules : Each (KeepsRule (c .names) (map (λ x. x .letter) (c .signals))) (c .rules) noRule
+
+-- how it is written
+abbrev pub signedText : ℤ → List ℕ
+signedText (pos n) = decimal n
+signedText (negsuc n) = code "-" ∷ decimal (suc n)
+
+abbrev pub signText : Bool → List ℕ
+signText true = []
+signText false = ascii "!"
+
+abbrev pub literalsText : List Literal → List ℕ
+literalsText [] = []
+literalsText (l ∷ ls) = signText (l .value) ++ l .letter ∷ literalsText ls
+
+abbrev pub labelText : List Literal → List ℕ
+labelText [] = ascii "-"
+labelText (l ∷ ls) = literalsText (l ∷ ls)
+
+abbrev pub kindText : Kind → List ℕ
+kindText Max = ascii "max"
+kindText Min = ascii "min"
+kindText Fix = ascii "fix"
+
+-- a line of its fields
+abbrev pub line : List ℕ → List (List ℕ) → List ℕ
+line f [] = f ++ lineFeed ∷ []
+line f (g ∷ gs) = f ++ comma ∷ line g gs
+
+abbrev pub lines : List (List ℕ) → List ℕ
+lines [] = []
+lines (l ∷ ls) = l ++ lines ls
+
+-- a section: its word with the count, and then its lines
+abbrev pub section : String → List (List ℕ) → List ℕ
+section word ls = line (ascii word) (decimal (length ls) ∷ []) ++ lines ls
+
+abbrev pub textOf : Contents → List ℕ
+textOf c =
+    line (ascii "horizon") (decimal (c .horizon) ∷ [])
+    ++ section "events" (map (λ n. line n []) (c .names))
+    ++ section "signals" (map (λ x. line (x .letter ∷ []) (x .event ∷ [])) (c .signals))
+    ++ section "rules"
+    (map (λ x. line (kindText (x .kind)) (x .from ∷ x .to ∷ signedText (x .limit) ∷ labelText (x .label) ∷ [])) (c .rules))
+
+-- the sheet is the text of contents that keep the rules, and nothing else
+pub record Layout (sheet : List ℕ) : Type 0 where
+  pub contents : Contents
+  pub keeps : Keeps contents
+  pub written : sheet ≡ textOf contents
+  pub short : length sheet ≤ longest
