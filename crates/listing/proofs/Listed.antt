@@ -7,8 +7,8 @@ use Rattle.network.specs.declared.Network.{Network}
 use Rattle.listing.specs.Listing.{joinFrom, header, listing}
 use Rattle.listing.specs.Line.{lineOf}
 use Rattle.listing.specs.Most.{mostHeader, mostLines, mostListing}
-use Rattle.listing.specs.Appended.{Appended}
-use Rattle.listing.proofs.Append.{append-then}
+use Rattle.page.specs.Appended.{Appended}
+use Rattle.page.proofs.Append.{append-then}
 
 pub listing-appended : (sheet : List ℕ) (Γ : Network) (σ : List ℕ) {b m a : List ℕ} {r e : ℕ}
     → Appended mostHeader b 0 (header sheet Γ) m r

@@ -7,7 +7,7 @@ use native.Mathlib.Omega.{arith}
 use borrow.Author.Tests.{le-leb, lt-leb}
 use lib.ListN.{length, take, drop, length-append}
 use lib.Seq.{take-append-seam}
-use Rattle.listing.specs.Appended.{Appended}
+use Rattle.page.specs.Appended.{Appended}
 use Rattle.listing.specs.Written.{isRoom, writtenOf, bufferAfter, WrittenIs}
 use Rattle.listing.specs.declared.Written.{Written}
 use Rattle.listing.specs.declared.Written.the-variants.{Bytes, TooShort}

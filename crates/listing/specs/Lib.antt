@@ -1,7 +1,6 @@
--- Read in this order: the listing; a line by the numbers that it depends on; how long each part is at most; what a function does that
--- writes a part; what the call does with the memory that it is lent.
+-- Read in this order: the listing; a line by the numbers that it depends on; how long each part is at most; what
+-- the call does with the memory that it is lent.
 pub mod Listing
 pub mod Line
 pub mod Most
-pub mod Appended
 pub mod Written

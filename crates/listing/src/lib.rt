@@ -12,7 +12,7 @@ ghost use Rattle.network.specs.WellFormed.{WellFormed, Named};
 ghost use Rattle.listing.specs.Listing.{joinFrom, fieldsOf, scenarioText, header, listing};
 ghost use Rattle.listing.specs.Line.{markOf, timesOf, lineOf};
 ghost use Rattle.listing.specs.Most.{mostNames, mostTimes, mostHeader, mostLine, mostLines};
-ghost use Rattle.listing.specs.Appended.{Appended};
+ghost use Rattle.page.specs.Appended.{Appended};
 ghost use Rattle.listing.specs.Written.{WrittenIs};
 use network::Network;
 
@@ -20,35 +20,6 @@ use network::Network;
 pub enum Written {
     Bytes(usize),
     TooShort,
-}
-
-// One byte.
-fn push(page: &mut [u8], at: usize, b: u8) -> usize
-    requires { ⌜ at < length (now page) ⌝ }
-    ensures { λ r. ⌜ Appended 1 (now (page .entry)) at (b ∷ []) (now (page .exit)) r ⌝ }
-{
-    page[at] = b;
-    at + 1
-}
-
-// Bytes, one behind the other.
-fn push_all(page: &mut [u8], at: usize, s: &[u8]) -> usize
-    requires { ⌜ at + length (now s) ≤ length (now page) ⌝ }
-    ensures { λ r. ⌜ Appended (length (now (s .entry))) (now (page .entry)) at (now (s .entry)) (now (page .exit)) r ⌝ }
-{
-    for i in 0..s.len() {
-        page[at + i] = s[i];
-    }
-    at + s.len()
-}
-
-// A field of a line, behind its comma.
-fn push_field(page: &mut [u8], at: usize, s: &[u8]) -> usize
-    requires { ⌜ at + length (now s) < length (now page) ⌝ }
-    ensures { λ r. ⌜ Appended (1 + length (now (s .entry))) (now (page .entry)) at (comma ∷ now (s .entry)) (now (page .exit)) r ⌝ }
-{
-    let next = push(page, at, b',');
-    push_all(page, next, s)
 }
 
 // The names of all events, and the line feed.
@@ -61,9 +32,9 @@ fn push_names(page: &mut [u8], at: usize, sheet: &[u8], network: Network) -> usi
     for u in 0..network.events {
         let start = network.starts[u];
         let end = start + network.lengths[u];
-        next = push_field(page, next, &sheet[start..end]);
+        next = page::push_field(page, next, &sheet[start..end]);
     }
-    push(page, next, b'\n')
+    page::push(page, next, b'\n')
 }
 
 // The first line, which depends on no time.
@@ -71,7 +42,7 @@ fn push_header(page: &mut [u8], sheet: &[u8], network: Network) -> usize
     requires { ⌜ WellFormed network × Named (now sheet) network × (mostHeader ≤ length (now page)) ⌝ }
     ensures { λ r. ⌜ Appended mostHeader (now (page .entry)) 0 (header (now (sheet .entry)) network) (now (page .exit)) r ⌝ }
 {
-    let at = push_all(page, 0, b"case");
+    let at = page::push_all(page, 0, b"case");
     push_names(page, at, sheet, network)
 }
 
@@ -91,12 +62,12 @@ fn push_truths(page: &mut [u8], at: usize, s: usize, signals: usize) -> usize
     ensures { λ r. ⌜ Appended L.signals (now (page .entry)) at (scenarioText signals s) (now (page .exit)) r ⌝ }
 {
     if signals == 0 {
-        return push(page, at, b'-');
+        return page::push(page, at, b'-');
     }
     let mut next = at;
     let mut rest = s;
     for p in 0..signals {
-        next = push(page, next, mark_of(rest));
+        next = page::push(page, next, mark_of(rest));
         rest = rest / 2;
     }
     next
@@ -110,7 +81,7 @@ fn push_time(page: &mut [u8], at: usize, v: u16) -> usize
     let digits = text::spell(v);
     let bytes = digits.bytes;
     let count = digits.count;
-    push_field(page, at, &bytes[..count])
+    page::push_field(page, at, &bytes[..count])
 }
 
 // The times of all events in scenario s, and the line feed.
@@ -124,7 +95,7 @@ fn push_times(page: &mut [u8], at: usize, table: &[u16], s: usize, events: usize
     for u in 0..events {
         next = push_time(page, next, table[first + u]);
     }
-    push(page, next, b'\n')
+    page::push(page, next, b'\n')
 }
 
 // The line of scenario s.
@@ -175,5 +146,5 @@ pub fn write(sheet: &[u8], network: Network, table: &[u16], out: &mut [u8]) -> W
     if out.len() < end {
         return Written::TooShort;
     }
-    Written::Bytes(push_all(out, 0, &page[..end]))
+    Written::Bytes(page::push_all(out, 0, &page[..end]))
 }

@@ -1,6 +1,6 @@
 -- `listing::push_header` meets its contract: the word, and the names behind it. Assumes nothing.
 use native.Mathlib.Omega.{arith}
-use Rattle.listing.proofs.Append.{append-then}
+use Rattle.page.proofs.Append.{append-then}
 use borrow.Author.Needs.{needs}
 use Rattle.listing.proofs.push_header.Statement.{statement}
 use Rattle.listing.proofs.push_header.Tie as tie

@@ -1,6 +1,6 @@
 -- `listing::push_line` meets its contract: the truths, and the times behind them. Assumes nothing.
 use native.Mathlib.Omega.{arith}
-use Rattle.listing.proofs.Append.{append-then}
+use Rattle.page.proofs.Append.{append-then}
 use borrow.Author.Needs.{needs}
 use Rattle.listing.proofs.push_line.Statement.{statement}
 use Rattle.listing.proofs.push_line.Tie as tie

@@ -8,7 +8,7 @@ use native.Mathlib.Omega.{arith}
 use borrow.Author.Needs.{needs}
 use Rattle.listing.specs.Line.{lineOf}
 use Rattle.listing.specs.Most.{mostLine}
-use Rattle.listing.proofs.Append.{append-as}
+use Rattle.page.proofs.Append.{append-as}
 use Rattle.listing.proofs.Join.{Joining, join-none, join-next, join-all}
 use Rattle.listing.proofs.Truths.{few-scenarios}
 use Rattle.listing.proofs.push_lines.Statement.{statement}

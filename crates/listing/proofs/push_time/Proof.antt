@@ -5,7 +5,7 @@ use Prim.Native.Nat.{ℕ}
 use native.Mathlib.Omega.{arith}
 use lib.Seq.{length-take-le}
 use Rattle.text.specs.Lines.{comma}
-use Rattle.listing.proofs.Append.{append-as}
+use Rattle.page.proofs.Append.{append-as}
 use borrow.Author.Needs.{needs}
 use Rattle.listing.proofs.push_time.Statement.{statement}
 use Rattle.listing.proofs.push_time.Tie as tie

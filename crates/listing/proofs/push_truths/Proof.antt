@@ -6,7 +6,7 @@ use Prim.Native.Nat.{_-_, _/_, _^_}
 use native.Mathlib.Omega.{arith}
 use borrow.Author.Needs.{needs}
 use Rattle.listing.specs.Line.{markOf}
-use Rattle.listing.proofs.Append.{append-as}
+use Rattle.page.proofs.Append.{append-as}
 use Rattle.listing.proofs.Join.{Joining, join-none, join-next, join-all}
 use Rattle.listing.proofs.Truths.{halved-none, halved-more, scenarioText-none, scenarioText-some}
 use Rattle.listing.proofs.push_truths.Statement.{statement}

@@ -5,7 +5,7 @@ use denote.Ref.{now}
 use mathlib.Core.Path.{sym}
 use native.Mathlib.Nat.{le-refl}
 use lib.Seq.{length-take-le}
-use Rattle.listing.proofs.Append.{append-as}
+use Rattle.page.proofs.Append.{append-as}
 use Rattle.listing.proofs.Listed.{listing-appended}
 use Rattle.listing.proofs.Memory.{append-front, written-nothing, written-all}
 use borrow.Author.Needs.{needs}

@@ -1,4 +1,4 @@
--- `listing::push_all` meets its contract. The invariant: the page is the one lent with the first i bytes of s pasted in from `at` on.
+-- `page::push_all` meets its contract. The invariant: the page is the one lent with the first i bytes of s pasted in from `at` on.
 -- The measure is what is left of s. Assumes nothing.
 use mathlib.Core.Path.{_≡_, refl}
 use Prim.Native.Nat.{_-_, _≤_}
@@ -8,9 +8,9 @@ use lib.ListN.{length, length-set}
 use lib.Seq.{paste, paste-zero, paste-suc}
 use denote.Ref.{now}
 use borrow.Author.Needs.{needs}
-use Rattle.listing.proofs.Append.{append-copy}
-use Rattle.listing.proofs.push_all.Statement.{statement}
-use Rattle.listing.proofs.push_all.Tie as tie
+use Rattle.page.proofs.Append.{append-copy}
+use Rattle.page.proofs.push_all.Statement.{statement}
+use Rattle.page.proofs.push_all.Tie as tie
 
 abbrev Inv-loop : tie.InvT-loop
 Inv-loop page₀ at s i₀ i-end page i =

@@ -6,7 +6,7 @@ use native.Mathlib.Numerals.{add-one}
 use native.Mathlib.Omega.{arith}
 use lib.ListN.{length, take, drop, set, length-append, length-set, take-append-drop}
 use lib.Seq.{paste, length-paste, take-length, take-at, drop-append-add, drop-drop, length-take-le, set-split, append-snoc}
-use Rattle.listing.specs.Appended.{Appended}
+use Rattle.page.specs.Appended.{Appended}
 
 pub append-nothing : (b : List ℕ) (at : ℕ) → at ≤ length b → Appended 0 b at [] b at
 append-nothing b at h = record {

@@ -1,9 +1,9 @@
--- `listing::push_field` meets its contract: a comma, and the bytes behind it. Assumes nothing.
+-- `page::push_field` meets its contract: a comma, and the bytes behind it. Assumes nothing.
 use native.Mathlib.Omega.{arith}
 use borrow.Author.Needs.{needs}
-use Rattle.listing.proofs.Append.{append-then}
-use Rattle.listing.proofs.push_field.Statement.{statement}
-use Rattle.listing.proofs.push_field.Tie as tie
+use Rattle.page.proofs.Append.{append-then}
+use Rattle.page.proofs.push_field.Statement.{statement}
+use Rattle.page.proofs.push_field.Tie as tie
 
 push-requires : tie.Need-push-requires
 push-requires c κs = search needs

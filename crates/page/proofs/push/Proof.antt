@@ -1,9 +1,9 @@
--- `listing::push` meets its contract: the store is `append-one`. Assumes nothing.
+-- `page::push` meets its contract: the store is `append-one`. Assumes nothing.
 use borrow.Author.Needs.{needs}
 use denote.Ref.{now}
-use Rattle.listing.proofs.Append.{append-one}
-use Rattle.listing.proofs.push.Statement.{statement}
-use Rattle.listing.proofs.push.Tie as tie
+use Rattle.page.proofs.Append.{append-one}
+use Rattle.page.proofs.push.Statement.{statement}
+use Rattle.page.proofs.push.Tie as tie
 
 slice-write-page : tie.Need-slice-write-page
 slice-write-page c = search needs

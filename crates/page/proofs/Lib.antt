@@ -1,0 +1,2 @@
+-- Laws of appending, for the proofs of whatever writes.
+pub mod Append
