@@ -1,10 +1,11 @@
 -- The calls of the workshop bench, which is written in C: "There a table travels as two bytes a minute, low byte first. For the judge an
 -- odd number of bytes is refusal 11; the solver counts the whole pairs it is lent" (01, The judge's verdict). An answer is one number.
 use mathlib.Core.Bool.{Bool, true, false}
-use mathlib.Core.List.{List, [], _∷_, _++_}
-use Prim.Native.Nat.{ℕ, _+_, _*_, _/_, _%_}
+use mathlib.Core.List.{List, _++_}
+use Prim.Native.Nat.{ℕ, _+_, _*_, _%_}
 use lib.Dec.{eqb}
 use lib.ListN.{length, take, drop}
+use Rattle.pairs.specs.Pairs.{minutesOf, bytesOf}
 use Rattle.refusal.specs.Refusal.{numberOf, refusal}
 use Rattle.refusal.specs.declared.Cause.the-variants.{WrongTableLength}
 use Rattle.refusal.specs.declared.Refusal.{Refusal}
@@ -20,16 +21,6 @@ use Rattle.opening.specs.declared.Judgement.{Judgement}
 use Rattle.opening.specs.declared.Judgement.the-variants as J
 use Rattle.opening.specs.declared.Written.{Written}
 use Rattle.opening.specs.declared.Written.the-variants as W
-
--- the minutes of the whole pairs of bytes, and the bytes of minutes
-abbrev pub minutesOf : List ℕ → List ℕ
-minutesOf [] = []
-minutesOf (a ∷ []) = []
-minutesOf (a ∷ b ∷ s) = (a + 256 * b) ∷ minutesOf s
-
-abbrev pub bytesOf : List ℕ → List ℕ
-bytesOf [] = []
-bytesOf (m ∷ ms) = m % 256 ∷ m / 256 ∷ bytesOf ms
 
 -- judging bytes
 abbrev pub benchJudgementFor : List ℕ → Outcome → List ℕ → Judgement

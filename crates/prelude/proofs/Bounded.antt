@@ -2,7 +2,7 @@
 use mathlib.Core.Path.{_≡_, refl, sym, _∙_, ap}
 use mathlib.Core.Logic.{_⊎_, inl, inr}
 use mathlib.Core.Bool.{Bool, true, false, _&&_}
-use mathlib.Core.List.{List, [], _∷_}
+use mathlib.Core.List.{List, [], _∷_, _++_}
 use Prim.Native.Nat.{ℕ, zero, suc, _+_, _≤_, _<_, max}
 use native.Mathlib.Omega.{arith}
 use lib.ListN.{length, getD}
@@ -73,3 +73,11 @@ module _ {A : Type 0} (f : ℕ → A) where
 
   pub getD-tabulate : (n k : ℕ) (d : A) → k < n → getD (tabulate n f) k d ≡ f k
   getD-tabulate n k d h = getD-tabulateFrom 0 n k k d h (omega arith)
+
+  -- one more value stands at the end
+  tabulateFrom-more : (i n j : ℕ) → j ≡ i + n → tabulateFrom i (suc n) f ≡ tabulateFrom i n f ++ f j ∷ []
+  tabulateFrom-more i zero j e = ap (λ (k : ℕ). f k ∷ []) (omega arith)
+  tabulateFrom-more i (suc n) j e = ap (λ (l : List A). f i ∷ l) (tabulateFrom-more (suc i) n j (omega arith))
+
+  pub tabulate-more : (n : ℕ) → tabulate (suc n) f ≡ tabulate n f ++ f n ∷ []
+  tabulate-more n = tabulateFrom-more 0 n n (omega arith)

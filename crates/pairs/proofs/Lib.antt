@@ -1,0 +1,2 @@
+-- Laws of pairs of bytes and minutes.
+pub mod Packing

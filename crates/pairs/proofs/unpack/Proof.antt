@@ -1,0 +1,92 @@
+-- `pairs::unpack` meets its contract. The invariant: the first i cells hold the first i minutes, and the rest is as before. The measure is
+-- what is left of the pairs. Assumes nothing.
+use mathlib.Core.Path.{_≡_, refl}
+use mathlib.Core.List.{_++_}
+use Prim.Native.Nat.{ℕ, _-_, _≤_, _/_, _*_, _+_}
+use native.Mathlib.Omega.{arith}
+use borrow.Author.Needs.{needs}
+use denote.Ref.{now}
+use lib.ListN.{length, drop, length-set}
+use Rattle.prelude.specs.Bounded.{tabulate}
+use Rattle.pairs.specs.Pairs.{pairAt}
+use Rattle.pairs.proofs.Packing.{unpack-step}
+use Rattle.pairs.proofs.unpack.Statement.{statement}
+use Rattle.pairs.proofs.unpack.Tie as tie
+
+abbrev Inv-loop : tie.InvT-loop
+Inv-loop bytes table₀ count i₀ table i = (i ≤ count) × (length table ≡ length table₀) × (table ≡ tabulate i (pairAt bytes) ++ drop i table₀)
+
+abbrev μ-loop : tie.MeasureT-loop
+μ-loop bytes table₀ count i₀ table i = count - i
+
+loop-holds : tie.Need-loop-holds Inv-loop μ-loop
+loop-holds c = (search needs, refl, refl)
+
+mul-minute : tie.Need-mul-minute Inv-loop μ-loop
+mul-minute c = omega arith
+
+shared-slice-read-minute : tie.Need-shared-slice-read-minute Inv-loop μ-loop
+shared-slice-read-minute c = omega arith
+
+mul-minute-2 : tie.Need-mul-minute-2 Inv-loop μ-loop
+mul-minute-2 c = omega arith
+
+add-minute : tie.Need-add-minute Inv-loop μ-loop
+add-minute c = omega arith
+
+shared-slice-read-minute-2 : tie.Need-shared-slice-read-minute-2 Inv-loop μ-loop
+shared-slice-read-minute-2 c = omega arith
+
+minute-requires : tie.Need-minute-requires Inv-loop μ-loop
+minute-requires c κs = search needs
+
+mul-table : tie.Need-mul-table Inv-loop μ-loop
+mul-table c = omega arith
+
+slice-write-table : tie.Need-slice-write-table Inv-loop μ-loop
+slice-write-table c = omega arith
+
+add-i : tie.Need-add-i Inv-loop μ-loop
+add-i c = omega arith
+
+loop-less : tie.Need-loop-less Inv-loop μ-loop
+loop-less c = omega arith
+
+loop-again : tie.Need-loop-again Inv-loop μ-loop
+loop-again c =
+    let l = c .before .before .before .before in
+    let args = l .before .before .before .args in (
+      omega arith,
+      simp length-set (l .loop .inv .1),
+      unpack-step (now (args .bytes)) (now (args .table)) (l .loop .table) (l .loop .i) (c .minute .result) (l .loop .inv .2)
+          (omega arith) (c .minute .ensures),
+    )
+
+same-length : tie.Need-same-length Inv-loop μ-loop
+same-length c = omega arith
+
+returns : tie.Need-returns Inv-loop μ-loop
+returns c =
+    let whole : c .before .loop .i ≡ length (now (c .before .before .before .before .args .bytes)) / 2 = omega arith in
+    rw (← whole) (c .before .loop .inv .2)
+
+pub unpack-spec : {M : Type 1} → statement M
+unpack-spec =
+    tie.close
+    (tie.spec
+    Inv-loop
+    μ-loop
+    loop-holds
+    mul-minute
+    shared-slice-read-minute
+    mul-minute-2
+    add-minute
+    shared-slice-read-minute-2
+    minute-requires
+    mul-table
+    slice-write-table
+    add-i
+    loop-less
+    loop-again
+    same-length
+    returns)
