@@ -1,7 +1,5 @@
--- The sheet. Read in this order: names, letters and labels; what has been defined so far; a line of each section; the whole; and the layout
--- said without reading.
+-- The sheet. Read in this order: names, letters and labels; what has been defined so far; a line of each section; the whole.
 pub mod Names
 pub mod Defined
 pub mod Rows
 pub mod Reading
-pub mod Layout

@@ -15,16 +15,16 @@ use Rattle.refusal.specs.declared.Cause.{Cause}
 use Rattle.refusal.specs.declared.Cause.the-variants as C
 use Rattle.network.specs.Limits as L
 use Rattle.network.specs.declared.Network.{Network}
 use Rattle.sheet.specs.Names.{isName, isLetter, isOneLetter}
 use Rattle.sheet.specs.Defined.{placeOf}
 use Rattle.sheet.specs.Rows.{eventOf, isObservation, signalRefusal, signalRow}
-use Rattle.sheet.specs.Layout.{Signal, In, Distinct, Each, KeepsSignal, noSignal}
-use Rattle.sheet.proofs.LayoutChecks.{_&_, hold, none-fails}
-use Rattle.sheet.proofs.LayoutLines.{plain}
-use Rattle.sheet.proofs.LayoutLists.{all-of, each-at, each-in, distinct-new}
-use Rattle.sheet.proofs.LayoutPlain.{plain-name, plain-letter, one-letter}
-use Rattle.sheet.proofs.LayoutContains.{Contains, contents, lettersOf, eventsOf}
-use Rattle.sheet.proofs.LayoutFinds.{
+use Rattle.layout.specs.Layout.{Signal, In, Distinct, Each, KeepsSignal, noSignal}
+use Rattle.layout.proofs.Checks.{_&_, hold, none-fails}
+use Rattle.layout.proofs.Lines.{plain}
+use Rattle.layout.proofs.Lists.{all-of, each-at, each-in, distinct-new}
+use Rattle.layout.proofs.Plain.{plain-name, plain-letter, one-letter}
+use Rattle.layout.proofs.Contains.{Contains, contents, lettersOf, eventsOf}
+use Rattle.layout.proofs.Finds.{
   event-in,
   event-found,
   event-named,
@@ -33,8 +33,8 @@ use Rattle.sheet.proofs.LayoutFinds.{
   observed-in,
   observed-test,
 }
-use Rattle.sheet.proofs.LayoutExtends.{signal-added}
-use Rattle.sheet.proofs.LayoutRow.{Understood}
+use Rattle.layout.proofs.Extends.{signal-added}
+use Rattle.layout.proofs.Row.{Understood}
 
 -- the tests of a line, in order
 abbrev signalTests : List ℕ → Network → List (List ℕ) → List (Bool × Cause)

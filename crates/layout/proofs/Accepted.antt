@@ -5,12 +5,12 @@ use mathlib.Core.List.{List}
 use Prim.Native.Nat.{ℕ}
 use native.Mathlib.Omega.{arith}
 use Rattle.network.specs.declared.Network.{Network}
 use Rattle.sheet.specs.Reading.{Progress, Stop, Go, progress, answered, read}
 use Rattle.sheet.specs.declared.Outcome.the-variants.{Accepted}
-use Rattle.sheet.specs.Layout.{Layout}
-use Rattle.sheet.proofs.LayoutContains.{Contains}
-use Rattle.sheet.proofs.LayoutWritten.{layout-of}
-use Rattle.sheet.proofs.LayoutRead.{layout-read}
+use Rattle.layout.specs.Layout.{Layout}
+use Rattle.layout.proofs.Contains.{Contains}
+use Rattle.layout.proofs.Written.{layout-of}
+use Rattle.layout.proofs.Read.{layout-read}
 
 -- what is accepted is a reading that has come to its end
 by-accepted : {A : Type 0} (p : Progress) → answered p .outcome ≡ Accepted

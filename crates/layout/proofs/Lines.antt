@@ -14,7 +14,7 @@ use lib.Seq.{drop-drop, drop-append-add}
 use Rattle.prelude.specs.Bytes.{isIn, every}
 use Rattle.prelude.proofs.Tests.{either, clash, and-true}
 use Rattle.text.specs.Lines.{comma, lineFeed, upTo, intoFirst, fields, lineAt, endsAt, afterLine}
-use Rattle.sheet.specs.Layout.{line}
+use Rattle.layout.specs.Layout.{line}
 
 -- a byte of a field: neither a comma nor a line feed
 abbrev pub plain : ℕ → Bool

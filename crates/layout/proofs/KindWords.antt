@@ -11,14 +11,14 @@ use Rattle.prelude.proofs.Bytes.{same-true}
 use Rattle.prelude.proofs.Tests.{either}
 use Rattle.network.specs.declared.Kind.{Kind}
 use Rattle.network.specs.declared.Kind.the-variants.{Max, Min, Fix}
 use Rattle.sheet.specs.Names.{isLetter}
 use Rattle.sheet.specs.Defined.{placeOf, allDefined}
 use Rattle.sheet.specs.Rows.{kindOf}
-use Rattle.sheet.specs.Layout.{Signal, In, Each, kindText}
-use Rattle.sheet.proofs.LayoutLines.{plain}
-use Rattle.sheet.proofs.LayoutLists.{each-mono, each-of-every, every-of-each}
-use Rattle.sheet.proofs.LayoutContains.{lettersOf, SignalsAre}
-use Rattle.sheet.proofs.LayoutFinds.{letter-in, letter-answers, letter-is}
+use Rattle.layout.specs.Layout.{Signal, In, Each, kindText}
+use Rattle.layout.proofs.Lines.{plain}
+use Rattle.layout.proofs.Lists.{each-mono, each-of-every, every-of-each}
+use Rattle.layout.proofs.Contains.{lettersOf, SignalsAre}
+use Rattle.layout.proofs.Finds.{letter-in, letter-answers, letter-is}
 
 -- a field is a kind exactly where it is its word
 pub kind-read : (sheet f : List ℕ) → answers (kindOf sheet f) ≡ true → (k : Kind) × (f ≡ kindText k)

@@ -12,8 +12,8 @@ use Rattle.prelude.specs.Bytes.{every}
 use Rattle.prelude.proofs.Tests.{and-true, and-both, or-true}
 use Rattle.text.specs.Lines.{comma, lineFeed}
 use Rattle.text.specs.Number.{isDigit}
 use Rattle.sheet.specs.Names.{isLetter, isName, isOneLetter}
-use Rattle.sheet.proofs.LayoutLines.{plain}
+use Rattle.layout.proofs.Lines.{plain}
 
 -- a test that holds wherever another does
 pub every-mono : (f g : ℕ → Bool) → ((b : ℕ) → f b ≡ true → g b ≡ true) → (s : List ℕ) → every f s ≡ true

@@ -22,16 +22,16 @@ use Rattle.sheet.specs.Reading.{
   readEnd,
   progress,
 }
-use Rattle.sheet.specs.Layout.{Signal, Rule, Contents, Keeps, Layout, textOf}
-use Rattle.sheet.proofs.LayoutNumbers.{magnitude-decimal}
-use Rattle.sheet.proofs.LayoutContains.{Contains, contents}
-use Rattle.sheet.proofs.LayoutExtends.{empty-contains}
-use Rattle.sheet.proofs.LayoutRow.{Reads}
-use Rattle.sheet.proofs.LayoutEvents.{KeptNames, events-understood}
-use Rattle.sheet.proofs.LayoutSignals.{KeptSignals, signals-understood}
-use Rattle.sheet.proofs.LayoutRules.{KeptRules, rules-understood}
-use Rattle.sheet.proofs.LayoutSection.{count-line-reads, section-reads}
-use Rattle.sheet.proofs.LayoutText.{
+use Rattle.layout.specs.Layout.{Signal, Rule, Contents, Keeps, Layout, textOf}
+use Rattle.layout.proofs.Numbers.{magnitude-decimal}
+use Rattle.layout.proofs.Contains.{Contains, contents}
+use Rattle.layout.proofs.Extends.{empty-contains}
+use Rattle.layout.proofs.Row.{Reads}
+use Rattle.layout.proofs.Events.{KeptNames, events-understood}
+use Rattle.layout.proofs.Signals.{KeptSignals, signals-understood}
+use Rattle.layout.proofs.Rules.{KeptRules, rules-understood}
+use Rattle.layout.proofs.Section.{count-line-reads, section-reads}
+use Rattle.layout.proofs.Text.{
   horizonText,
   eventsText,
   signalsText,

@@ -16,9 +16,9 @@ use Rattle.text.specs.Decimal.{decimal}
 use Rattle.text.proofs.RoundTrip.{valueFrom-decimal, isNatural-decimal, decimal-valueFrom}
 use Rattle.network.specs.Limits as L
 use Rattle.network.specs.WellFormed.{InLimits}
-use Rattle.sheet.specs.Layout.{signedText}
-use Rattle.sheet.proofs.LayoutLines.{plain}
-use Rattle.sheet.proofs.LayoutPlain.{every-mono, digit-bounds, plain-digit}
+use Rattle.layout.specs.Layout.{signedText}
+use Rattle.layout.proofs.Lines.{plain}
+use Rattle.layout.proofs.Plain.{every-mono, digit-bounds, plain-digit}
 
 natural-digits : (f : List ℕ) → isNatural f ≡ true → every isDigit f ≡ true
 natural-digits [] e = clash false e refl

@@ -12,10 +12,10 @@ use Rattle.network.specs.Limits as L
 use Rattle.network.specs.Build.{empty, withEvent, withSignal, withRule, noConstraint}
 use Rattle.network.specs.declared.Network.{Network}
 use Rattle.network.specs.declared.Constraint.{Constraint}
 use Rattle.sheet.specs.Names.{isName}
-use Rattle.sheet.specs.Layout.{Signal, Rule, In, Distinct, Each, KeepsSignal, KeepsRule, noSignal, noRule}
-use Rattle.sheet.proofs.LayoutLists.{by-place, each-snoc, distinct-snoc}
-use Rattle.sheet.proofs.LayoutContains.{lettersOf, eventsOf, Bears, SignalsAre, Means, RulesAre, Contains, contents}
+use Rattle.layout.specs.Layout.{Signal, Rule, In, Distinct, Each, KeepsSignal, KeepsRule, noSignal, noRule}
+use Rattle.layout.proofs.Lists.{by-place, each-snoc, distinct-snoc}
+use Rattle.layout.proofs.Contains.{lettersOf, eventsOf, Bears, SignalsAre, Means, RulesAre, Contains, contents}
 
 module _ {A : Type 0} (d : A) where
   no-each : (P : A → Type 0) → Each P [] d

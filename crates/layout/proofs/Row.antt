@@ -16,10 +16,10 @@ use Rattle.refusal.specs.declared.Cause.{Cause}
 use Rattle.refusal.specs.declared.Cause.the-variants.{MissingLine}
 use Rattle.refusal.specs.declared.Refusal.{Refusal}
 use Rattle.network.specs.declared.Network.{Network}
 use Rattle.sheet.specs.Rows.{Row}
 use Rattle.sheet.specs.Reading.{Progress, Stop, Go, readLine, readRows}
-use Rattle.sheet.specs.Layout.{line, lines}
-use Rattle.sheet.proofs.LayoutLines.{Plain, IsRead, is-read, line-read}
+use Rattle.layout.specs.Layout.{line, lines}
+use Rattle.layout.proofs.Lines.{Plain, IsRead, is-read, line-read}
 
 -- a line of this kind is that of an x: the network holds the xs that have been read, and x may follow them
 pub record Understood (sheet : List ℕ) (row : Row) (hi : ℕ) {X : Type 0} (first : X → List ℕ) (others : X → List (List ℕ))

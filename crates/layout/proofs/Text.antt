@@ -13,10 +13,10 @@ use Rattle.text.specs.Decimal.{decimal}
 use Rattle.refusal.specs.Refusal.{refusal}
 use Rattle.refusal.specs.declared.Cause.the-variants.{TrailingBytes}
 use Rattle.network.specs.declared.Network.{Network}
 use Rattle.sheet.specs.Reading.{Progress, Stop, Go, andThen, readHorizon, readEvents, readSignals, readRules, readEnd}
-use Rattle.sheet.specs.Layout.{Signal, Rule, line, section, kindText}
-use Rattle.sheet.proofs.LayoutRow.{stops, joins}
-use Rattle.sheet.proofs.LayoutRuleRead.{othersOf}
+use Rattle.layout.specs.Layout.{Signal, Rule, line, section, kindText}
+use Rattle.layout.proofs.Row.{stops, joins}
+use Rattle.layout.proofs.RuleRead.{othersOf}
 
 abbrev pub horizonText : ℕ → List ℕ
 horizonText h = line (ascii "horizon") (decimal h ∷ [])

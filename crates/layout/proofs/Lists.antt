@@ -14,7 +14,7 @@ use Rattle.prelude.specs.Bounded.{tabulate}
 use Rattle.prelude.proofs.Bounded.{length-tabulate, getD-tabulate}
 use Rattle.prelude.specs.Bytes.{isIn, every, distinct}
 use Rattle.prelude.proofs.Tests.{either, clash, and-true, and-both, or-true, lt-or-ge}
-use Rattle.sheet.specs.Layout.{In, Distinct, Each}
+use Rattle.layout.specs.Layout.{In, Distinct, Each}
 
 module _ {A : Type 0} (d : A) where
   module _ (xs : List A) (x : A) where

@@ -11,10 +11,10 @@ use lib.ListN.{length}
 use Rattle.prelude.specs.Bytes.{every}
 use Rattle.prelude.proofs.Bytes.{same-true}
 use Rattle.prelude.proofs.Tests.{either, clash, and-true, and-both}
 use Rattle.sheet.specs.Names.{isLetter, areLiterals, isDash, isLabel, Literal, literals, labelOf, lettersOf as lettersRead}
-use Rattle.sheet.specs.Layout.{lettersOf, signText, literalsText, labelText}
-use Rattle.sheet.proofs.LayoutLines.{plain}
-use Rattle.sheet.proofs.LayoutPlain.{letter-bounds, plain-letter}
+use Rattle.layout.specs.Layout.{lettersOf, signText, literalsText, labelText}
+use Rattle.layout.proofs.Lines.{plain}
+use Rattle.layout.proofs.Plain.{letter-bounds, plain-letter}
 
 -- the letters of literals, said twice
 pub lettersRead-is : (ls : List Literal) → lettersRead ls ≡ lettersOf ls

@@ -16,17 +16,17 @@ use Rattle.refusal.specs.declared.Cause.{Cause}
 use Rattle.refusal.specs.declared.Cause.the-variants as C
 use Rattle.network.specs.Limits as L
 use Rattle.network.specs.declared.Network.{Network}
 use Rattle.sheet.specs.Names.{isName, isLabel, labelOf, lettersOf as lettersRead}
 use Rattle.sheet.specs.Defined.{allDefined}
 use Rattle.sheet.specs.Rows.{eventOf, kindOf, ruleRefusal}
-use Rattle.sheet.specs.Layout.{Signal, Rule, KeepsRule, kindText, signedText, labelText}
-use Rattle.sheet.proofs.LayoutChecks.{hold}
-use Rattle.sheet.proofs.LayoutNumbers as N
-use Rattle.sheet.proofs.LayoutLabels.{lettersRead-is, is-label}
-use Rattle.sheet.proofs.LayoutLists.{all-of, distinct-of-test}
-use Rattle.sheet.proofs.LayoutContains.{lettersOf, Contains, contents}
-use Rattle.sheet.proofs.LayoutFinds.{event-in}
-use Rattle.sheet.proofs.LayoutKinds.{kind-read, defined-read}
+use Rattle.layout.specs.Layout.{Signal, Rule, KeepsRule, kindText, signedText, labelText}
+use Rattle.layout.proofs.Checks.{hold}
+use Rattle.layout.proofs.Numbers as N
+use Rattle.layout.proofs.Labels.{lettersRead-is, is-label}
+use Rattle.layout.proofs.Lists.{all-of, distinct-of-test}
+use Rattle.layout.proofs.Contains.{lettersOf, Contains, contents}
+use Rattle.layout.proofs.Finds.{event-in}
+use Rattle.layout.proofs.KindWords.{kind-read, defined-read}
 
 -- the tests of a line, in order
 abbrev pub ruleTests : List ℕ → Network → List (List ℕ) → List (Bool × Cause)

@@ -15,16 +15,16 @@ use Rattle.refusal.specs.declared.Cause.{Cause}
 use Rattle.refusal.specs.declared.Cause.the-variants as C
 use Rattle.network.specs.Limits as L
 use Rattle.network.specs.declared.Network.{Network}
 use Rattle.sheet.specs.Names.{isName}
 use Rattle.sheet.specs.Rows.{eventOf, eventRefusal, eventRow}
-use Rattle.sheet.specs.Layout.{In, Distinct, Each, line}
-use Rattle.sheet.proofs.LayoutChecks.{_&_, hold, none-fails}
-use Rattle.sheet.proofs.LayoutLists.{all-of, each-at, distinct-new}
-use Rattle.sheet.proofs.LayoutPlain.{plain-name}
-use Rattle.sheet.proofs.LayoutContains.{Contains, contents}
-use Rattle.sheet.proofs.LayoutFinds.{event-in, event-answers}
-use Rattle.sheet.proofs.LayoutExtends.{event-added}
-use Rattle.sheet.proofs.LayoutRow.{Understood}
+use Rattle.layout.specs.Layout.{In, Distinct, Each, line}
+use Rattle.layout.proofs.Checks.{_&_, hold, none-fails}
+use Rattle.layout.proofs.Lists.{all-of, each-at, distinct-new}
+use Rattle.layout.proofs.Plain.{plain-name}
+use Rattle.layout.proofs.Contains.{Contains, contents}
+use Rattle.layout.proofs.Finds.{event-in, event-answers}
+use Rattle.layout.proofs.Extends.{event-added}
+use Rattle.layout.proofs.Row.{Understood}
 
 -- the tests of a line, in order
 abbrev eventTests : List ℕ → Network → List (List ℕ) → List (Bool × Cause)

@@ -18,20 +18,20 @@ use Rattle.text.specs.Decimal.{decimal}
 use Rattle.refusal.specs.declared.Cause.{Cause}
 use Rattle.refusal.specs.declared.Cause.the-variants as C
 use Rattle.network.specs.declared.Network.{Network}
 use Rattle.sheet.specs.Rows.{Row, sectionRefusal, sectionCount}
 use Rattle.sheet.specs.Reading.{Progress, Go, readLine, readRows, readSection}
-use Rattle.sheet.specs.Layout.{line, lines, section}
-use Rattle.sheet.proofs.LayoutChecks.{_&_, hold, none-fails}
-use Rattle.sheet.proofs.LayoutLines.{plain, lineOf, is-read, line-read}
-use Rattle.sheet.proofs.LayoutNumbers.{
+use Rattle.layout.specs.Layout.{line, lines, section}
+use Rattle.layout.proofs.Checks.{_&_, hold, none-fails}
+use Rattle.layout.proofs.Lines.{plain, lineOf, is-read, line-read}
+use Rattle.layout.proofs.Numbers.{
   isNumber-decimal,
   magnitude-decimal,
   inRange-decimal,
   plain-decimal,
   decimal-magnitude,
 }
-use Rattle.sheet.proofs.LayoutLists.{all-of}
-use Rattle.sheet.proofs.LayoutRow.{
+use Rattle.layout.proofs.Lists.{all-of}
+use Rattle.layout.proofs.Row.{
   Understood,
   rows-read,
   Reads,

@@ -14,18 +14,18 @@ use Rattle.refusal.specs.declared.Cause.the-variants.{TooLong}
 use Rattle.network.specs.Limits as L
 use Rattle.network.specs.Build.{empty}
 use Rattle.network.specs.declared.Network.{Network}
 use Rattle.sheet.specs.Rows.{sectionCount}
 use Rattle.sheet.specs.Reading.{longest, Go, andThen, readHorizon, readEvents, readSignals, readRules, readEnd, progress}
-use Rattle.sheet.specs.Layout.{Signal, Contents, Keeps, Layout, line, kindText}
-use Rattle.sheet.proofs.LayoutContains.{Contains, contents}
-use Rattle.sheet.proofs.LayoutExtends.{empty-contains}
-use Rattle.sheet.proofs.LayoutRow.{stops}
-use Rattle.sheet.proofs.LayoutEvents.{events-understood}
-use Rattle.sheet.proofs.LayoutSignals.{signals-understood}
-use Rattle.sheet.proofs.LayoutRuleRead.{othersOf}
-use Rattle.sheet.proofs.LayoutRules.{rules-understood}
-use Rattle.sheet.proofs.LayoutSection.{count-line-read, SectionRead, section-read}
-use Rattle.sheet.proofs.LayoutText.{
+use Rattle.layout.specs.Layout.{Signal, Contents, Keeps, Layout, line, kindText}
+use Rattle.layout.proofs.Contains.{Contains, contents}
+use Rattle.layout.proofs.Extends.{empty-contains}
+use Rattle.layout.proofs.Row.{stops}
+use Rattle.layout.proofs.Events.{events-understood}
+use Rattle.layout.proofs.Signals.{signals-understood}
+use Rattle.layout.proofs.RuleRead.{othersOf}
+use Rattle.layout.proofs.Rules.{rules-understood}
+use Rattle.layout.proofs.Section.{count-line-read, SectionRead, section-read}
+use Rattle.layout.proofs.Text.{
   horizonText,
   eventsText,
   signalsText,

@@ -8,9 +8,9 @@ use Rattle.network.specs.Limits as L
 use Rattle.network.specs.Build.{noConstraint}
 use Rattle.network.specs.declared.Constraint.{Constraint}
 use Rattle.network.specs.declared.Network.{Network}
 use Rattle.sheet.specs.Names.{isName}
 use Rattle.sheet.specs.Defined.{maskOf}
-use Rattle.sheet.specs.Layout.{Signal, Rule, Contents, Distinct, Each, KeepsSignal, KeepsRule, noSignal, noRule}
+use Rattle.layout.specs.Layout.{Signal, Rule, Contents, Distinct, Each, KeepsSignal, KeepsRule, noSignal, noRule}
 
 -- the letters and the events of signals
 abbrev pub lettersOf : List Signal → List ℕ

@@ -13,11 +13,11 @@ use Rattle.prelude.specs.Search.{firstBelow, when, answers}
 use Rattle.prelude.specs.Bytes.{same}
 use Rattle.prelude.proofs.Bytes.{same-true, same-of-eq}
 use Rattle.prelude.proofs.Search.{answered}
 use Rattle.sheet.specs.Names.{isLetter, Literal}
 use Rattle.sheet.specs.Defined.{eventNamed, placeOf, weight, weights, maskOf}
-use Rattle.sheet.specs.Layout.{Signal, In, Distinct, noSignal}
-use Rattle.sheet.proofs.LayoutSearch.{found, finds, firstBelow-same}
-use Rattle.sheet.proofs.LayoutContains.{lettersOf, eventsOf, Bears, NamesAre, SignalsAre}
+use Rattle.layout.specs.Layout.{Signal, In, Distinct, noSignal}
+use Rattle.layout.proofs.Search.{found, finds, firstBelow-same}
+use Rattle.layout.proofs.Contains.{lettersOf, eventsOf, Bears, NamesAre, SignalsAre}
 
 -- an event is found by its name
 module _ {sheet : List ℕ} {n : ℕ} {starts lengths : List ℕ} {names : List (List ℕ)} (ns : NamesAre sheet n starts lengths names)

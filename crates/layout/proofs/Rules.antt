@@ -12,22 +12,22 @@ use Rattle.prelude.proofs.Tests.{and-both}
 use Rattle.text.specs.Number.{magnitude}
 use Rattle.network.specs.Limits as L
 use Rattle.network.specs.declared.Network.{Network}
 use Rattle.sheet.specs.Names.{isLetter, isName, isLabel, labelOf, lettersOf as lettersRead}
 use Rattle.sheet.specs.Defined.{allDefined, maskOf}
 use Rattle.sheet.specs.Rows.{eventOf, ruleOf, ruleRefusal, ruleRow}
-use Rattle.sheet.specs.Layout.{Signal, Rule, In, Each, KeepsRule, noRule, kindText, signedText, labelText, lettersOf as lettersWritten}
-use Rattle.sheet.proofs.LayoutChecks.{_&_, none-fails}
-use Rattle.sheet.proofs.LayoutLines.{Plain}
-use Rattle.sheet.proofs.LayoutPlain.{plain-name}
-use Rattle.sheet.proofs.LayoutNumbers as N
-use Rattle.sheet.proofs.LayoutLabels.{lettersRead-is, labelOf-labelText, isLabel-labelText, plain-labelText}
-use Rattle.sheet.proofs.LayoutLists.{each-at, each-in, test-of-distinct}
-use Rattle.sheet.proofs.LayoutContains.{lettersOf, Bears, Means, Contains, contents}
-use Rattle.sheet.proofs.LayoutFinds.{event-answers, event-found, event-named, mask-is}
-use Rattle.sheet.proofs.LayoutKinds.{kind-passes, kind-is, plain-kind, defined-passes, letters-are}
-use Rattle.sheet.proofs.LayoutExtends.{rule-added}
-use Rattle.sheet.proofs.LayoutRow.{Understood}
-use Rattle.sheet.proofs.LayoutRuleRead.{ruleTests, othersOf, rule-read}
+use Rattle.layout.specs.Layout.{Signal, Rule, In, Each, KeepsRule, noRule, kindText, signedText, labelText, lettersOf as lettersWritten}
+use Rattle.layout.proofs.Checks.{_&_, none-fails}
+use Rattle.layout.proofs.Lines.{Plain}
+use Rattle.layout.proofs.Plain.{plain-name}
+use Rattle.layout.proofs.Numbers as N
+use Rattle.layout.proofs.Labels.{lettersRead-is, labelOf-labelText, isLabel-labelText, plain-labelText}
+use Rattle.layout.proofs.Lists.{each-at, each-in, test-of-distinct}
+use Rattle.layout.proofs.Contains.{lettersOf, Bears, Means, Contains, contents}
+use Rattle.layout.proofs.Finds.{event-answers, event-found, event-named, mask-is}
+use Rattle.layout.proofs.KindWords.{kind-passes, kind-is, plain-kind, defined-passes, letters-are}
+use Rattle.layout.proofs.Extends.{rule-added}
+use Rattle.layout.proofs.Row.{Understood}
+use Rattle.layout.proofs.RuleRead.{ruleTests, othersOf, rule-read}
 
 -- rules that keep those of the layout
 pub record KeptRules (names : List (List ℕ)) (xs : List Signal) (rs : List Rule) : Type 0 where

@@ -1,0 +1,22 @@
+-- The reading accepts exactly the layout: start at Accepted, which is the last and the theorem.
+pub mod Checks
+pub mod Lines
+pub mod Plain
+pub mod Numbers
+pub mod Labels
+pub mod Lists
+pub mod Search
+pub mod Contains
+pub mod Finds
+pub mod Extends
+pub mod Row
+pub mod Events
+pub mod Signals
+pub mod KindWords
+pub mod RuleRead
+pub mod Rules
+pub mod Section
+pub mod Text
+pub mod Written
+pub mod Read
+pub mod Accepted
