@@ -1,2 +1,3 @@
--- The trial sheets.
+-- The demands, and the trial sheets.
+pub mod Demands
 pub mod Trials

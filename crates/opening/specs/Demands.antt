@@ -13,6 +13,7 @@ use Rattle.network.specs.declared.Network.{Network}
 use Rattle.sheet.specs.Reading.{read}
 use Rattle.sheet.specs.declared.Outcome.the-variants.{Accepted}
 use Rattle.sheet.specs.declared.Reading.{Reading}
+use Rattle.layout.specs.Layout.{Layout}
 use Rattle.checker.specs.Verdict.{verdict}
 use Rattle.checker.specs.First.{First}
 use Rattle.checker.specs.declared.Breach.{Breach}
@@ -26,7 +27,9 @@ pub record Reads (sheet : List ℕ) (Γ : Network) : Type 0 where
   pub network : read sheet .network ≡ Γ
 
 pub record Demands : Type 0 where
-  -- demand 2: "The judge passes a table for an accepted sheet exactly when the three points of a good table hold"
+  -- demand 2: "A sheet is accepted when it keeps every rule of its layout, otherwise refused"
+  pub accepted : (sheet : List ℕ) → (read sheet .outcome ≡ Accepted) ↔ Layout sheet
+  -- "The judge passes a table for an accepted sheet exactly when the three points of a good table hold"
   pub judged : (sheet σ : List ℕ) (Γ : Network) → Reads sheet Γ → length σ ≡ cells Γ → (verdict Γ σ ≡ Pass) ↔ Solution Γ σ
   -- and a breach that it names is the first in document 01's order
   pub breach-first : (sheet σ : List ℕ) (Γ : Network) (b : Breach) → Reads sheet Γ → verdict Γ σ ≡ Breached b → First Γ σ b

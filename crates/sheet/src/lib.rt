@@ -1,6 +1,22 @@
 // The sheet: bytes to a network, or a refusal with its line.
+ghost use mathlib.Core.Path.{_≡_};
+ghost use Rattle.sheet.specs.Reading.{read};
+
+mod field;
+mod label;
+mod lookup;
+mod row;
+mod section;
+mod token;
+
+use network::Constraint;
+use network::Kind;
 use network::Network;
+use refusal::Cause;
 use refusal::Refusal;
+
+// The most bytes of a sheet.
+const LONGEST: usize = 4096;
 
 pub enum Outcome {
     Accepted,
@@ -11,4 +27,90 @@ pub enum Outcome {
 pub struct Reading {
     pub outcome: Outcome,
     pub network: Network,
+}
+
+// The place of what was looked for.
+enum Found {
+    At(usize),
+    Nothing,
+}
+
+// A test with the cause of its failure, and what comes of several.
+struct Test {
+    passes: bool,
+    cause: Cause,
+}
+
+enum Check {
+    Passed,
+    Refused(Cause),
+}
+
+// The first field of a rule.
+enum KindField {
+    Is(Kind),
+    Other,
+}
+
+// The limit of a rule, in minutes.
+enum Limit {
+    IllFormed,
+    Beyond,
+    Minutes(i32),
+}
+
+// A line of each section: why it is refused, or what it holds, and how long it is without its line feed.
+enum SectionRow {
+    Refused(Cause),
+    Count { count: u32, length: usize },
+}
+
+enum EventRow {
+    Refused(Cause),
+    Event(usize),
+}
+
+enum SignalRow {
+    Refused(Cause),
+    Signal {
+        letter: u8,
+        observation: usize,
+        length: usize,
+    },
+}
+
+enum RuleRow {
+    Refused(Cause),
+    Rule {
+        constraint: Constraint,
+        length: usize,
+    },
+}
+
+// How far the reader has come: refused, or the place of the next line and its number, with the network so far.
+enum Step {
+    Refused(Refusal),
+    Next { at: usize, line: u16 },
+}
+
+struct Reached {
+    step: Step,
+    network: Network,
+}
+
+// The whole sheet.
+pub fn read(sheet: &[u8]) -> Reading
+    ensures { λ r. ⌜ r ≡ read (now (sheet .entry)) ⌝ }
+{
+    if LONGEST < sheet.len() {
+        return section::rejected(Refusal {
+            cause: Cause::TooLong,
+            line: 0,
+        });
+    }
+    let horizon = section::read_horizon(sheet);
+    let events = section::events_after(sheet, horizon);
+    let signals = section::signals_after(sheet, events);
+    let rules = section::rules_after(sheet, signals);
+    section::end_of(sheet, rules)
 }

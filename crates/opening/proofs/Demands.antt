@@ -1,0 +1,33 @@
+-- The demands hold: each is cited from the crate that proves it. Assumes nothing.
+use mathlib.Core.Path.{_≡_, sym}
+use mathlib.Core.Logic.{_↔_}
+use mathlib.Core.List.{List}
+use Prim.Native.Nat.{ℕ}
+use Rattle.fixpoint.specs.Run.{Rests}
+use Rattle.network.specs.Least.{Least, Inconsistent}
+use Rattle.network.specs.WellFormed.{WellFormed}
+use Rattle.network.specs.declared.Network.{Network}
+use Rattle.sheet.proofs.WellFormed.{accepted-well-formed}
+use Rattle.layout.proofs.Accepted.{accepted-iff}
+use Rattle.checker.proofs.Judged.{judged, breach-first}
+use Rattle.solver.specs.Solve.{solve}
+use Rattle.solver.proofs.Hyperarcs.{hyperarcs-agree}
+use Rattle.solver.proofs.Least.{solve-least, solve-none}
+use Rattle.opening.specs.Demands.{Reads, Demands}
+
+-- the network of an accepted sheet is well-formed
+pub reads-well-formed : {sheet : List ℕ} {Γ : Network} → Reads sheet Γ → WellFormed Γ
+reads-well-formed {sheet} r = rw (← r .network) (accepted-well-formed sheet (r .accepted) .0)
+
+pub demands : Demands
+demands = record {
+  accepted = accepted-iff;
+  judged = λ sheet σ Γ r l. judged Γ σ l;
+  breach-first = λ sheet σ Γ b r e. breach-first Γ σ b e;
+  agree = λ sheet σ Γ r. hyperarcs-agree Γ σ (reads-well-formed r);
+  least = λ sheet Γ r e. solve-least Γ (reads-well-formed r) e;
+  none = λ sheet Γ r. (
+    λ n. solve-none Γ (reads-well-formed r) n,
+    λ i e. i .none (solve Γ .reached) (solve-least Γ (reads-well-formed r) e .solves),
+  );
+}

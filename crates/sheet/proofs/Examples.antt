@@ -1,0 +1,136 @@
+-- Sheets and what reading them answers: refusals 1 to 10 with their lines, and sheets that are accepted. One table, which one theorem
+-- covers by computation. Assumes nothing.
+use mathlib.Core.Path.{_≡_, refl}
+use mathlib.Core.Bool.{Bool, true, _&&_}
+use mathlib.Core.List.{List, [], _∷_, _++_}
+use Prim.Native.Nat.{ℕ}
+use Prim.Native.String.{String}
+use lib.Dec.{eqb}
+use lib.ListN.{replicate}
+use Rattle.prelude.specs.Bytes.{ascii}
+use Rattle.text.specs.Lines.{lineFeed}
+use Rattle.text.specs.Number.{isNumber, inRange}
+use Rattle.refusal.specs.Refusal.{numberOf}
+use Rattle.sheet.specs.Rows.{sectionRefusal, eventRefusal, signalRefusal, ruleRefusal}
+use Rattle.sheet.specs.Reading.{Progress, Stop, Go, progress}
+
+-- lines of text, each with its line feed
+abbrev lines : List String → List ℕ
+lines [] = []
+lines (l ∷ ls) = ascii l ++ lineFeed ∷ lines ls
+
+-- a sheet, and the number and the line of its refusal, or 0 and 0
+record Example : Type 0 where
+  sheet : List ℕ
+  number : ℕ
+  line : ℕ
+
+abbrev refused : ℕ → ℕ → List ℕ → Example
+refused n k s = record { sheet = s; number = n; line = k }
+
+abbrev accepted : List ℕ → Example
+accepted s = record { sheet = s; number = 0; line = 0 }
+
+-- a sheet whose horizon, events, signals and rules are given
+abbrev sheetOf : List String → List String → List String → List String → List ℕ
+sheetOf h e s r = lines (h ++ e ++ s ++ r)
+
+abbrev hour : List String
+hour = "horizon,60" ∷ []
+
+abbrev two : List String
+two = "events,2" ∷ "start" ∷ "door" ∷ []
+
+abbrev none : List String
+none = "signals,0" ∷ []
+
+abbrev one : List String
+one = "signals,1" ∷ "p,door" ∷ []
+
+-- one rule, which is line 8
+abbrev rule : String → List ℕ
+rule r = sheetOf hour two one ("rules,1" ∷ r ∷ [])
+
+abbrev examples : List Example
+examples =
+    -- 1, 2: too long; a line is missing, or has no line feed
+    refused 1 0 (replicate 4097 0)
+    ∷ refused 2 1 []
+    ∷ refused 2 1 (ascii "horizon,60")
+    ∷ refused 2 3 (lines ("horizon,60" ∷ "events,1" ∷ []))
+    ∷ refused 2 5 (lines (hour ++ two))
+    ∷ refused 2 7 (sheetOf hour two none ("rules,1" ∷ []))
+    -- 3: fields, section words and kinds
+    ∷ refused 3 1 (lines ("horizon" ∷ []))
+    ∷ refused 3 1 (lines ("horizon,60," ∷ []))
+    ∷ refused 3 1 (lines ("Horizon,60" ∷ []))
+    ∷ refused 3 2 (lines ("horizon,60" ∷ "event,1" ∷ []))
+    ∷ refused 3 3 (lines ("horizon,60" ∷ "events,1" ∷ "start,0" ∷ []))
+    ∷ refused 3 8 (rule "max,start,door,5")
+    ∷ refused 3 8 (rule "most,start,door,5,-")
+    -- 4, 5: numbers
+    ∷ refused 4 1 (lines ("horizon,010" ∷ []))
+    ∷ refused 4 1 (lines ("horizon,-0" ∷ []))
+    ∷ refused 4 1 (lines ("horizon,+5" ∷ []))
+    ∷ refused 4 1 (lines ("horizon," ∷ []))
+    ∷ refused 4 8 (rule "max,start,door,-0,-")
+    ∷ refused 5 1 (lines ("horizon,10081" ∷ []))
+    ∷ refused 5 1 (lines ("horizon,-1" ∷ []))
+    ∷ refused 5 1 (lines ("horizon,99999999999999999999999999" ∷ []))
+    ∷ refused 5 2 (lines ("horizon,60" ∷ "events,0" ∷ []))
+    ∷ refused 5 2 (lines ("horizon,60" ∷ "events,17" ∷ []))
+    ∷ refused 5 5 (sheetOf hour two ("signals,5" ∷ []) [])
+    ∷ refused 5 6 (sheetOf hour two none ("rules,65" ∷ []))
+    ∷ refused 5 8 (rule "max,start,door,10081,-")
+    ∷ refused 5 8 (rule "max,start,door,-10081,-")
+    -- 6: names, letters and labels
+    ∷ refused 6 3 (lines ("horizon,60" ∷ "events,1" ∷ "Start" ∷ []))
+    ∷ refused 6 3 (lines ("horizon,60" ∷ "events,1" ∷ "ninebytes" ∷ []))
+    ∷ refused 6 3 (lines ("horizon,60" ∷ "events,1" ∷ "" ∷ []))
+    ∷ refused 6 6 (sheetOf hour two ("signals,1" ∷ "pq,door" ∷ []) [])
+    ∷ refused 6 8 (rule "max,start,door,5,")
+    ∷ refused 6 8 (rule "max,start,door,5,p!")
+    ∷ refused 6 8 (rule "max,start,door,5,!!p")
+    -- 7: defined twice
+    ∷ refused 7 4 (lines ("horizon,60" ∷ "events,2" ∷ "start" ∷ "start" ∷ []))
+    ∷ refused 7 7 (sheetOf hour two ("signals,2" ∷ "p,door" ∷ "p,start" ∷ []) [])
+    ∷ refused 7 7 (sheetOf hour two ("signals,2" ∷ "p,door" ∷ "q,door" ∷ []) [])
+    -- 8, 9: not defined; a letter twice
+    ∷ refused 8 6 (sheetOf hour two ("signals,1" ∷ "p,lock" ∷ []) [])
+    ∷ refused 8 8 (rule "max,start,lock,5,-")
+    ∷ refused 8 8 (rule "max,start,door,5,q")
+    ∷ refused 9 8 (rule "max,start,door,5,p!p")
+    ∷ refused 9 8 (rule "max,start,door,5,pp")
+    -- 10: bytes behind the last rule
+    ∷ refused 10 7 (sheetOf hour two none ("rules,0" ∷ "" ∷ []))
+    ∷ refused 10 9 (rule "max,start,door,5,p" ++ ascii "x")
+    -- two faults on one line: the lowest number; on two lines: the first
+    ∷ refused 3 8 (rule "most,start,lock,010,p!p")
+    ∷ refused 4 8 (rule "max,start,lock,010,p!p")
+    ∷ refused 5 8 (rule "max,Start,lock,10081,p!p")
+    ∷ refused 6 8 (rule "max,Start,lock,5,p!p")
+    ∷ refused 8 8 (rule "max,start,lock,5,p!p")
+    ∷ refused 8 8 (rule "max,start,door,5,ppq")
+    ∷ refused 7 7 (sheetOf hour two ("signals,2" ∷ "p,door" ∷ "p,lock" ∷ []) [])
+    ∷ refused 6 3 (lines ("horizon,60" ∷ "events,1" ∷ "Start" ∷ "signals,5" ∷ []))
+    -- accepted: the ends of the ranges, a rule from an event to itself, and rules that repeat
+    ∷ accepted (sheetOf ("horizon,10080" ∷ []) two none ("rules,0" ∷ []))
+    ∷ accepted (sheetOf ("horizon,0" ∷ []) ("events,1" ∷ "a234567z" ∷ []) none ("rules,0" ∷ []))
+    ∷ accepted (rule "max,start,start,0,-")
+    ∷ accepted (rule "max,start,door,10080,p")
+    ∷ accepted (rule "min,door,start,-10080,!p")
+    ∷ accepted (sheetOf hour two one ("rules,2" ∷ "fix,start,door,5,p" ∷ "fix,start,door,5,p" ∷ []))
+    ∷ []
+
+-- whether reading ends so
+abbrev ends : Progress → ℕ → ℕ → Bool
+ends (Stop r) n k = eqb (numberOf (r .cause)) n && eqb (r .line) k
+ends (Go Γ at j) n k = eqb 0 n && eqb 0 k
+
+abbrev allEnd : List Example → Bool
+allEnd [] = true
+allEnd (x ∷ xs) = ends (progress (x .sheet)) (x .number) (x .line) && allEnd xs
+
+pub examples-end : allEnd examples ≡ true
+unfolding isNumber inRange sectionRefusal eventRefusal signalRefusal ruleRefusal progress
+examples-end = refl

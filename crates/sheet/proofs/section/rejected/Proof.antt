@@ -1,0 +1,13 @@
+-- An empty network stands beside a refusal. Assumes nothing.
+use borrow.Author.Needs.{needs}
+use Rattle.sheet.proofs.section.rejected.Statement.{statement}
+use Rattle.sheet.proofs.section.rejected.Tie as tie
+
+empty-requires : tie.Need-empty-requires
+empty-requires c κs = search needs
+
+returns : tie.Need-returns
+returns c = rw (c .empty .ensures)
+
+pub rejected-spec : {M : Type 1} → statement M
+rejected-spec = tie.close (tie.spec empty-requires returns)

@@ -1,0 +1,140 @@
+-- The invariant: the lines that are left give what all of them give, and the sheet is at its stage (`RulesLeft`).
+-- Assumes nothing.
+use borrow.Author.Needs.{needs}
+use mathlib.Core.Path.{refl, sym, _∙_}
+use native.Mathlib.Omega.{arith}
+use Rattle.sheet.specs.Rows.{ruleRow}
+use Rattle.sheet.specs.Reading.{readRows}
+use Rattle.sheet.proofs.Turns.{reads-end}
+use Rattle.sheet.proofs.Lines.{RulesLeft, names-in, rule-stop, rule-turn}
+use Rattle.sheet.proofs.section.rule_rows.Statement.{statement}
+use Rattle.sheet.proofs.section.rule_rows.Tie as tie
+
+abbrev Inv-loop : tie.InvT-loop
+Inv-loop sheet m at k w₀ place₀ line₀ left₀ w place line left = RulesLeft sheet (readRows sheet (ruleRow sheet) m w₀ at k) left w place line
+
+abbrev μ-loop : tie.MeasureT-loop
+μ-loop sheet m at k w₀ place₀ line₀ left₀ w place line left = left
+
+loop-holds : tie.Need-loop-holds Inv-loop μ-loop
+loop-holds c = record { rest = refl; stage = c .before .pre .1 }
+
+sub-rule-row : tie.Need-sub-rule-row Inv-loop μ-loop
+sub-rule-row c = c .before .loop .inv .stage .inside
+
+part-rule-row-start : tie.Need-part-rule-row-start Inv-loop μ-loop
+part-rule-row-start c = c .before .loop .inv .stage .inside
+
+part-rule-row-end : tie.Need-part-rule-row-end Inv-loop μ-loop
+part-rule-row-end c = search needs
+
+rule-row-requires : tie.Need-rule-row-requires Inv-loop μ-loop
+rule-row-requires c κs =
+    let loop = c .before .before .before .before .before .before .loop in
+    (names-in (loop .inv .stage), omega (arith, loop .inv .stage .signals))
+
+enum-known-row : tie.Need-enum-known-row Inv-loop μ-loop
+enum-known-row c = search needs
+
+refused-requires : tie.Need-refused-requires Inv-loop μ-loop
+refused-requires c κs = search needs
+
+returns : tie.Need-returns Inv-loop μ-loop
+returns c =
+    let loop = c .before .before .before .before .before .before .before .before .before .before .before .loop in
+    let test = c .before .before .before .before .before .before .before .before .before .before .loop-test in
+    let rule-row = c .before .before .before .before .rule-row in
+    let row = c .before .before .row in
+    c .refused .ensures ∙ rule-stop (loop .inv) (test .taken) (row .given .0 .0)
+    (sym (rule-row .ensures) ∙ row .given .1)
+
+enum-known-row-2 : tie.Need-enum-known-row-2 Inv-loop μ-loop
+enum-known-row-2 c = search needs
+
+mul-constraint : tie.Need-mul-constraint Inv-loop μ-loop
+mul-constraint c =
+    let loop = c .before .before .before .before .before .before .before .before .before .before .loop in
+    omega (arith, loop .inv .stage .rules)
+
+element-set-from-constraint : tie.Need-element-set-from-constraint Inv-loop μ-loop
+element-set-from-constraint c =
+    let loop = c .before .before .before .before .before .before .before .before .before .before .loop in
+    omega (arith, loop .inv .stage .rules)
+
+add-w : tie.Need-add-w Inv-loop μ-loop
+add-w c =
+    let loop = c .before .before .before .before .before .before .before .before .before .before .loop in
+    omega (arith, loop .inv .stage .rules)
+
+add-place : tie.Need-add-place Inv-loop μ-loop
+add-place c =
+    let pre = c .before .before .before .before .before .before .before .before .before .before .before .before .pre in
+    let loop = c .before .before .before .before .before .before .before .before .before .before .loop in
+    let test = c .before .before .before .before .before .before .before .before .before .loop-test in
+    let row2 = c .before .row2 in
+    let turn = rule-turn (loop .inv) (test .taken) (row2 .given .0 .0) (row2 .given .0 .1 .0)
+    (sym (c .before .before .before .rule-row .ensures) ∙ row2 .given .1) in
+    omega (arith, turn .inside, pre .0)
+
+add-place-2 : tie.Need-add-place-2 Inv-loop μ-loop
+add-place-2 c =
+    let pre = c .before .before .before .before .before .before .before .before .before .before .before .before .pre in
+    let loop = c .before .before .before .before .before .before .before .before .before .before .loop in
+    let test = c .before .before .before .before .before .before .before .before .before .loop-test in
+    let row2 = c .before .row2 in
+    let turn = rule-turn (loop .inv) (test .taken) (row2 .given .0 .0) (row2 .given .0 .1 .0)
+    (sym (c .before .before .before .rule-row .ensures) ∙ row2 .given .1) in
+    omega (arith, turn .inside, pre .0)
+
+add-line : tie.Need-add-line Inv-loop μ-loop
+add-line c =
+    let pre = c .before .before .before .before .before .before .before .before .before .before .before .before .pre in
+    let loop = c .before .before .before .before .before .before .before .before .before .before .loop in
+    omega (arith, loop .inv .stage .line, loop .inv .stage .inside, pre .0)
+
+sub-left : tie.Need-sub-left Inv-loop μ-loop
+sub-left c =
+    let test = c .before .before .before .before .before .before .before .before .before .loop-test in
+    omega (arith, test .taken)
+
+loop-less : tie.Need-loop-less Inv-loop μ-loop
+loop-less c =
+    let test = c .before .before .before .before .before .before .before .before .before .loop-test in
+    omega (arith, test .taken)
+
+loop-again : tie.Need-loop-again Inv-loop μ-loop
+loop-again c =
+    let loop = c .before .before .before .before .before .before .before .before .before .before .loop in
+    let test = c .before .before .before .before .before .before .before .before .before .loop-test in
+    let row2 = c .before .row2 in
+    rule-turn (loop .inv) (test .taken) (row2 .given .0 .0) (row2 .given .0 .1 .0)
+    (sym (c .before .before .before .rule-row .ensures) ∙ row2 .given .1) .next
+
+returns-2 : tie.Need-returns-2 Inv-loop μ-loop
+returns-2 c = reads-end (c .before .loop .inv) (c .loop-test .left)
+
+pub rule-rows-spec : {M : Type 1} → statement M
+rule-rows-spec =
+    tie.close
+    (tie.spec
+    Inv-loop
+    μ-loop
+    loop-holds
+    sub-rule-row
+    part-rule-row-start
+    part-rule-row-end
+    rule-row-requires
+    enum-known-row
+    refused-requires
+    returns
+    enum-known-row-2
+    mul-constraint
+    element-set-from-constraint
+    add-w
+    add-place
+    add-place-2
+    add-line
+    sub-left
+    loop-less
+    loop-again
+    returns-2)

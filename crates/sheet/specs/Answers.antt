@@ -1,0 +1,185 @@
+-- What the readers of a line answer, and what they are lent.
+use mathlib.Core.Bool.{Bool, true, false, _&&_, cond}
+use mathlib.Core.Option.{Option, none, some, Option·getD}
+use mathlib.Core.List.{List, [], _∷_}
+use Prim.Native.Nat.{ℕ, _+_, _≤_, _<_}
+use lib.IntN.{ℤ}
+use lib.Dec.{eqb, leb}
+use lib.ListN.{length, getD}
+use Rattle.prelude.specs.Search.{firstBelow, when, answers}
+use Rattle.prelude.specs.Bytes.{isIn, same, distinct}
+use Rattle.prelude.specs.Checks.{firstFailing}
+use Rattle.text.specs.Lines.{lineFeed, upTo, fields, field}
+use Rattle.text.specs.Number.{isNumber, inRange, magnitude, valueOf}
+use Rattle.refusal.specs.declared.Cause.{Cause}
+use Rattle.refusal.specs.declared.Cause.the-variants as C
+use Rattle.network.specs.Limits as L
+use Rattle.network.specs.declared.Kind.{Kind}
+use Rattle.network.specs.declared.Constraint.{Constraint}
+use Rattle.network.specs.declared.Network.{Network}
+use Rattle.sheet.specs.Names.{isName, isLabel, labelOf, lettersOf}
+use Rattle.sheet.specs.Defined.{allDefined, maskOf}
+use Rattle.sheet.specs.Rows.{sectionCount, eventOf, eventRefusal, signalRefusal, ruleRefusal, ruleOf}
+use Rattle.sheet.specs.declared.Check.{Check}
+use Rattle.sheet.specs.declared.Check.the-variants as K
+use Rattle.sheet.specs.declared.KindField.{KindField}
+use Rattle.sheet.specs.declared.KindField.the-variants as F
+use Rattle.sheet.specs.declared.Limit.{Limit}
+use Rattle.sheet.specs.declared.Limit.the-variants as M
+use Rattle.sheet.specs.declared.SectionRow.{SectionRow}
+use Rattle.sheet.specs.declared.SectionRow.the-variants as S
+use Rattle.sheet.specs.declared.EventRow.{EventRow}
+use Rattle.sheet.specs.declared.EventRow.the-variants as E
+use Rattle.sheet.specs.declared.SignalRow.{SignalRow}
+use Rattle.sheet.specs.declared.SignalRow.the-variants as G
+use Rattle.sheet.specs.declared.RuleRow.{RuleRow}
+use Rattle.sheet.specs.declared.RuleRow.the-variants as R
+use Rattle.sheet.specs.declared.Found.{Found}
+use Rattle.sheet.specs.declared.Found.the-variants.{At, Nothing}
+
+-- why a line is refused: it has no end, or its fields do not pass
+abbrev pub endsOr : Bool → Option Cause → Option Cause
+endsOr false o = some C.MissingLine
+endsOr true o = o
+
+-- the same for the line that begins here
+abbrev pub lineRefusal : List ℕ → Option Cause → Option Cause
+lineRefusal rest o = endsOr (isIn lineFeed rest) o
+
+-- a place, if there is one
+abbrev pub foundOf : Option ℕ → Found
+foundOf none = Nothing
+foundOf (some u) = At u
+
+abbrev pub isFound : Found → Bool
+isFound Nothing = false
+isFound (At u) = true
+
+abbrev pub placeOr : Found → ℕ
+placeOr Nothing = 0
+placeOr (At u) = u
+
+-- the names of n events are parts of the sheet
+pub record NamesIn (sheet : List ℕ) (n : ℕ) (starts lengths : List ℕ) : Type 0 where
+  pub few : n ≤ L.events
+  pub inside : (u : ℕ) → u < n → getD starts u 0 + getD lengths u 0 ≤ length sheet
+
+-- whether one of k signals is given by event u
+abbrev pub givesSignal : ℕ → List ℕ → ℕ → Bool
+givesSignal k observations u = answers (firstBelow k (λ p. when (eqb (getD observations p 0) u) p))
+
+-- the same of an event that was looked for
+abbrev pub givesFound : ℕ → List ℕ → Found → Bool
+givesFound k observations Nothing = false
+givesFound k observations (At u) = givesSignal k observations u
+
+-- the tests passed, or one of them did not
+abbrev pub checkOf : Option Cause → Check
+checkOf none = K.Passed
+checkOf (some c) = K.Refused c
+
+-- a rule's kind, if it is one
+abbrev pub kindFound : Option Kind → KindField
+kindFound none = F.Other
+kindFound (some k) = F.Is k
+
+-- a rule's limit: "A number is ill-formed", "beyond its range", or so many minutes
+unfoldable pub limitOf : List ℕ → Limit
+limitOf f = cond (isNumber f) (cond (leb (magnitude f) L.horizon) (M.Minutes (valueOf f)) M.Beyond) M.IllFormed
+
+-- what a network is as far as the lines of the sheet are read against it
+abbrev pub partsOf : ℕ → List ℕ → List ℕ → ℕ → List ℕ → List ℕ → Network
+partsOf n starts lengths k letters observations = record {
+  horizon = 0;
+  events = n;
+  starts = starts;
+  lengths = lengths;
+  signals = k;
+  letters = letters;
+  observations = observations;
+  rules = 0;
+  constraints = [];
+}
+
+-- a section's line, with its word as bytes
+unfoldable pub wordRefusal : List ℕ → ℕ → ℕ → List (List ℕ) → Option Cause
+wordRefusal word lo hi fs =
+    firstFailing
+    ((eqb (length fs) 2 && same (field 0 fs) word, C.WrongFields)
+    ∷ (isNumber (field 1 fs), C.IllFormedNumber)
+    ∷ (inRange lo hi (field 1 fs), C.OutOfRange)
+    ∷ [])
+
+-- what the reader of a line answers: its refusal, or what it holds and how long it is
+abbrev pub sectionAnswer : Option Cause → ℕ → ℕ → SectionRow
+sectionAnswer (some c) m n = S.Refused c
+sectionAnswer none m n = S.Count m n
+
+abbrev pub eventAnswer : Option Cause → ℕ → EventRow
+eventAnswer (some c) n = E.Refused c
+eventAnswer none n = E.Event n
+
+abbrev pub signalAnswer : Option Cause → ℕ → ℕ → ℕ → SignalRow
+signalAnswer (some c) b u n = G.Refused c
+signalAnswer none b u n = G.Signal b u n
+
+abbrev pub ruleAnswer : Option Cause → Constraint → ℕ → RuleRow
+ruleAnswer (some c) x n = R.Refused c
+ruleAnswer none x n = R.Rule x n
+
+-- the ends and the label of a rule, whose kind and limit have passed
+abbrev pub endsAnswer : List ℕ → Network → List ℕ → List ℕ → List ℕ → Kind → ℤ → ℕ → RuleRow
+endsAnswer sheet Γ from to label kind bound n =
+    ruleAnswer
+    (firstFailing
+    ((isName from && (isName to && isLabel label), C.IllFormedName)
+    ∷ (
+      answers (eventOf sheet Γ from) && (answers (eventOf sheet Γ to)
+          && allDefined (Γ .signals) (Γ .letters) (lettersOf (labelOf label))),
+      C.Undefined,
+    )
+    ∷ (distinct (lettersOf (labelOf label)), C.RepeatedLetter)
+    ∷ []))
+    (record {
+      kind = kind;
+      from = Option·getD (eventOf sheet Γ from) 0;
+      to = Option·getD (eventOf sheet Γ to) 0;
+      bound = bound;
+      label = maskOf (Γ .signals) (Γ .letters) (labelOf label);
+    })
+    n
+
+-- of a line without its line feed, which may be refused before its fields are looked at
+module _ (before : Option Cause → Option Cause) (line : List ℕ) where
+  abbrev pub sectionOf : List ℕ → ℕ → ℕ → SectionRow
+  sectionOf word lo hi = sectionAnswer (before (wordRefusal word lo hi (fields line))) (sectionCount (fields line)) (length line)
+
+  module _ (sheet : List ℕ) (Γ : Network) where
+    abbrev pub eventRowOf : EventRow
+    eventRowOf = eventAnswer (before (eventRefusal sheet Γ (fields line))) (length line)
+
+    abbrev pub signalRowOf : SignalRow
+    signalRowOf =
+        signalAnswer (before (signalRefusal sheet Γ (fields line))) (getD (field 0 (fields line)) 0 0)
+        (Option·getD (eventOf sheet Γ (field 1 (fields line))) 0) (length line)
+
+    abbrev pub ruleRowOf : RuleRow
+    ruleRowOf = ruleAnswer (before (ruleRefusal sheet Γ (fields line))) (ruleOf sheet Γ (fields line)) (length line)
+
+-- of a line by its fields alone
+abbrev pub byFields : Option Cause → Option Cause
+byFields o = o
+
+-- of the line that begins here
+module _ (rest : List ℕ) where
+  abbrev pub sectionAt : List ℕ → ℕ → ℕ → SectionRow
+  sectionAt = sectionOf (lineRefusal rest) (upTo lineFeed rest)
+
+  abbrev pub eventRowAt : List ℕ → Network → EventRow
+  eventRowAt = eventRowOf (lineRefusal rest) (upTo lineFeed rest)
+
+  abbrev pub signalRowAt : List ℕ → Network → SignalRow
+  signalRowAt = signalRowOf (lineRefusal rest) (upTo lineFeed rest)
+
+  abbrev pub ruleRowAt : List ℕ → Network → RuleRow
+  ruleRowAt = ruleRowOf (lineRefusal rest) (upTo lineFeed rest)
