@@ -1,0 +1,24 @@
+-- When a set of propositions has its first known truth. A set is a number: p is in d where `truth d p`.
+use mathlib.Core.Path.{_≡_}
+use mathlib.Core.Bool.{cond}
+use mathlib.Core.List.{List}
+use Prim.Native.Nat.{ℕ, zero, suc, _+_, _^_, _≤_, _<_, min}
+use lib.ListN.{length, getD}
+use Rattle.network.specs.Scenario.{truth}
+
+-- the least of f over those of the k first propositions that are in d, or 65,535, which is over every time
+abbrev pub firstOf : ℕ → (ℕ → ℕ) → ℕ → ℕ
+firstOf zero f d = 65535
+firstOf (suc p) f d = cond (truth d p) (min (firstOf p f d) (f p)) (firstOf p f d)
+
+-- the table of it
+pub record First (k : ℕ) (f : ℕ → ℕ) (first : List ℕ) : Type 0 where
+  pub sized : length first ≡ 16
+  pub is : (d : ℕ) → d < 2 ^ k → getD first d 0 ≡ firstOf k f d
+
+-- p sets are there, and d of the p sets with one proposition more, whose truth is known from v on
+pub record Doubled (p v : ℕ) (first first′ : List ℕ) (d : ℕ) : Type 0 where
+  pub sized : length first′ ≡ 16
+  pub within : d ≤ p
+  pub low : (k : ℕ) → k < p → getD first′ k 0 ≡ getD first k 0
+  pub high : (k : ℕ) → k < d → getD first′ (p + k) 0 ≡ min (getD first k 0) v
