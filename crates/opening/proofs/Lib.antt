@@ -1,3 +1,4 @@
--- The demands, and the trial sheets.
+-- The calls, the demands, and the trial sheets.
+pub mod Calls
 pub mod Demands
 pub mod Trials

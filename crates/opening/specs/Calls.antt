@@ -7,6 +7,8 @@ use Prim.Native.Nat.{ℕ}
 use lib.Dec.{eqb, leb}
 use lib.ListN.{length, drop}
 use Rattle.refusal.specs.Refusal.{refusal}
+use Rattle.refusal.specs.declared.Cause.{Cause}
+use Rattle.refusal.specs.declared.Refusal.{Refusal}
 use Rattle.refusal.specs.declared.Cause.the-variants.{WrongTableLength, BufferTooShort, Inconsistent}
 use Rattle.fixpoint.specs.Run.{Run, End, Rests, Passes, Spent}
 use Rattle.network.specs.Build.{cells}
@@ -26,6 +28,10 @@ use Rattle.opening.specs.declared.Judgement.the-variants as J
 use Rattle.opening.specs.declared.Written.{Written}
 use Rattle.opening.specs.declared.Written.the-variants as W
 
+-- the line is 0 for refusals 11 to 13
+abbrev pub withoutLine : Cause → Refusal
+withoutLine c = refusal c 0
+
 -- reading: the horizon and the counts
 abbrev pub countsOf : Network → Counts
 countsOf Γ = record { horizon = Γ .horizon; events = Γ .events; signals = Γ .signals; rules = Γ .rules }
@@ -42,7 +48,7 @@ abbrev pub judgementFor : Network → Outcome → List ℕ → Judgement
 judgementFor Γ Accepted t =
     elim (eqb (length t) (cells Γ)) [
       | true ↦ J.Judged (verdict Γ t)
-      | false ↦ J.Refused (refusal WrongTableLength 0)
+      | false ↦ J.Refused (withoutLine WrongTableLength)
     ]
 judgementFor Γ (Refused r) t = J.Refused r
 
@@ -68,20 +74,20 @@ abbrev pub written : List ℕ → List ℕ → Left
 written text m =
     elim (leb (length text) (length m)) [
       | true ↦ record { answer = W.Count (length text); memory = text ++ drop (length text) m }
-      | false ↦ kept (W.Refused (refusal BufferTooShort 0)) m
+      | false ↦ kept (W.Refused (withoutLine BufferTooShort)) m
     ]
 
 -- solving: 12 "even where 13 would follow", then the least solution or 13
 abbrev pub solvedFor : End → List ℕ → List ℕ → Left
 solvedFor Rests σ m = written σ m
-solvedFor Passes σ m = kept (W.Refused (refusal Inconsistent 0)) m
-solvedFor Spent σ m = kept (W.Refused (refusal Inconsistent 0)) m
+solvedFor Passes σ m = kept (W.Refused (withoutLine Inconsistent)) m
+solvedFor Spent σ m = kept (W.Refused (withoutLine Inconsistent)) m
 
 abbrev pub solvingFor : Network → Outcome → List ℕ → Left
 solvingFor Γ Accepted m =
     elim (leb (cells Γ) (length m)) [
       | true ↦ solvedFor (solve Γ .end) (solve Γ .reached) m
-      | false ↦ kept (W.Refused (refusal BufferTooShort 0)) m
+      | false ↦ kept (W.Refused (withoutLine BufferTooShort)) m
     ]
 solvingFor Γ (Refused r) m = kept (W.Refused r) m
 
@@ -93,7 +99,7 @@ abbrev pub listingFor : List ℕ → Network → Outcome → List ℕ → List �
 listingFor sheet Γ Accepted t m =
     elim (eqb (length t) (cells Γ)) [
       | true ↦ written (listing sheet Γ t) m
-      | false ↦ kept (W.Refused (refusal WrongTableLength 0)) m
+      | false ↦ kept (W.Refused (withoutLine WrongTableLength)) m
     ]
 listingFor sheet Γ (Refused r) t m = kept (W.Refused r) m
 

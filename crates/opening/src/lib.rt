@@ -1,7 +1,12 @@
 // The public calls. None asks anything of its caller: whatever the bytes and the lengths are, the answer is a defined one, and a
 // refusal leaves the lent memory as it was.
+ghost use mathlib.Core.Path.{_≡_};
+ghost use Rattle.opening.specs.Calls.{withoutLine, summary, judgement, solving, listed, Leaves};
 use checker::Verdict;
+use refusal::Cause;
 use refusal::Refusal;
+use sheet::Outcome;
+use solver::Solved;
 
 pub struct Counts {
     pub horizon: u16,
@@ -26,4 +31,94 @@ pub enum Judgement {
 pub enum Written {
     Count(usize),
     Refused(Refusal),
+}
+
+// A refusal that concerns no line of the sheet.
+fn without_line(cause: Cause) -> Refusal
+    ensures { λ r. ⌜ r ≡ withoutLine cause ⌝ }
+{
+    Refusal { cause, line: 0 }
+}
+
+// The horizon and the counts of a sheet.
+pub fn read_sheet(sheet: &[u8]) -> Summary
+    ensures { λ r. ⌜ r ≡ summary (now (sheet .entry)) ⌝ }
+{
+    let reading = sheet::read(sheet);
+    let outcome = reading.outcome;
+    let network = reading.network;
+    match outcome {
+        Outcome::Refused(refusal) => Summary::Refused(refusal),
+        Outcome::Accepted => Summary::Accepted(Counts {
+            horizon: network.horizon,
+            events: network.events,
+            signals: network.signals,
+            rules: network.rules,
+        }),
+    }
+}
+
+// The verdict on a table.
+pub fn judge_table(sheet: &[u8], table: &[u16]) -> Judgement
+    ensures { λ r. ⌜ r ≡ judgement (now (sheet .entry)) (now (table .entry)) ⌝ }
+{
+    let reading = sheet::read(sheet);
+    let outcome = reading.outcome;
+    let network = reading.network;
+    match outcome {
+        Outcome::Refused(refusal) => Judgement::Refused(refusal),
+        Outcome::Accepted => {
+            if table.len() != network::cell_count(network.events, network.signals) {
+                return Judgement::Refused(without_line(Cause::WrongTableLength));
+            }
+            Judgement::Judged(checker::check(network, table))
+        }
+    }
+}
+
+// The least good table into the first cells of the table.
+pub fn solve_sheet(sheet: &[u8], table: &mut [u16]) -> Written
+    ensures { λ r. ⌜ Leaves (solving (now (sheet .entry)) (now (table .entry))) r (now (table .exit)) ⌝ }
+{
+    let reading = sheet::read(sheet);
+    let outcome = reading.outcome;
+    let network = reading.network;
+    match outcome {
+        Outcome::Refused(refusal) => Written::Refused(refusal),
+        Outcome::Accepted => {
+            let cells = network::cell_count(network.events, network.signals);
+            if table.len() < cells {
+                return Written::Refused(without_line(Cause::BufferTooShort));
+            }
+            let solved = solver::solve(network, table);
+            match solved {
+                Solved::Found { rounds: _ } => Written::Count(cells),
+                Solved::Inconsistent { rounds: _ } => Written::Refused(without_line(
+                    Cause::Inconsistent,
+                )),
+            }
+        }
+    }
+}
+
+// The listing of any table of the right length, into the first bytes of out.
+pub fn write_listing(sheet: &[u8], table: &[u16], out: &mut [u8]) -> Written
+    ensures { λ r. ⌜ Leaves (listed (now (sheet .entry)) (now (table .entry)) (now (out .entry))) r (now (out .exit)) ⌝ }
+{
+    let reading = sheet::read(sheet);
+    let outcome = reading.outcome;
+    let network = reading.network;
+    match outcome {
+        Outcome::Refused(refusal) => Written::Refused(refusal),
+        Outcome::Accepted => {
+            if table.len() != network::cell_count(network.events, network.signals) {
+                return Written::Refused(without_line(Cause::WrongTableLength));
+            }
+            let written = listing::write(sheet, network, table, out);
+            match written {
+                listing::Written::Bytes(n) => Written::Count(n),
+                listing::Written::TooShort => Written::Refused(without_line(Cause::BufferTooShort)),
+            }
+        }
+    }
 }

@@ -91,7 +91,8 @@ module _ (sheet : List ℕ) (Γ : Network) (at : ℕ) where
 
   -- they are answers about the network
   observation-parts : (o : Option ℕ)
-      → isObservation sheet (partsOf (Γ .events) (Γ .starts) (Γ .lengths) (Γ .signals) (Γ .letters) (Γ .observations)) o ≡ isObservation sheet Γ o
+      → isObservation sheet (partsOf (Γ .events) (Γ .starts) (Γ .lengths) (Γ .signals) (Γ .letters) (Γ .observations)) o ≡
+      isObservation sheet Γ o
   observation-parts none = refl
   observation-parts (some u) = refl
 
@@ -121,7 +122,8 @@ module _ (sheet : List ℕ) (Γ : Network) (at : ℕ) where
   unfolding ruleRefusal
   rule-parts = refl
 
-  pub rule-at : ruleAnswerAt ≡ ruleAnswer (lineRefusal (drop at sheet) (ruleRefusal sheet Γ fs)) (ruleOf sheet Γ fs) (length (lineAt sheet at))
+  pub rule-at : ruleAnswerAt ≡ ruleAnswer (lineRefusal (drop at sheet) (ruleRefusal sheet Γ fs)) (ruleOf sheet Γ fs)
+      (length (lineAt sheet at))
   rule-at =
       ap (λ (l : List ℕ). ruleRowAt l sheet
       (partsOf (Γ .events) (Γ .starts) (Γ .lengths) (Γ .signals) (Γ .letters) [])) (take-drop sheet at)

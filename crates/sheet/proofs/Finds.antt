@@ -12,7 +12,8 @@ use Rattle.sheet.specs.Defined.{eventNamed}
 use Rattle.sheet.specs.Rows.{isObservation}
 use Rattle.sheet.specs.declared.Found.{Found}
 use Rattle.sheet.specs.Answers.{foundOf, isFound, placeOr, givesFound}
-use Rattle.prelude.proofs.Search.{Searching, searching-on, found-at, found-nothing, some-of-firstBelow, none-of-firstBelow, when-some, when-none, answered, unanswered}
+use Rattle.prelude.proofs.Search.{Searching, searching-on, found-at, found-nothing}
+use Rattle.prelude.proofs.Search.{some-of-firstBelow, none-of-firstBelow, when-some, when-none, answered, unanswered}
 
 module _ (t : ℕ → Bool) where
   pub record Finds (n u : ℕ) : Type 0 where

@@ -105,7 +105,8 @@ module _ (k : ℕ) (letters : List ℕ) where
           elim (either (eqb p q)) [
             | inl y ↦
                 let same : p ≡ q = eqb-true p q y in
-                absurd (eqb-false b (l .letter) (or-false (eqb b (l .letter)) (isIn b (lettersOf ls)) e .0) (sym h ∙ rw same (place-is (l .letter) q i .letter)))
+                absurd (eqb-false b (l .letter) (or-false (eqb b (l .letter)) (isIn b (lettersOf ls)) e .0)
+                (sym h ∙ rw same (place-is (l .letter) q i .letter)))
             | inr y ↦ rw y (and-false (Bool·beq v (l .value)))
           ]
 

@@ -1,14 +1,18 @@
--- Laws of the sheet's definitions.
+-- Laws of the sheet's definitions, in reading order: tests, places and searches; names, numbers and labels; a line's refusal; what each
+-- line keeps; the lines of a section; the whole sheet; and examples.
 pub mod Checks
 pub mod Places
+pub mod Finds
 pub mod Tokens
 pub mod Numbers
-pub mod Refusals
-pub mod Finds
 pub mod Labels
 pub mod Satisfies
+pub mod Refusals
+pub mod RowTests
 pub mod Rows
 pub mod Stages
+pub mod SignalStage
+pub mod RuleStage
 pub mod Turns
 pub mod Answered
 pub mod Lines

@@ -22,11 +22,15 @@ use Rattle.sheet.specs.declared.SignalRow.the-variants as G
 use Rattle.sheet.specs.declared.RuleRow.the-variants as R
 use Rattle.sheet.proofs.Checks.{all-hold}
 use Rattle.sheet.proofs.Places.{line-inside, only-field}
-use Rattle.sheet.proofs.Stages.{stage-event, stage-signal, stage-rule}
+use Rattle.sheet.proofs.Stages.{stage-event}
+use Rattle.sheet.proofs.SignalStage.{stage-signal}
+use Rattle.sheet.proofs.RuleStage.{stage-rule}
 use Rattle.sheet.proofs.Rows.{refusalAt, passes}
 use Rattle.sheet.proofs.Turns.{Rowing, reads-stop, reads-on}
-use Rattle.sheet.proofs.Answered.{event-answer-refused, event-answer, signal-answer-refused, signal-answer, rule-answer-refused, rule-answer, fieldsAt, eventAnswerAt, signalAnswerAt, ruleAnswerAt, event-at, signal-at, rule-at}
-use Rattle.sheet.proofs.Stages.{eventTests}
+use Rattle.sheet.proofs.Answered.{event-answer-refused, event-answer, signal-answer-refused, signal-answer}
+use Rattle.sheet.proofs.Answered.{rule-answer-refused, rule-answer}
+use Rattle.sheet.proofs.Answered.{fieldsAt, eventAnswerAt, signalAnswerAt, ruleAnswerAt, event-at, signal-at, rule-at}
+use Rattle.sheet.proofs.RowTests.{eventTests}
 
 -- the lines of each section that are left, of those that give p
 module _ (sheet : List ℕ) where
@@ -70,7 +74,8 @@ module _ {sheet : List ℕ} {p : Progress} {left : ℕ} {Γ : Network} {at k : �
         let one = eqb-true (length (fieldsAt sheet at)) 1 (all-hold (eventTests sheet Γ (fieldsAt sheet at)) (pass .accepted) 0) in
         record {
           inside = size-inside sheet at k (eventRefusal sheet Γ) n (w .0) size;
-          next = reads-on sheet (eventRow sheet) (λ m Γ at k. Stage sheet m L.signals L.rules Γ at k) p (λ m Γ at k h q. stage-event sheet h q)
+          next = reads-on sheet (eventRow sheet) (λ m Γ at k. Stage sheet m L.signals L.rules Γ at k) p
+              (λ m Γ at k h q. stage-event sheet h q)
               left Γ at k here some (w .0) (withEvent Γ at n) (at + n + 1)
               (ap (withEvent Γ at) (ap length (only-field (lineAt sheet at) one) ∙ size)) (omega arith);
         }
@@ -98,7 +103,8 @@ module _ {sheet : List ℕ} {p : Progress} {left : ℕ} {Γ : Network} {at k : �
           inside = size-inside sheet at k (signalRefusal sheet Γ) n (w .0) size;
           next = reads-on sheet (signalRow sheet) (λ m Γ at k. Stage sheet 0 m L.rules Γ at k) p (λ m Γ at k h q. stage-signal sheet h q)
               left Γ at k here some (w .0) (withSignal Γ b u) (at + n + 1)
-              (ap (λ (x : ℕ). withSignal Γ x (Option·getD (eventOf sheet Γ (field 1 (fieldsAt sheet at))) 0)) letter ∙ ap (withSignal Γ b) event) (omega arith);
+              (ap (λ (x : ℕ). withSignal Γ x (Option·getD (eventOf sheet Γ (field 1 (fieldsAt sheet at))) 0)) letter
+              ∙ ap (withSignal Γ b) event) (omega arith);
         }
 
   -- a rule

@@ -99,12 +99,13 @@ module _ (sheet : List ℕ) (Γ : Network) (fs : List (List ℕ)) where
   unfolding signalRefusal
   signal-count n = rw (ne-eqb (length fs) 2 n)
 
-  pub signal-tests : (named fresh defined : Bool) → length fs ≡ 2 → named ≡ isOneLetter (field 0 fs) && isName (field 1 fs)
-      → fresh ≡ not (answers (placeOf (Γ .signals) (Γ .letters) (getD (field 0 fs) 0 0)) || isObservation sheet Γ (eventOf sheet Γ (field 1 fs)))
+  pub signal-tests : {named fresh defined : Bool} → length fs ≡ 2 → named ≡ isOneLetter (field 0 fs) && isName (field 1 fs)
+      → fresh ≡ not (answers (placeOf (Γ .signals) (Γ .letters) (getD (field 0 fs) 0 0)) || isObservation sheet Γ
+      (eventOf sheet Γ (field 1 fs)))
       → defined ≡ answers (eventOf sheet Γ (field 1 fs))
       → signalRefusal sheet Γ fs ≡ firstFailing ((named, C.IllFormedName) ∷ (fresh, C.Duplicate) ∷ (defined, C.Undefined) ∷ [])
   unfolding signalRefusal
-  signal-tests named fresh defined n a b d =
+  signal-tests {named} {fresh} {defined} n a b d =
       rw (eq-eqb (length fs) 2 n)
       (sym (three-same named fresh defined (isOneLetter (field 0 fs) && isName (field 1 fs))
       (not (answers (placeOf (Γ .signals) (Γ .letters) (getD (field 0 fs) 0 0)) || isObservation sheet Γ (eventOf sheet Γ (field 1 fs))))
@@ -190,8 +191,8 @@ module _ (f : List ℕ) where
   limit-none e = by-ill (isNumber f) (leb (magnitude f) L.horizon) (valueOf f) e
 
 -- the ends and the label of a rule: the tests by what was found out, and what they say of the label where they pass
-module _ (sheet : List ℕ) (Γ : Network) (from to label t : List ℕ) (is : literals false t ≡ labelOf label) (a b : Found)
-    (first : a ≡ foundOf (eventOf sheet Γ from)) (second : b ≡ foundOf (eventOf sheet Γ to)) (named defined unlike : Bool)
+module _ (sheet : List ℕ) (Γ : Network) (from to label t : List ℕ) {a b : Found} {named defined unlike : Bool}
+    (is : literals false t ≡ labelOf label) (first : a ≡ foundOf (eventOf sheet Γ from)) (second : b ≡ foundOf (eventOf sheet Γ to))
     (e-named : named ≡ isName from && (isName to && isLabel label))
     (e-defined : defined ≡ isFound a && (isFound b && allDefined (Γ .signals) (Γ .letters) (lettersOf (literals false t))))
     (e-unlike : unlike ≡ distinct (lettersOf (literals false t))) where
@@ -207,7 +208,8 @@ module _ (sheet : List ℕ) (Γ : Network) (from to label t : List ℕ) (is : li
       ∷ [])
   ends-tests =
       three-same named defined unlike (isName from && (isName to && isLabel label))
-      (answers (eventOf sheet Γ from) && (answers (eventOf sheet Γ to) && allDefined (Γ .signals) (Γ .letters) (lettersOf (labelOf label))))
+      (answers (eventOf sheet Γ from) && (answers (eventOf sheet Γ to) && allDefined (Γ .signals) (Γ .letters)
+      (lettersOf (labelOf label))))
       (distinct (lettersOf (labelOf label))) C.IllFormedName C.Undefined C.RepeatedLetter e-named
       (e-defined ∙ rw (first, second, found-answers (eventOf sheet Γ from), found-answers (eventOf sheet Γ to), is))
       (e-unlike ∙ rw is)

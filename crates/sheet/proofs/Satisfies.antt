@@ -110,7 +110,8 @@ module _ (k : ℕ) (letters : List ℕ) where
         allBelow-true (asked s ℓ) L.signals
         (λ p below.
         and-both (not (truth (ℓ .positive) p) || truth s p) (not (truth (ℓ .negative) p) || not (truth s p))
-        (implies (truth (ℓ .positive) p) (truth s p) (λ h. as-asked true p (sym (sum-is k letters true ls few defined unlike .truths p below) ∙ h)))
+        (implies (truth (ℓ .positive) p) (truth s p) (λ h. as-asked true p
+        (sym (sum-is k letters true ls few defined unlike .truths p below) ∙ h)))
         (implies (truth (ℓ .negative) p) (not (truth s p))
         (λ h. ap not (as-asked false p (sym (sum-is k letters false ls few defined unlike .truths p below) ∙ h)))))
       where

@@ -19,7 +19,8 @@ use Rattle.network.specs.Limits as L
 use Rattle.network.specs.Build.{empty}
 use Rattle.network.specs.declared.Network.{Network}
 use Rattle.sheet.specs.Rows.{sectionRefusal, sectionCount, Row}
-use Rattle.sheet.specs.Reading.{Progress, Stop, Go, andThen, readLine, readRows, readSection, readHorizon, readEvents, readSignals, readRules, readEnd, longest, progress, answered, read}
+use Rattle.sheet.specs.Reading.{Progress, Stop, Go, andThen, readLine, readRows, readSection, readHorizon}
+use Rattle.sheet.specs.Reading.{readEvents, readSignals, readRules, readEnd, longest, progress, answered, read}
 use Rattle.sheet.specs.Stage.{Stage}
 use Rattle.sheet.specs.Answers.{lineRefusal, wordRefusal, sectionAnswer, sectionOf}
 use Rattle.sheet.specs.Reached.{Ready}
@@ -44,7 +45,8 @@ module _ (sheet : List ℕ) (at k : ℕ) (word : String) (lo hi : ℕ) (rest : L
   answer = sectionOf (lineRefusal rest) (upTo lineFeed rest) (ascii word) lo hi
 
   section-at : answer
-      ≡ sectionAnswer (refusalAt sheet at k (sectionRefusal word lo hi)) (sectionCount (fields (lineAt sheet at))) (length (lineAt sheet at))
+      ≡ sectionAnswer (refusalAt sheet at k (sectionRefusal word lo hi)) (sectionCount (fields (lineAt sheet at)))
+      (length (lineAt sheet at))
   unfolding sectionRefusal wordRefusal
   section-at = ap (λ (l : List ℕ). sectionOf (lineRefusal l) (upTo lineFeed l) (ascii word) lo hi) is
 
@@ -160,7 +162,8 @@ module _ (sheet : List ℕ) where
   by-length false b p q e = rw (← e)
 
   sections : Progress
-  sections = andThen (andThen (andThen (andThen (readHorizon sheet) (readEvents sheet)) (readSignals sheet)) (readRules sheet)) (readEnd sheet)
+  sections = andThen (andThen (andThen (andThen (readHorizon sheet) (readEvents sheet)) (readSignals sheet)) (readRules sheet))
+      (readEnd sheet)
 
   too-long : longest < length sheet → progress sheet ≡ Stop (refusal C.TooLong 0)
   unfolding progress sections

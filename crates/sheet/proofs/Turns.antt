@@ -15,7 +15,8 @@ use Rattle.sheet.specs.Reading.{Progress, Stop, Go, readRows}
 use Rattle.sheet.proofs.Rows.{refusalAt, passes, readLine-stop, readLine-on, Keeps}
 
 -- the lines that are left, of those that give p
-pub record Rowing (sheet : List ℕ) (row : Row) (P : ℕ → Network → ℕ → ℕ → Type 0) (p : Progress) (left : ℕ) (Γ : Network) (at k : ℕ) : Type 0 where
+pub record Rowing (sheet : List ℕ) (row : Row) (P : ℕ → Network → ℕ → ℕ → Type 0) (p : Progress) (left : ℕ) (Γ : Network)
+    (at k : ℕ) : Type 0 where
   pub rest : readRows sheet row left Γ at k ≡ p
   pub stage : P left Γ at k
 

@@ -22,13 +22,16 @@ use Rattle.network.specs.Build.{empty, noConstraint}
 use Rattle.network.specs.WellFormed.{WellFormed, Named}
 use Rattle.network.specs.declared.Network.{Network}
 use Rattle.sheet.specs.Rows.{sectionRefusal, sectionCount, eventRow, signalRow, ruleRow}
-use Rattle.sheet.specs.Reading.{longest, Progress, Stop, Go, andThen, readRows, readHorizon, readEvents, readSignals, readRules, readEnd, progress, read, answered}
+use Rattle.sheet.specs.Reading.{longest, Progress, Stop, Go, andThen, readRows, readHorizon}
+use Rattle.sheet.specs.Reading.{readEvents, readSignals, readRules, readEnd, progress, read, answered}
 use Rattle.sheet.specs.Stage.{Stage}
 use Rattle.sheet.specs.declared.Outcome.the-variants.{Accepted}
 use Rattle.sheet.proofs.Checks.{all-hold}
 use Rattle.sheet.proofs.Places.{line-inside}
 use Rattle.sheet.proofs.Rows.{stop-not-go, came, went, rows-keep}
-use Rattle.sheet.proofs.Stages.{stage-fewer, stage-next, stage-event, stage-signal, stage-rule}
+use Rattle.sheet.proofs.Stages.{stage-fewer, stage-next, stage-event}
+use Rattle.sheet.proofs.SignalStage.{stage-signal}
+use Rattle.sheet.proofs.RuleStage.{stage-rule}
 
 -- a count that passed is in its range
 pub record Counted (lo hi : ℕ) (fs : List (List ℕ)) : Type 0 where
@@ -40,7 +43,8 @@ unfolding sectionRefusal inRange
 counted word lo hi fs e =
     let f = field 1 fs in
     let tests : List (Bool × Cause) =
-    (eqb (length fs) 2 && same (field 0 fs) (ascii word), C.WrongFields) ∷ (isNumber f, C.IllFormedNumber) ∷ (inRange lo hi f, C.OutOfRange) ∷ [] in
+    (eqb (length fs) 2 && same (field 0 fs) (ascii word), C.WrongFields) ∷ (isNumber f, C.IllFormedNumber) ∷
+    (inRange lo hi f, C.OutOfRange) ∷ [] in
     let within = and-true (not (isNegative f)) (leb lo (magnitude f) && leb (magnitude f) hi) (all-hold tests e 2) in
     let ends = and-true (leb lo (magnitude f)) (leb (magnitude f) hi) (within .1) in
     record { least = leb-true lo (magnitude f) (ends .0); most = leb-true (magnitude f) hi (ends .1) }
@@ -127,11 +131,13 @@ module _ (sheet : List ℕ) where
       by-bytes false e = cc
 
   within-length : (Γ : Network) (at k : ℕ) → progress sheet ≡ Go Γ at k
-      → andThen (andThen (andThen (andThen (readHorizon sheet) (readEvents sheet)) (readSignals sheet)) (readRules sheet)) (readEnd sheet) ≡ Go Γ at k
+      → andThen (andThen (andThen (andThen (readHorizon sheet) (readEvents sheet)) (readSignals sheet)) (readRules sheet))
+      (readEnd sheet) ≡ Go Γ at k
   unfolding progress
   within-length Γ at k e =
       by-length (leb (length sheet) longest)
-      (andThen (andThen (andThen (andThen (readHorizon sheet) (readEvents sheet)) (readSignals sheet)) (readRules sheet)) (readEnd sheet)) e
+      (andThen (andThen (andThen (andThen (readHorizon sheet) (readEvents sheet)) (readSignals sheet)) (readRules sheet))
+      (readEnd sheet)) e
     where
       by-length : (t : Bool) (p : Progress) → elim t [ false ↦ Stop (refusal C.TooLong 0) | true ↦ p ] ≡ Go Γ at k → p ≡ Go Γ at k
       by-length true p e = e

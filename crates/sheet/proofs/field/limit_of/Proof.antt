@@ -4,7 +4,8 @@ use mathlib.Core.Path.{sym, _∙_, ap}
 use mathlib.Core.Bool.{true, false}
 use Rattle.network.specs.Limits as L
 use Rattle.sheet.specs.declared.Limit.the-variants as M
-use Rattle.sheet.proofs.Numbers.{number-plus, number-minus, limit-ill, limit-beyond, limit-plus, limit-minus, signed-plus, negated-fits, signed-minus}
+use Rattle.sheet.proofs.Numbers.{number-plus, number-minus, limit-ill, limit-beyond}
+use Rattle.sheet.proofs.Numbers.{limit-plus, limit-minus, signed-plus, negated-fits, signed-minus}
 use Rattle.sheet.proofs.field.limit_of.Statement.{statement}
 use Rattle.sheet.proofs.field.limit_of.Tie as tie
 

@@ -14,11 +14,13 @@ use Rattle.sheet.proofs.label.is_distinct.Statement.{statement}
 use Rattle.sheet.proofs.label.is_distinct.Tie as tie
 
 -- the part behind i is the list behind i
-lt-part : (t : List ℕ) (i b : ℕ) → length (upTo b (take (length t - (i + 1)) (drop (i + 1) t))) < length (take (length t - (i + 1)) (drop (i + 1) t))
+lt-part : (t : List ℕ) (i b : ℕ)
+    → length (upTo b (take (length t - (i + 1)) (drop (i + 1) t))) < length (take (length t - (i + 1)) (drop (i + 1) t))
     → length (upTo b (drop (i + 1) t)) < length (drop (i + 1) t)
 lt-part t i b h = rw (take-drop t (i + 1)) at h
 
-le-part : (t : List ℕ) (i b : ℕ) → length (take (length t - (i + 1)) (drop (i + 1) t)) ≤ length (upTo b (take (length t - (i + 1)) (drop (i + 1) t)))
+le-part : (t : List ℕ) (i b : ℕ)
+    → length (take (length t - (i + 1)) (drop (i + 1) t)) ≤ length (upTo b (take (length t - (i + 1)) (drop (i + 1) t)))
     → length (drop (i + 1) t) ≤ length (upTo b (drop (i + 1) t))
 le-part t i b h = rw (take-drop t (i + 1)) at h
 

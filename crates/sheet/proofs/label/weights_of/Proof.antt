@@ -14,7 +14,8 @@ use Rattle.sheet.proofs.label.weights_of.Statement.{statement}
 use Rattle.sheet.proofs.label.weights_of.Tie as tie
 
 abbrev Inv-loop : tie.InvT-loop
-Inv-loop k letters v t sum₀ bang₀ i₀ sum bang i = (i ≤ length t) × (weights k letters v (literals false t) ≡ sum + weights k letters v (literals bang (drop i t)))
+Inv-loop k letters v t sum₀ bang₀ i₀ sum bang i =
+    (i ≤ length t) × (weights k letters v (literals false t) ≡ sum + weights k letters v (literals bang (drop i t)))
 
 abbrev μ-loop : tie.MeasureT-loop
 μ-loop k letters v t sum₀ bang₀ i₀ sum bang i = length t - i

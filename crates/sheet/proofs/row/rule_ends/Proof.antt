@@ -50,8 +50,10 @@ place-or-requires-2 c κs = search needs
 
 mask-of-requires : tie.Need-mask-of-requires
 mask-of-requires c κs =
-    let args = c .before .before .before .before .before .before .before .before .before .before .before .before .before .before .before .args in
-    let pre = c .before .before .before .before .before .before .before .before .before .before .before .before .before .before .before .pre in
+    let args = c .before .before .before .before .before .before .before .before .before .before
+    .before .before .before .before .before .args in
+    let pre = c .before .before .before .before .before .before .before .before .before .before
+    .before .before .before .before .before .pre in
     let literals-of = c .before .before .before .before .before .before .before .before .before .before .literals-of in
     let event-named = c .before .before .before .before .before .before .before .before .before .event-named in
     let event-named2 = c .before .before .before .before .before .before .before .before .event-named2 in
@@ -62,9 +64,7 @@ mask-of-requires c κs =
     let Γ = partsOf (args .n) (args .starts .now) (args .lengths .now) (args .k) (args .letters .now) [] in
     let pass = ends-pass (args .sheet .now) Γ (args .from .now) (args .to .now) (args .label .now)
     (literals-of .result .now) (literals-of .ensures)
-    (event-named .result) (event-named2 .result) (event-named .ensures) (event-named2 .ensures) (is-rule .result)
-    (are-defined .result) (is-distinct .result)
-    (is-rule .ensures) (are-defined .ensures) (is-distinct .ensures)
+    (event-named .ensures) (event-named2 .ensures) (is-rule .ensures) (are-defined .ensures) (is-distinct .ensures)
     (check-passed (firstFailing ((is-rule .result, C.IllFormedName) ∷ (are-defined .result, C.Undefined) ∷
     (is-distinct .result, C.RepeatedLetter) ∷ [])) (sym (first-failing .ensures) ∙
     c .before .before .enum-told .given .1)) in
@@ -72,7 +72,8 @@ mask-of-requires c κs =
 
 returns : tie.Need-returns
 returns c =
-    let args = c .before .before .before .before .before .before .before .before .before .before .before .before .before .before .args in
+    let args = c .before .before .before .before .before .before .before .before .before .before
+    .before .before .before .before .args in
     let literals-of = c .before .before .before .before .before .before .before .before .before .literals-of in
     let event-named = c .before .before .before .before .before .before .before .before .event-named in
     let event-named2 = c .before .before .before .before .before .before .before .event-named2 in
@@ -83,9 +84,7 @@ returns c =
     let Γ = partsOf (args .n) (args .starts .now) (args .lengths .now) (args .k) (args .letters .now) [] in
     let tests = ends-tests (args .sheet .now) Γ (args .from .now) (args .to .now) (args .label .now)
     (literals-of .result .now) (literals-of .ensures)
-    (event-named .result) (event-named2 .result) (event-named .ensures) (event-named2 .ensures) (is-rule .result)
-    (are-defined .result) (is-distinct .result)
-    (is-rule .ensures) (are-defined .ensures) (is-distinct .ensures) in
+    (event-named .ensures) (event-named2 .ensures) (is-rule .ensures) (are-defined .ensures) (is-distinct .ensures) in
     sym (rw (sym tests ∙ check-refused (firstFailing
     ((is-rule .result, C.IllFormedName) ∷ (are-defined .result, C.Undefined) ∷
     (is-distinct .result, C.RepeatedLetter) ∷ [])) (check .given .0 .0)
@@ -93,8 +92,10 @@ returns c =
 
 returns-2 : tie.Need-returns-2
 returns-2 c =
-    let args = c .before .before .before .before .before .before .before .before .before .before .before .before .before .before .before .before .args in
-    let fits = c .before .before .before .before .before .before .before .before .before .before .before .before .before .before .before .before .fits in
+    let args = c .before .before .before .before .before .before .before .before .before .before
+    .before .before .before .before .before .before .args in
+    let fits = c .before .before .before .before .before .before .before .before .before .before
+    .before .before .before .before .before .before .fits in
     let literals-of = c .before .before .before .before .before .before .before .before .before .before .before .literals-of in
     let event-named = c .before .before .before .before .before .before .before .before .before .before .event-named in
     let event-named2 = c .before .before .before .before .before .before .before .before .before .event-named2 in
@@ -106,9 +107,7 @@ returns-2 c =
     let Γ = partsOf (args .n) (args .starts .now) (args .lengths .now) (args .k) (args .letters .now) [] in
     let tests = ends-tests sheet Γ (args .from .now) (args .to .now) (args .label .now) (literals-of .result .now)
     (literals-of .ensures)
-    (event-named .result) (event-named2 .result) (event-named .ensures) (event-named2 .ensures) (is-rule .result)
-    (are-defined .result) (is-distinct .result)
-    (is-rule .ensures) (are-defined .ensures) (is-distinct .ensures) in
+    (event-named .ensures) (event-named2 .ensures) (is-rule .ensures) (are-defined .ensures) (is-distinct .ensures) in
     let none-fails = sym tests ∙ check-passed (firstFailing
     ((is-rule .result, C.IllFormedName) ∷ (are-defined .result, C.Undefined) ∷
     (is-distinct .result, C.RepeatedLetter) ∷ [])) (sym (first-failing .ensures) ∙

@@ -8,7 +8,8 @@ use lib.ListN.{length}
 use Rattle.text.specs.Lines.{fields, field}
 use Rattle.sheet.specs.Answers.{endsAnswer, partsOf, kindFound, limitOf}
 use Rattle.sheet.specs.Rows.{kindOf}
-use Rattle.sheet.proofs.Refusals.{limit-fits, ends-row, rule-count, rule-other, rule-ill, rule-beyond, kind-some, kind-none, limit-minutes, limit-over, limit-none}
+use Rattle.sheet.proofs.Refusals.{limit-fits, ends-row, rule-count, rule-other, rule-ill}
+use Rattle.sheet.proofs.Refusals.{rule-beyond, kind-some, kind-none, limit-minutes, limit-over, limit-none}
 use Rattle.sheet.proofs.row.rule_fields.Statement.{statement}
 use Rattle.sheet.proofs.row.rule_fields.Tie as tie
 
@@ -73,7 +74,8 @@ rule-ends-requires c κs = search needs
 
 returns-3 : tie.Need-returns-3
 returns-3 c =
-    let args = c .before .before .before .before .before .before .before .before .before .before .before .before .before .before .args in
+    let args = c .before .before .before .before .before .before .before .before .before .before
+    .before .before .before .before .args in
     let cut = c .before .before .before .before .before .before .before .before .before .before .before .cut in
     let if1 = c .before .before .before .before .before .before .before .before .before .if1 in
     let was-field = c .before .before .before .before .before .before .before .before .field in
@@ -91,7 +93,8 @@ returns-3 c =
 
 returns-4 : tie.Need-returns-4
 returns-4 c =
-    let args = c .before .before .before .before .before .before .before .before .before .before .before .before .before .before .args in
+    let args = c .before .before .before .before .before .before .before .before .before .before
+    .before .before .before .before .args in
     let cut = c .before .before .before .before .before .before .before .before .before .before .before .cut in
     let if1 = c .before .before .before .before .before .before .before .before .before .if1 in
     let was-field = c .before .before .before .before .before .before .before .before .field in
@@ -109,10 +112,14 @@ returns-4 c =
 
 returns-5 : tie.Need-returns-5
 returns-5 c =
-    let args = c .before .before .before .before .before .before .before .before .before .before .before .before .before .before .before .before .before .before .before .args in
-    let cut = c .before .before .before .before .before .before .before .before .before .before .before .before .before .before .before .before .cut in
-    let if1 = c .before .before .before .before .before .before .before .before .before .before .before .before .before .before .if1 in
-    let was-field = c .before .before .before .before .before .before .before .before .before .before .before .before .before .field in
+    let args = c .before .before .before .before .before .before .before .before .before .before
+    .before .before .before .before .before .before .before .before .before .args in
+    let cut = c .before .before .before .before .before .before .before .before .before .before
+    .before .before .before .before .before .before .cut in
+    let if1 = c .before .before .before .before .before .before .before .before .before .before
+    .before .before .before .before .if1 in
+    let was-field = c .before .before .before .before .before .before .before .before .before .before
+    .before .before .before .field in
     let kind-of = c .before .before .before .before .before .before .before .before .before .before .before .before .kind-of in
     let found = c .before .before .before .before .before .before .before .before .before .before .found in
     let field2 = c .before .before .before .before .before .before .before .before .field2 in

@@ -57,7 +57,8 @@ place-or-requires c κs = search needs
 
 returns-2 : tie.Need-returns-2
 returns-2 c =
-    let args = c .before .before .before .before .before .before .before .before .before .before .before .before .before .before .before .before .args in
+    let args = c .before .before .before .before .before .before .before .before .before .before
+    .before .before .before .before .before .before .args in
     let cut = c .before .before .before .before .before .before .before .before .before .before .before .before .before .cut in
     let if1 = c .before .before .before .before .before .before .before .before .before .before .before .if1 in
     let was-field = c .before .before .before .before .before .before .before .before .before .before .field in
@@ -79,7 +80,7 @@ returns-2 c =
     let known = event-answers sheet (args .n) (args .starts .now) (args .lengths .now) (field 1 fs)
     (field2 .result .now) second (event-named .result) (is-found .result) (event-named .ensures)
     (is-found .ensures) in
-    let tests = signal-tests sheet Γ fs (is-signal .result) (is-fresh .result) (is-found .result)
+    let tests = signal-tests sheet Γ fs
     (sym (cut .ensures .counted) ∙ if1 .left)
     (is-signal .ensures ∙ rw (first, second))
     (is-fresh .ensures ∙ rw (
@@ -96,7 +97,8 @@ returns-2 c =
 
 returns-3 : tie.Need-returns-3
 returns-3 c =
-    let args = c .before .before .before .before .before .before .before .before .before .before .before .before .before .before .before .before .args in
+    let args = c .before .before .before .before .before .before .before .before .before .before
+    .before .before .before .before .before .before .args in
     let cut = c .before .before .before .before .before .before .before .before .before .before .before .before .before .cut in
     let if1 = c .before .before .before .before .before .before .before .before .before .before .before .if1 in
     let was-field = c .before .before .before .before .before .before .before .before .before .before .field in
@@ -120,7 +122,7 @@ returns-3 c =
     let place = event-place sheet (args .n) (args .starts .now) (args .lengths .now) (field 1 fs)
     (field2 .result .now) second (event-named .result) (c .place-or .result) (event-named .ensures)
     (c .place-or .ensures) in
-    let tests = signal-tests sheet Γ fs (is-signal .result) (is-fresh .result) (is-found .result)
+    let tests = signal-tests sheet Γ fs
     (sym (cut .ensures .counted) ∙ if1 .left)
     (is-signal .ensures ∙ rw (first, second))
     (is-fresh .ensures ∙ rw (

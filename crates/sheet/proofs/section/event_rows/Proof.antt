@@ -11,7 +11,8 @@ use Rattle.sheet.proofs.section.event_rows.Statement.{statement}
 use Rattle.sheet.proofs.section.event_rows.Tie as tie
 
 abbrev Inv-loop : tie.InvT-loop
-Inv-loop sheet m at k w₀ place₀ line₀ left₀ w place line left = EventsLeft sheet (readRows sheet (eventRow sheet) m w₀ at k) left w place line
+Inv-loop sheet m at k w₀ place₀ line₀ left₀ w place line left =
+    EventsLeft sheet (readRows sheet (eventRow sheet) m w₀ at k) left w place line
 
 abbrev μ-loop : tie.MeasureT-loop
 μ-loop sheet m at k w₀ place₀ line₀ left₀ w place line left = left

@@ -1,0 +1,90 @@
+-- A rule's line that passes keeps the stage of the sheet. Assumes nothing.
+use mathlib.Core.Path.{_∙_}
+use mathlib.Core.Logic.{inl, inr}
+use mathlib.Core.Bool.{true, false, _&&_}
+use mathlib.Core.List.{List}
+use Prim.Native.Nat.{ℕ, zero, suc, _≤_}
+use native.Mathlib.Omega.{arith}
+use borrow.Author.Tests.{leb-true}
+use lib.IntN.{pos, negℤ}
+use lib.ListN.{length-set}
+use lib.Seq.{getD-set-same, getD-set-other}
+use Rattle.prelude.specs.Search.{answers}
+use Rattle.prelude.proofs.Tests.{eq-or-ne, and-true, by-cond}
+use Rattle.text.specs.Lines.{lineAt, afterLine, fields, field}
+use Rattle.text.specs.Number.{magnitude, isNegative, valueOf}
+use Rattle.network.specs.Limits as L
+use Rattle.network.specs.Build.{noConstraint}
+use Rattle.network.specs.WellFormed.{InLimits}
+use Rattle.network.specs.declared.Network.{Network}
+use Rattle.sheet.specs.Names.{labelOf, lettersOf}
+use Rattle.sheet.specs.Defined.{allDefined}
+use Rattle.sheet.specs.Rows.{eventOf, ruleRefusal, ruleOf, ruleRow}
+use Rattle.sheet.specs.Stage.{Stage}
+use Rattle.sheet.proofs.Checks.{all-hold}
+use Rattle.sheet.proofs.Finds.{finds-answer}
+use Rattle.sheet.proofs.Places.{line-inside}
+use Rattle.sheet.proofs.Labels.{sum-is}
+use Rattle.sheet.proofs.Rows.{Passes}
+use Rattle.sheet.proofs.RowTests.{isNamed, ruleTests}
+
+-- a limit by its size
+neg-limits : (m : ℕ) → m ≤ L.horizon → InLimits (negℤ (pos m))
+neg-limits zero h = h
+neg-limits (suc m) h = h
+
+limits-of : (f : List ℕ) → magnitude f ≤ L.horizon → InLimits (valueOf f)
+limits-of f h =
+    by-cond InLimits (isNegative f) (negℤ (pos (magnitude f))) (pos (magnitude f)) (λ e. neg-limits (magnitude f) h) (λ e. h)
+
+module _ (sheet : List ℕ) {e s r : ℕ} {Γ : Network} {at k : ℕ} where
+  -- a rule
+  pub stage-rule : Stage sheet e s (suc r) Γ at k → Passes sheet at k (ruleRefusal sheet Γ)
+      → Stage sheet e s r (ruleRow sheet .add Γ at (fields (lineAt sheet at))) (afterLine sheet at) (suc k)
+  unfolding ruleRefusal
+  stage-rule g p =
+      let fs = fields (lineAt sheet at) in
+      let holds = all-hold (ruleTests sheet Γ fs) (p .accepted) in
+      let ls = labelOf (field 4 fs) in
+      let c = ruleOf sheet Γ fs in
+      let ends = and-true (answers (eventOf sheet Γ (field 1 fs)))
+      (answers (eventOf sheet Γ (field 2 fs)) && allDefined (Γ .signals) (Γ .letters) (lettersOf ls)) (holds 4) in
+      let rest = and-true (answers (eventOf sheet Γ (field 2 fs))) (allDefined (Γ .signals) (Γ .letters) (lettersOf ls)) (ends .1) in
+      let few : Γ .signals ≤ L.signals = omega (arith, g .signals) in
+      let room = g .rules in
+      let kept = g .arrays .constraints in
+      record {
+        horizon = g .horizon;
+        some-event = g .some-event;
+        events = g .events;
+        signals = g .signals;
+        rules = omega (arith, g .rules);
+        arrays = record {
+          starts = g .arrays .starts;
+          lengths = g .arrays .lengths;
+          letters = g .arrays .letters;
+          observations = g .arrays .observations;
+          constraints = length-set (Γ .constraints) (Γ .rules) c ∙ kept;
+        };
+        observed = g .observed;
+        one-signal = g .one-signal;
+        proper = λ d h.
+            elim (eq-or-ne d (Γ .rules)) [
+              | inl x ↦
+                  rw (x, getD-set-same (Γ .constraints) (Γ .rules) c noConstraint (omega arith))
+                  (record {
+                    from = finds-answer (isNamed sheet Γ (field 1 fs)) (Γ .events) 0 (ends .0) .index-lt;
+                    to = finds-answer (isNamed sheet Γ (field 2 fs)) (Γ .events) 0 (rest .0) .index-lt;
+                    bound = limits-of (field 3 fs) (leb-true (magnitude (field 3 fs)) L.horizon (holds 2));
+                    positive = sum-is (Γ .signals) (Γ .letters) true ls few (rest .1) (holds 5) .below;
+                    negative = sum-is (Γ .signals) (Γ .letters) false ls few (rest .1) (holds 5) .below;
+                  })
+              | inr x ↦
+                  let w = g .proper d (omega arith) in
+                  rw (getD-set-other (Γ .constraints) (Γ .rules) d c noConstraint x)
+                  (record { from = w .from; to = w .to; bound = w .bound; positive = w .positive; negative = w .negative })
+            ];
+        named = record { inside = g .named .inside; short = g .named .short };
+        inside = line-inside sheet at (p .ends);
+        line = omega (arith, g .line);
+      }

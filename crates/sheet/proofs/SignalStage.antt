@@ -1,0 +1,89 @@
+-- A signal's line that passes keeps the stage of the sheet. Assumes nothing.
+use mathlib.Core.Path.{_≡_, sym, _∙_}
+use mathlib.Core.Logic.{inl, inr}
+use mathlib.Core.Option.{Option·getD}
+use mathlib.Core.List.{List}
+use Prim.Native.Nat.{ℕ, suc, _+_, _^_, _<_}
+use native.Mathlib.Nat.{two-pow-succ}
+use native.Mathlib.Numerals.{add-one}
+use native.Mathlib.Omega.{arith}
+use borrow.Author.Tests.{eqb-false}
+use lib.ListN.{getD, length-set}
+use lib.Seq.{getD-set-same, getD-set-other}
+use Rattle.prelude.proofs.Tests.{eq-or-ne}
+use Rattle.prelude.proofs.Search.{answered}
+use Rattle.text.specs.Lines.{lineAt, afterLine, fields, field}
+use Rattle.network.specs.Build.{observation}
+use Rattle.network.specs.declared.Network.{Network}
+use Rattle.sheet.specs.Rows.{eventOf, signalRefusal, signalRow}
+use Rattle.sheet.specs.Stage.{Stage}
+use Rattle.sheet.proofs.Checks.{all-hold}
+use Rattle.sheet.proofs.Finds.{finds-answer}
+use Rattle.sheet.proofs.Places.{line-inside}
+use Rattle.sheet.proofs.Rows.{Passes}
+use Rattle.sheet.proofs.RowTests.{isNamed, signalTests, new-signal}
+
+module _ (sheet : List ℕ) {e s r : ℕ} {Γ : Network} {at k : ℕ} where
+  -- a signal
+  pub stage-signal : Stage sheet e (suc s) r Γ at k → Passes sheet at k (signalRefusal sheet Γ)
+      → Stage sheet e s r (signalRow sheet .add Γ at (fields (lineAt sheet at))) (afterLine sheet at) (suc k)
+  unfolding signalRefusal
+  stage-signal g p =
+      let fs = fields (lineAt sheet at) in
+      let holds = all-hold (signalTests sheet Γ fs) (p .accepted) in
+      let u = Option·getD (eventOf sheet Γ (field 1 fs)) 0 in
+      let found = answered (eventOf sheet Γ (field 1 fs)) (holds 3) in
+      let event : u < Γ .events = finds-answer (isNamed sheet Γ (field 1 fs)) (Γ .events) 0 (holds 3) .index-lt in
+      let fresh : (q : ℕ) → q < Γ .signals → observation Γ q ≡ u → ⊥ =
+      λ q h x. eqb-false (observation Γ q) u (new-signal sheet Γ fs u (rw (found .1)) (holds 2) q h) x in
+      let room = g .signals in
+      let seen = g .arrays .observations in
+      let more : 2 ^ (Γ .signals + 1) ≡ 2 ^ Γ .signals + 2 ^ Γ .signals = rw add-one (two-pow-succ (Γ .signals)) in
+      record {
+        horizon = g .horizon;
+        some-event = g .some-event;
+        events = g .events;
+        signals = omega (arith, g .signals);
+        rules = g .rules;
+        arrays = record {
+          starts = g .arrays .starts;
+          lengths = g .arrays .lengths;
+          letters = length-set (Γ .letters) (Γ .signals) (getD (field 0 fs) 0 0) ∙ g .arrays .letters;
+          observations = length-set (Γ .observations) (Γ .signals) u ∙ seen;
+          constraints = g .arrays .constraints;
+        };
+        observed = λ q h.
+            elim (eq-or-ne q (Γ .signals)) [
+              | inl x ↦ rw (x, getD-set-same (Γ .observations) (Γ .signals) u 0 (omega arith)) event
+              | inr x ↦ rw (getD-set-other (Γ .observations) (Γ .signals) q u 0 x) (g .observed q (omega arith))
+            ];
+        one-signal = λ a b ha hb x.
+            elim (eq-or-ne a (Γ .signals)) [
+              | inl y ↦ elim (eq-or-ne b (Γ .signals)) [
+                | inl z ↦ y ∙ sym z
+                | inr z ↦ absurd (fresh b (omega arith)
+                    (sym (getD-set-other (Γ .observations) (Γ .signals) b u 0 z) ∙ sym x
+                    ∙ rw (y, getD-set-same (Γ .observations) (Γ .signals) u 0 (omega arith))))
+              ]
+              | inr y ↦ elim (eq-or-ne b (Γ .signals)) [
+                | inl z ↦ absurd (fresh a (omega arith)
+                    (sym (getD-set-other (Γ .observations) (Γ .signals) a u 0 y) ∙ x
+                    ∙ rw (z, getD-set-same (Γ .observations) (Γ .signals) u 0 (omega arith))))
+                | inr z ↦ g .one-signal a b (omega arith) (omega arith)
+                    (sym (getD-set-other (Γ .observations) (Γ .signals) a u 0 y) ∙ x
+                    ∙ getD-set-other (Γ .observations) (Γ .signals) b u 0 z)
+              ]
+            ];
+        proper = λ c h.
+            let w = g .proper c h in
+            record {
+              from = w .from;
+              to = w .to;
+              bound = w .bound;
+              positive = omega (arith, w .positive);
+              negative = omega (arith, w .negative);
+            };
+        named = record { inside = g .named .inside; short = g .named .short };
+        inside = line-inside sheet at (p .ends);
+        line = omega (arith, g .line);
+      }
