@@ -36,7 +36,7 @@ use Rattle.opening.specs.declared.Judgement.the-variants as J
 use Rattle.opening.specs.declared.Written.the-variants as W
 
 -- found is not none
-found-not-none : (n k : ℕ) → _≡_ {A = Solved} (Found n) (None k) → ⊥
+pub found-not-none : (n k : ℕ) → _≡_ {A = Solved} (Found n) (None k) → ⊥
 found-not-none n k e = let z : _≡_ {A = ℕ} 0 1 = cc in omega arith
 
 -- what was promised of one definition is promised of an equal one

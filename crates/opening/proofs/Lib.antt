@@ -1,4 +1,6 @@
--- The calls, the demands, and the trial sheets.
+-- The calls, those of the bench, the demands, and the trial sheets.
 pub mod Calls
+pub mod Bytes
+pub mod Small
 pub mod Demands
 pub mod Trials

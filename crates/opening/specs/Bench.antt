@@ -1,12 +1,13 @@
 -- The calls of the workshop bench, which is written in C: "There a table travels as two bytes a minute, low byte first. For the judge an
 -- odd number of bytes is refusal 11; the solver counts the whole pairs it is lent" (01, The judge's verdict). An answer is one number.
+use mathlib.Core.Path.{_≡_}
 use mathlib.Core.Bool.{Bool, true, false}
 use mathlib.Core.List.{List, _++_}
-use Prim.Native.Nat.{ℕ, _+_, _*_, _%_}
+use Prim.Native.Nat.{ℕ, _+_, _*_, _%_, _≤_, _<_}
 use lib.Dec.{eqb}
 use lib.ListN.{length, take, drop}
 use Rattle.pairs.specs.Pairs.{minutesOf, bytesOf}
-use Rattle.refusal.specs.Refusal.{numberOf, refusal}
+use Rattle.refusal.specs.Refusal.{numberOf}
 use Rattle.refusal.specs.declared.Cause.the-variants.{WrongTableLength}
 use Rattle.refusal.specs.declared.Refusal.{Refusal}
 use Rattle.sheet.specs.Reading.{read}
@@ -16,7 +17,7 @@ use Rattle.checker.specs.declared.Breach.{Breach}
 use Rattle.checker.specs.declared.Breach.the-variants.{Late, Rule, Unheard}
 use Rattle.checker.specs.declared.Verdict.{Verdict}
 use Rattle.checker.specs.declared.Verdict.the-variants.{Pass, Breach as Breached}
-use Rattle.opening.specs.Calls.{judgement, Left, solving}
+use Rattle.opening.specs.Calls.{withoutLine, judgement, Left, Leaves, solving}
 use Rattle.opening.specs.declared.Judgement.{Judgement}
 use Rattle.opening.specs.declared.Judgement.the-variants as J
 use Rattle.opening.specs.declared.Written.{Written}
@@ -26,7 +27,7 @@ use Rattle.opening.specs.declared.Written.the-variants as W
 abbrev pub benchJudgementFor : List ℕ → Outcome → List ℕ → Judgement
 benchJudgementFor sheet Accepted b =
     elim (eqb (length b % 2) 1) [
-      | true ↦ J.Refused (refusal WrongTableLength 0)
+      | true ↦ J.Refused (withoutLine WrongTableLength)
       | false ↦ judgement sheet (minutesOf b)
     ]
 benchJudgementFor sheet (Refused r) b = J.Refused r
@@ -60,11 +61,14 @@ refused r = record { number = numberOf (r .cause); line = r .line; word = 0; fir
 abbrev pub judged : ℕ → ℕ → ℕ → ℕ → Values
 judged w a b c = record { number = 0; line = 0; word = w; first = a; second = b; third = c }
 
+abbrev pub breachValues : Breach → Values
+breachValues (Late s u) = judged 1 s u 0
+breachValues (Rule s c) = judged 2 s c 0
+breachValues (Unheard s r u) = judged 3 s r u
+
 abbrev pub verdictValues : Verdict → Values
 verdictValues Pass = judged 0 0 0 0
-verdictValues (Breached (Late s u)) = judged 1 s u 0
-verdictValues (Breached (Rule s c)) = judged 2 s c 0
-verdictValues (Breached (Unheard s r u)) = judged 3 s r u
+verdictValues (Breached b) = breachValues b
 
 abbrev pub judgementValues : Judgement → Values
 judgementValues (J.Judged v) = verdictValues v
@@ -78,4 +82,22 @@ packed v =
 -- the solver's: number, line (two bytes), count of minutes (two bytes)
 abbrev pub packedWritten : Written → ℕ
 packedWritten (W.Count n) = 16777216 * n
-packedWritten (W.Refused r) = numberOf (r .cause) + 256 * r .line
+packedWritten (W.Refused r) = packed (refused r)
+
+-- the promise of the solver's call: the number, and the bytes as it returns
+pub record BenchLeaves (l : Left) (r : ℕ) (b : List ℕ) : Type 0 where
+  pub answer : r ≡ packedWritten (l .answer)
+  pub memory : b ≡ l .memory
+
+-- each value of an answer fits its bytes
+pub record Small (v : Values) : Type 0 where
+  pub number : v .number < 256
+  pub line : v .line < 65536
+  pub word : v .word < 4
+  pub first : v .first < 256
+  pub second : v .second < 256
+  pub third : v .third < 256
+
+abbrev pub Fits : Written → Type 0
+Fits (W.Count n) = n ≤ 256
+Fits (W.Refused r) = Unit {0}

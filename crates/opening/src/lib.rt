@@ -8,6 +8,8 @@ use refusal::Refusal;
 use sheet::Outcome;
 use solver::Solved;
 
+pub mod bench;
+
 pub struct Counts {
     pub horizon: u16,
     pub events: usize,

@@ -1,0 +1,93 @@
+-- `opening::bench::judge_bytes` meets its contract: a count of bytes that is not twice the cells is refused, whether odd or not, and the front of the unpacked table is the minutes. Assumes nothing.
+use Rattle.opening.proofs.Bytes.{unpacked-front, unpacked-long, unpacked-sized}
+use mathlib.Core.List.{List}
+use Rattle.checker.specs.Verdict.{verdict}
+use denote.Ref.{now}
+use native.Mathlib.Omega.{arith}
+use Prim.Native.Nat.{ℕ, _*_}
+use mathlib.Core.Path.{sym, _∙_, ap}
+use lib.ListN.{take}
+use Rattle.sheet.specs.declared.Outcome.the-variants.{Refused}
+use Rattle.opening.specs.declared.Judgement.the-variants as J
+use Rattle.opening.proofs.Calls.{well-formed}
+use Rattle.opening.proofs.Bytes.{cells-few, bench-of, bench-wrong, bench-judged}
+use borrow.Author.Needs.{needs}
+use Rattle.opening.proofs.bench.judge_bytes.Statement.{statement}
+use Rattle.opening.proofs.bench.judge_bytes.Tie as tie
+
+read-requires : tie.Need-read-requires
+read-requires c κs = search needs
+
+enum-known-outcome : tie.Need-enum-known-outcome
+enum-known-outcome c = search needs
+
+enum-told : tie.Need-enum-told
+enum-told c = search needs
+
+cell-count-requires : tie.Need-cell-count-requires
+cell-count-requires c κs =
+    let w = well-formed (now (c .before .before .before .before .before .before .args .sheet)) (c .before .before .before .read .result) (c .before .before .before .read .ensures) (c .enum-told .given .1) .0 in
+    (w .events, w .signals)
+
+mul-if1 : tie.Need-mul-if1
+mul-if1 c =
+    let w = well-formed (now (c .before .before .before .before .before .before .before .args .sheet)) (c .before .before .before .before .read .result) (c .before .before .before .before .read .ensures) (c .before .enum-told .given .1) .0 in
+    omega (arith, c .cell-count .ensures, cells-few w)
+
+without-line-requires : tie.Need-without-line-requires
+without-line-requires c κs = search needs
+
+returns : tie.Need-returns
+returns c =
+    ap J.Refused (c .without-line .ensures)
+    ∙ bench-wrong (now (c .before .before .before .before .before .before .before .before .before .args .sheet)) (c .before .before .before .before .before .before .read .result) (c .before .before .before .before .before .before .read .ensures) (c .before .before .before .enum-told .given .1) (now (c .before .before .before .before .before .before .before .before .before .args .bytes))
+    (λ z. c .before .if1 .taken (z ∙ ap (λ (k : ℕ). 2 * k) (sym (c .before .before .cell-count .ensures))))
+
+slice-aggregate-unpack : tie.Need-slice-aggregate-unpack
+slice-aggregate-unpack c = search needs
+
+unpack-requires : tie.Need-unpack-requires
+unpack-requires c κs =
+    let w = well-formed (now (c .before .before .before .before .before .before .before .before .before .args .sheet)) (c .before .before .before .before .before .before .read .result) (c .before .before .before .before .before .before .read .ensures) (c .before .before .before .enum-told .given .1) .0 in
+    omega (arith, c .before .before .cell-count .ensures, cells-few w)
+
+array-share-prefix-table : tie.Need-array-share-prefix-table
+array-share-prefix-table c = unpacked-long (now (c .before .before .before .before .before .before .before .before .before .before .before .args .bytes)) _ _ (c .before .before .before .before .cell-count .result) (c .before .before .before .if1 .left) (c .before .unpack .ensures)
+
+slice-aggregate-check : tie.Need-slice-aggregate-check
+slice-aggregate-check c = sym (unpacked-sized (now (c .before .before .before .before .before .before .before .before .before .before .before .before .args .bytes)) _ _ (c .before .before .before .before .before .cell-count .result) (c .before .before .before .before .if1 .left) (c .before .before .unpack .ensures))
+
+check-requires : tie.Need-check-requires
+check-requires c κs = (
+  well-formed (now (c .before .before .before .before .before .before .before .before .before .before .before .before .args .sheet)) (c .before .before .before .before .before .before .before .before .before .read .result) (c .before .before .before .before .before .before .before .before .before .read .ensures) (c .before .before .before .before .before .before .enum-told .given .1) .0,
+  unpacked-sized (now (c .before .before .before .before .before .before .before .before .before .before .before .before .args .bytes)) _ _ (c .before .before .before .before .before .cell-count .result) (c .before .before .before .before .if1 .left) (c .before .before .unpack .ensures) ∙ c .before .before .before .before .before .cell-count .ensures,
+)
+
+returns-2 : tie.Need-returns-2
+returns-2 c = bench-of (now (c .before .before .before .before .before .before .before .args .sheet)) (c .before .before .before .before .read .result) (c .before .before .before .before .read .ensures) (Refused (c .before .outcome .given .0 .0)) (c .before .outcome .given .1) (now (c .before .before .before .before .before .before .before .args .bytes))
+
+returns-3 : tie.Need-returns-3
+returns-3 c =
+    let front = unpacked-front (now (c .before .before .before .before .before .before .before .before .before .before .before .before .before .args .bytes)) _ _ (c .before .before .before .before .before .before .cell-count .result) (c .before .before .before .before .before .if1 .left) (c .before .before .before .unpack .ensures) in
+    ap J.Judged (c .check .ensures ∙ ap (λ (t : List ℕ). verdict (c .before .before .before .before .before .before .before .before .before .before .read .result .network) t) front)
+    ∙ bench-judged (now (c .before .before .before .before .before .before .before .before .before .before .before .before .before .args .sheet)) (c .before .before .before .before .before .before .before .before .before .before .read .result) (c .before .before .before .before .before .before .before .before .before .before .read .ensures) (c .before .before .before .before .before .before .before .enum-told .given .1) (now (c .before .before .before .before .before .before .before .before .before .before .before .before .before .args .bytes))
+    (c .before .before .before .before .before .if1 .left ∙ ap (λ (k : ℕ). 2 * k) (c .before .before .before .before .before .before .cell-count .ensures))
+
+pub judge-bytes-spec : {M : Type 1} → statement M
+judge-bytes-spec =
+    tie.close
+    (tie.spec
+    read-requires
+    enum-known-outcome
+    enum-told
+    cell-count-requires
+    mul-if1
+    without-line-requires
+    returns
+    slice-aggregate-unpack
+    unpack-requires
+    array-share-prefix-table
+    slice-aggregate-check
+    check-requires
+    returns-2
+    returns-3)

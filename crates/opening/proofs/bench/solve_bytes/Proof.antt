@@ -1,0 +1,112 @@
+-- `opening::bench::solve_bytes` meets its contract: the solver works in a table of its own, whose front is what the run reached, and that front is written as pairs. Assumes nothing.
+use Rattle.opening.proofs.Bytes.{solved-long}
+use denote.Ref.{now}
+use native.Mathlib.Omega.{arith}
+use mathlib.Core.Path.{_≡_, sym}
+use lib.ListN.{length, take}
+use Rattle.opening.proofs.Calls.{well-formed, solving-refused}
+use Rattle.opening.proofs.Bytes.{cells-few, bench-kept, bench-short, bench-none, bench-solved, solved-sized}
+use Rattle.pairs.specs.Pairs.{minutesOf}
+use borrow.Author.Needs.{needs}
+use Rattle.opening.proofs.bench.solve_bytes.Statement.{statement}
+use Rattle.opening.proofs.bench.solve_bytes.Tie as tie
+
+read-requires : tie.Need-read-requires
+read-requires c κs = search needs
+
+enum-known-outcome : tie.Need-enum-known-outcome
+enum-known-outcome c = search needs
+
+enum-told : tie.Need-enum-told
+enum-told c = search needs
+
+cell-count-requires : tie.Need-cell-count-requires
+cell-count-requires c κs =
+    let w = well-formed (now (c .before .before .before .before .before .before .args .sheet)) (c .before .before .before .read .result) (c .before .before .before .read .ensures) (c .enum-told .given .1) .0 in
+    (w .events, w .signals)
+
+without-line-requires : tie.Need-without-line-requires
+without-line-requires c κs = search needs
+
+returns : tie.Need-returns
+returns c =
+    rw (c .without-line .ensures)
+    (bench-short (now (c .before .before .before .before .before .before .before .before .before .args .sheet)) (c .before .before .before .before .before .before .read .result) (c .before .before .before .before .before .before .read .ensures) (c .before .before .before .enum-told .given .1) (now (c .before .before .before .before .before .before .before .before .before .args .bytes)) (omega (arith, c .before .before .cell-count .ensures)))
+
+slice-aggregate-solve : tie.Need-slice-aggregate-solve
+slice-aggregate-solve c = search needs
+
+solve-requires : tie.Need-solve-requires
+solve-requires c κs =
+    let w = well-formed (now (c .before .before .before .before .before .before .before .before .before .args .sheet)) (c .before .before .before .before .before .before .read .result) (c .before .before .before .before .before .before .read .ensures) (c .before .before .before .enum-told .given .1) .0 in
+    (w, cells-few w)
+
+enum-told-2 : tie.Need-enum-told-2
+enum-told-2 c = search needs
+
+array-share-prefix-table : tie.Need-array-share-prefix-table
+array-share-prefix-table c =
+    let w = well-formed (now (c .before .before .before .before .before .before .before .before .before .before .before .before .before .args .sheet)) (c .before .before .before .before .before .before .before .before .before .before .read .result) (c .before .before .before .before .before .before .before .before .before .before .read .ensures) (c .before .before .before .before .before .before .before .enum-told .given .1) .0 in
+    omega (arith, c .before .before .before .before .before .before .cell-count .ensures, solved-long (c .before .before .before .before .before .before .before .before .before .before .read .result .network) w _ _ (c .before .before .before .solve .result) (c .before .before .before .solve .ensures) (c .enum-told2 .given .0 .0) (c .enum-told2 .given .1))
+
+slice-aggregate-pack : tie.Need-slice-aggregate-pack
+slice-aggregate-pack c =
+    let w = well-formed (now (c .before .before .before .before .before .before .before .before .before .before .before .before .before .before .args .sheet)) (c .before .before .before .before .before .before .before .before .before .before .before .read .result) (c .before .before .before .before .before .before .before .before .before .before .before .read .ensures) (c .before .before .before .before .before .before .before .before .enum-told .given .1) .0 in
+    rw (c .before .before .before .before .before .before .before .cell-count .ensures)
+    (sym (solved-sized (c .before .before .before .before .before .before .before .before .before .before .before .read .result .network) w _ _ (c .before .before .before .before .solve .result) (c .before .before .before .before .solve .ensures) (c .before .enum-told2 .given .0 .0) (c .before .enum-told2 .given .1)))
+
+pack-requires : tie.Need-pack-requires
+pack-requires c κs =
+    let w = well-formed (now (c .before .before .before .before .before .before .before .before .before .before .before .before .before .before .before .args .sheet)) (c .before .before .before .before .before .before .before .before .before .before .before .before .read .result) (c .before .before .before .before .before .before .before .before .before .before .before .before .read .ensures) (c .before .before .before .before .before .before .before .before .before .enum-told .given .1) .0 in
+    let size : length (take (c .before .before .before .before .before .before .before .before .cell-count .result) (c .before .before .before .before .before .solve .last .1 .0)) ≡ c .before .before .before .before .before .before .before .before .cell-count .result =
+    rw (c .before .before .before .before .before .before .before .before .cell-count .ensures)
+    (solved-sized (c .before .before .before .before .before .before .before .before .before .before .before .before .read .result .network) w _ _ (c .before .before .before .before .before .solve .result) (c .before .before .before .before .before .solve .ensures) (c .before .before .enum-told2 .given .0 .0) (c .before .before .enum-told2 .given .1)) in
+    omega arith
+
+enum-told-3 : tie.Need-enum-told-3
+enum-told-3 c = search needs
+
+without-line-requires-2 : tie.Need-without-line-requires-2
+without-line-requires-2 c κs = search needs
+
+returns-2 : tie.Need-returns-2
+returns-2 c = bench-kept (now (c .before .before .before .before .before .before .before .args .sheet)) (now (c .before .before .before .before .before .before .before .args .bytes)) (c .before .outcome .given .0 .0) _ (solving-refused (now (c .before .before .before .before .before .before .before .args .sheet)) (c .before .before .before .before .read .result) (c .before .before .before .before .read .ensures) (c .before .outcome .given .0 .0) (c .before .outcome .given .1) (minutesOf (now (c .before .before .before .before .before .before .before .args .bytes))))
+
+same-length : tie.Need-same-length
+same-length c = search needs
+
+returns-3 : tie.Need-returns-3
+returns-3 c =
+    rw (c .before .before .before .before .before .before .before .before .before .before .before .cell-count .ensures)
+    (bench-solved (now (c .before .before .before .before .before .before .before .before .before .before .before .before .before .before .before .before .before .before .args .sheet)) (c .before .before .before .before .before .before .before .before .before .before .before .before .before .before .before .read .result) (c .before .before .before .before .before .before .before .before .before .before .before .before .before .before .before .read .ensures) (c .before .before .before .before .before .before .before .before .before .before .before .before .enum-told .given .1) (now (c .before .before .before .before .before .before .before .before .before .before .before .before .before .before .before .before .before .before .args .bytes)) _ _ (c .before .before .pack .last .1 .0)
+    (c .before .before .before .before .before .before .before .before .solve .result) (c .before .before .before .before .before .enum-told2 .given .0 .0) (omega (arith, c .before .before .before .before .before .before .before .before .before .before .before .cell-count .ensures)) (c .before .before .before .before .before .before .before .before .solve .ensures) (c .before .before .before .before .before .enum-told2 .given .1)
+    (rw (c .before .before .before .before .before .before .before .before .before .before .before .cell-count .ensures) at (c .before .before .pack .ensures)))
+
+returns-4 : tie.Need-returns-4
+returns-4 c =
+    rw (c .without-line2 .ensures)
+    (bench-none (now (c .before .before .before .before .before .before .before .before .before .before .before .before .before .before .args .sheet)) (c .before .before .before .before .before .before .before .before .before .before .before .read .result) (c .before .before .before .before .before .before .before .before .before .before .before .read .ensures) (c .before .before .before .before .before .before .before .before .enum-told .given .1) (now (c .before .before .before .before .before .before .before .before .before .before .before .before .before .before .args .bytes)) _ _
+    (c .before .before .before .before .solve .result) (c .before .enum-told3 .given .0 .0) (omega (arith, c .before .before .before .before .before .before .before .cell-count .ensures)) (c .before .before .before .before .solve .ensures) (c .before .enum-told3 .given .1))
+
+pub solve-bytes-spec : {M : Type 1} → statement M
+solve-bytes-spec =
+    tie.close
+    (tie.spec
+    read-requires
+    enum-known-outcome
+    enum-told
+    cell-count-requires
+    without-line-requires
+    returns
+    slice-aggregate-solve
+    solve-requires
+    enum-told-2
+    array-share-prefix-table
+    slice-aggregate-pack
+    pack-requires
+    enum-told-3
+    without-line-requires-2
+    returns-2
+    same-length
+    returns-3
+    returns-4)
