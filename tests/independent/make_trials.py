@@ -276,7 +276,7 @@ def wrong_lengths():
 def write():
     data = HOME / "data"
     data.mkdir(parents=True, exist_ok=True)
-    for old in data.iterdir():
+    for old in data.glob("[0-9]*"):
         old.unlink()
     index = ["# The trial files", "", "Written by `independent/make_trials.py`. `T`: there is a table.", ""]
     for number, (about, text, _, table) in enumerate(TRIALS, 1):
@@ -292,6 +292,8 @@ def answers():
     """The output cut into one text per trial, without its number."""
     found = []
     for text in (HOME / "stdout").read_text().splitlines():
+        if text.startswith("small "):
+            break
         if text[:4] == f"{len(found) + 1:03} ":
             found.append([text[4:]])
         else:

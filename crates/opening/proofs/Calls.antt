@@ -44,7 +44,7 @@ leaves-as : {l k : Left} {r : _} {m : List ℕ} → l ≡ k → Leaves l r m →
 leaves-as e h = rw (← e) h
 
 -- a text that there is room for, and one that there is not
-written-room : (text m : List ℕ) → length text ≤ length m
+pub written-room : (text m : List ℕ) → length text ≤ length m
     → written text m ≡ record { answer = W.Count (length text); memory = text ++ drop (length text) m }
 written-room text m h = rw (le-leb (length text) (length m) h, written)
 
@@ -95,7 +95,7 @@ module _ (sheet : List ℕ) (g : Reading) (e : g ≡ read sheet) where
         leaves-as (rw (ne-eqb (length t) (cells (g .network)) n, listingFor) at (listed-of Accepted a t m)) (record { answer = refl; memory = refl })
 
     -- with room, the call does what the run's end says
-    solving-room : (m : List ℕ) → cells (g .network) ≤ length m
+    pub solving-room : (m : List ℕ) → cells (g .network) ≤ length m
         → solvedFor (solve (g .network) .end) (solve (g .network) .reached) m ≡ solving sheet m
     solving-room m h = rw (le-leb (cells (g .network)) (length m) h, solvingFor) at (solving-of Accepted a m)
 

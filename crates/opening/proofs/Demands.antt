@@ -14,6 +14,7 @@ use Rattle.solver.specs.Solve.{solve}
 use Rattle.solver.proofs.Hyperarcs.{hyperarcs-agree}
 use Rattle.solver.proofs.Least.{solve-least, solve-none}
 use Rattle.opening.specs.Demands.{Reads, Demands}
+use Rattle.opening.proofs.Promises.{solving-keeps, listing-keeps, bench-keeps, judges, refuses, solves}
 
 -- the network of an accepted sheet is well-formed
 pub reads-well-formed : {sheet : List ℕ} {Γ : Network} → Reads sheet Γ → WellFormed Γ
@@ -21,6 +22,9 @@ reads-well-formed {sheet} r = rw (← r .network) (accepted-well-formed sheet (r
 
 pub demands : Demands
 demands = record {
+  solving-keeps = solving-keeps;
+  listing-keeps = listing-keeps;
+  bench-keeps = bench-keeps;
   accepted = accepted-iff;
   judged = λ sheet σ Γ r l. judged Γ σ l;
   breach-first = λ sheet σ Γ b r e. breach-first Γ σ b e;
@@ -30,4 +34,7 @@ demands = record {
     λ n. solve-none Γ (reads-well-formed r) n,
     λ i e. i .none (solve Γ .reached) (solve-least Γ (reads-well-formed r) e .solves),
   );
+  passes = λ sheet t Γ r. rw (← r .network) (judges sheet (r .accepted) t);
+  refused = λ sheet m Γ r. rw (← r .network) (λ h. refuses sheet (r .accepted) m h);
+  solved = λ sheet m Γ r. rw (← r .network) (λ h. solves sheet (r .accepted) m h);
 }

@@ -1,6 +1,7 @@
--- The calls, those of the bench, the demands, and the trial sheets.
+-- The calls, those of the bench, what they promise, the demands, and the trial sheets.
 pub mod Calls
 pub mod Bytes
 pub mod Small
+pub mod Promises
 pub mod Demands
 pub mod Trials

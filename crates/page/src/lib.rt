@@ -38,7 +38,7 @@ pub fn push_field(page: &mut [u8], at: usize, s: &[u8]) -> usize
 
 // A number in decimal.
 pub fn push_number(page: &mut [u8], at: usize, v: u16) -> usize
-    requires { ⌜ at + length (decimal v) ≤ length (now page) ⌝ }
+    requires { ⌜ at + 5 ≤ length (now page) ⌝ }
     ensures { λ r. ⌜ Appended 5 (now (page .entry)) at (decimal v) (now (page .exit)) r ⌝ }
 {
     let digits = text::spell(v);

@@ -1,0 +1,94 @@
+//! The plain loops: each round takes, for every cell, all rules, all other cases and all signals, straight from the definitions.
+//! The reader is that of equal.rs; the answers are the same.
+
+use crate::equal::{by_bytes, read, Constraint, Kind, Network, Refusal, EVENTS, SCENARIOS};
+
+/// Minutes by case and event.
+type Table = [[i32; EVENTS]; SCENARIOS];
+
+/// The minute from which event `u` of case `s` has to be on by one rule, from the table before the round.
+fn by_rule(table: &Table, c: &Constraint, s: usize, u: usize) -> i32 {
+    let (from, to) = (usize::from(c.from), usize::from(c.to));
+    let mut least = 0;
+    if c.label.covers(s) {
+        if u == from && !matches!(c.kind, Kind::Min) {
+            least = least.max(table[s][to] - c.limit);
+        }
+        if u == to && !matches!(c.kind, Kind::Max) {
+            least = least.max(table[s][from] + c.limit);
+        }
+    }
+    least
+}
+
+/// The minute from which event `u` of case `s` has to be on by the hyperarc to case `r`: that of `u` in `r`, or one more than the
+/// earliest minute in `s` of a signal on which the two differ.
+fn by_case(network: &Network, table: &Table, s: usize, r: usize, u: usize) -> i32 {
+    let mut least = table[r][u];
+    for (p, &event) in network.observations().iter().enumerate() {
+        if (s ^ r) >> p & 1 == 1 {
+            least = least.min(table[s][usize::from(event)] + 1);
+        }
+    }
+    least
+}
+
+#[inline(never)]
+fn round(network: &Network, table: &Table) -> Table {
+    let mut new = [[0; EVENTS]; SCENARIOS];
+    for s in 0..network.scenarios() {
+        for u in 0..network.events() {
+            let mut least = table[s][u];
+            for c in network.constraints() {
+                least = least.max(by_rule(table, c, s, u));
+            }
+            for r in 0..network.scenarios() {
+                if r != s {
+                    least = least.max(by_case(network, table, s, r, u));
+                }
+            }
+            new[s][u] = least;
+        }
+    }
+    new
+}
+
+/// Whether a minute is over the horizon, or a start is not 0.
+fn passes(network: &Network, table: &Table) -> bool {
+    let rows = &table[..network.scenarios()];
+    rows.iter().any(|row| row[0] > 0 || row[..network.events()].iter().any(|&minute| minute > i32::from(network.horizon)))
+}
+
+#[inline(never)]
+pub fn solve_counted(sheet: &[u8], table: &mut [u16]) -> (Result<usize, Refusal>, u32) {
+    let network = match read(sheet) {
+        Ok(network) => network,
+        Err(refusal) => return (Err(refusal), 0),
+    };
+    let cells = network.cells();
+    if table.len() < cells {
+        return (Err((12, 0)), 0);
+    }
+    let mut minutes = [[0; EVENTS]; SCENARIOS];
+    let mut count = 0;
+    loop {
+        let new = round(&network, &minutes);
+        count += 1;
+        if passes(&network, &new) {
+            return (Err((13, 0)), count);
+        }
+        if new == minutes {
+            break;
+        }
+        minutes = new;
+    }
+    let rows = minutes[..network.scenarios()].iter().flat_map(|row| &row[..network.events()]);
+    for (out, &minute) in table.iter_mut().zip(rows) {
+        *out = minute as u16;
+    }
+    (Ok(cells), count)
+}
+
+pub fn solve_bytes(sheet: &[u8], bytes: &mut [u8]) -> u64 {
+    by_bytes(solve_counted, sheet, bytes)
+}

@@ -1,0 +1,146 @@
+// Runs the trial sheets of data/ and prints what the public calls make of each, then compares the solver with the exhaustive search on
+// the small sheets. What it is to print was written by another program, which shares nothing with this one.
+mod say;
+mod small;
+
+ghost use Rattle.io.specs.Counts.{Counts};
+use opening::Judgement;
+use opening::Summary;
+use opening::Written;
+use refusal::Cause;
+use refusal::Refusal;
+
+// Reads a file of data/ into buf; one that can't be opened counts as empty.
+fn read_file(path: &[u8], buf: &mut [u8]) -> usize
+    ensures { λ r. ⌜ Counts r (now (buf .exit)) ⌝ }
+{
+    let fd = os::open_read(path);
+    if fd < 0 {
+        return 0;
+    }
+    let n = io::read_full(fd, buf);
+    libc::close(fd);
+    n
+}
+
+fn list(sheet: &[u8], table: &[u16]) {
+    let mut out = [0u8; 2048];
+    let written = opening::write_listing(sheet, table, &mut out);
+    match written {
+        Written::Refused(refusal) => {
+            say::text(b"listed ");
+            say::refused(refusal);
+        }
+        Written::Count(n) => say::front(&out, n),
+    }
+}
+
+// The listing of the first n minutes.
+fn list_front(sheet: &[u8], table: &[u16], n: usize) {
+    if n <= table.len() {
+        list(sheet, &table[..n]);
+    }
+}
+
+fn solve(sheet: &[u8]) {
+    let mut table = [0u16; 256];
+    let written = opening::solve_sheet(sheet, &mut table);
+    match written {
+        Written::Refused(refusal) => {
+            say::text(b"solved ");
+            say::refused(refusal);
+        }
+        Written::Count(n) => list_front(sheet, &table, n),
+    }
+}
+
+// An odd count of bytes is no table of any length; the sheet's own refusal comes first.
+fn half_minute(sheet: &[u8]) -> Judgement {
+    let summary = opening::read_sheet(sheet);
+    match summary {
+        Summary::Refused(refusal) => Judgement::Refused(refusal),
+        Summary::Accepted(_) => Judgement::Refused(Refusal {
+            cause: Cause::WrongTableLength,
+            line: 0,
+        }),
+    }
+}
+
+fn judge(sheet: &[u8], table: &[u16], odd: bool) -> Judgement {
+    if odd {
+        return half_minute(sheet);
+    }
+    opening::judge_table(sheet, table)
+}
+
+// The verdict on the first n minutes, and their listing; odd where half a minute stands behind them.
+fn judge_front(sheet: &[u8], table: &[u16], n: usize, odd: bool) {
+    if n <= table.len() {
+        let judgement = judge(sheet, &table[..n], odd);
+        say::judgement(judgement);
+        list_front(sheet, table, n);
+    }
+}
+
+// A table of bytes, two a minute.
+fn handed_in(sheet: &[u8], bytes: &[u8]) {
+    let mut table = [0u16; 512];
+    let n = bytes.len() / 2;
+    if n <= 512 {
+        pairs::unpack(bytes, &mut table);
+        judge_front(sheet, &table, n, bytes.len() % 2 == 1);
+    }
+}
+
+fn is_accepted(sheet: &[u8]) -> bool {
+    let summary = opening::read_sheet(sheet);
+    match summary {
+        Summary::Accepted(_) => true,
+        Summary::Refused(_) => false,
+    }
+}
+
+fn trial(sheet: &[u8], bytes: &[u8]) {
+    say::summary(opening::read_sheet(sheet));
+    if 0 < bytes.len() {
+        handed_in(sheet, bytes);
+        return;
+    }
+    if is_accepted(sheet) {
+        solve(sheet);
+    }
+}
+
+// One byte more than a sheet may have, so that a longer one is seen to be longer.
+fn from_files(csv: &[u8], tab: &[u8]) {
+    let mut sheet = [0u8; 4097];
+    let mut bytes = [0u8; 1024];
+    let n = read_file(csv, &mut sheet);
+    let k = read_file(tab, &mut bytes);
+    trial(&sheet[..n], &bytes[..k]);
+}
+
+// The sheet in data/NNN.csv and the table in data/NNN.tab, where there is one.
+fn numbered(i: u8) {
+    let hundreds = b'0' + i / 100 % 10;
+    let tens = b'0' + i / 10 % 10;
+    let ones = b'0' + i % 10;
+    let name = [hundreds, tens, ones, b' '];
+    let csv = [hundreds, tens, ones, b'.', b'c', b's', b'v'];
+    let tab = [hundreds, tens, ones, b'.', b't', b'a', b'b'];
+    say::text(&name);
+    from_files(&csv, &tab);
+}
+
+fn small_sheets() {
+    let mut text = io::large_buffer();
+    let n = read_file(b"small.csv", &mut text);
+    small::all(&text[..n]);
+}
+
+fn main() {
+    for i in 1..=161u8 {
+        numbered(i);
+    }
+    small_sheets();
+}

@@ -1,0 +1,96 @@
+// What the program prints. A write that fails is left at that: the output then differs from what is expected.
+use checker::Breach;
+use checker::Verdict;
+use libc::STDOUT_FILENO;
+use opening::Judgement;
+use opening::Summary;
+use refusal::Refusal;
+
+pub fn text(s: &[u8]) {
+    io::write_all(STDOUT_FILENO, s);
+}
+
+// The first n bytes.
+pub fn front(s: &[u8], n: usize) {
+    if n <= s.len() {
+        text(&s[..n]);
+    }
+}
+
+pub fn number(n: u64) {
+    io::print_decimal(STDOUT_FILENO, n);
+}
+
+// A space and the number.
+fn and_number(n: usize) {
+    text(b" ");
+    number(n as u64);
+}
+
+pub fn refused(refusal: Refusal) {
+    let cause = refusal.cause;
+    let line = refusal.line;
+    text(b"refused");
+    and_number(refusal::number(cause) as usize);
+    text(b" line");
+    and_number(line as usize);
+    text(b"\n");
+}
+
+pub fn summary(summary: Summary) {
+    match summary {
+        Summary::Refused(refusal) => refused(refusal),
+        Summary::Accepted(counts) => {
+            text(b"accepted");
+            and_number(counts.horizon as usize);
+            and_number(counts.events);
+            and_number(counts.signals);
+            and_number(counts.rules);
+            text(b"\n");
+        }
+    }
+}
+
+fn breach(breach: Breach) {
+    match breach {
+        Breach::Late { scenario, event } => {
+            text(b"late");
+            and_number(scenario);
+            and_number(event);
+        }
+        Breach::Rule {
+            scenario,
+            constraint,
+        } => {
+            text(b"rule");
+            and_number(scenario);
+            and_number(constraint);
+        }
+        Breach::Unheard {
+            scenario,
+            other,
+            event,
+        } => {
+            text(b"unheard");
+            and_number(scenario);
+            and_number(other);
+            and_number(event);
+        }
+    }
+    text(b"\n");
+}
+
+fn verdict(verdict: Verdict) {
+    match verdict {
+        Verdict::Pass => text(b"pass\n"),
+        Verdict::Breach(found) => breach(found),
+    }
+}
+
+pub fn judgement(judgement: Judgement) {
+    text(b"judged ");
+    match judgement {
+        Judgement::Refused(refusal) => refused(refusal),
+        Judgement::Judged(found) => verdict(found),
+    }
+}
