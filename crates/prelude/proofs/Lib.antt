@@ -4,3 +4,4 @@ pub mod Search
 pub mod Bounded
 pub mod Bytes
 pub mod Cells
+pub mod Examples
