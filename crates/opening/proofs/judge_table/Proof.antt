@@ -19,7 +19,9 @@ enum-told c = search needs
 
 cell-count-requires : tie.Need-cell-count-requires
 cell-count-requires c κs =
-    let w = well-formed (now (c .before .before .before .before .before .before .args .sheet)) (c .before .before .before .read .result) (c .before .before .before .read .ensures) (c .enum-told .given .1) .0 in
+    let args = c .before .before .before .before .before .before .args in
+    let read = c .before .before .before .read in
+    let w = well-formed (now (args .sheet)) (read .result) (read .ensures) (c .enum-told .given .1) .0 in
     (w .events, w .signals)
 
 without-line-requires : tie.Need-without-line-requires
@@ -27,21 +29,39 @@ without-line-requires c κs = search needs
 
 returns : tie.Need-returns
 returns c =
+    let args = c .before .before .before .before .before .before .before .before .before .args in
+    let read = c .before .before .before .before .before .before .read in
+    let enum-told = c .before .before .before .enum-told in
+    let if1 = c .before .if1 in
+    let cell-count = c .before .before .cell-count in
     ap J.Refused (c .without-line .ensures)
-    ∙ judged-wrong (now (c .before .before .before .before .before .before .before .before .before .args .sheet)) (c .before .before .before .before .before .before .read .result) (c .before .before .before .before .before .before .read .ensures) (c .before .before .before .enum-told .given .1) (now (c .before .before .before .before .before .before .before .before .before .args .table))
-    (λ z. c .before .if1 .taken (z ∙ sym (c .before .before .cell-count .ensures)))
+    ∙ judged-wrong (now (args .sheet)) (read .result) (read .ensures) (enum-told .given .1) (now (args .table))
+    (λ z. if1 .taken (z ∙ sym (cell-count .ensures)))
 
 check-requires : tie.Need-check-requires
 check-requires c κs =
-    (well-formed (now (c .before .before .before .before .before .before .before .before .args .sheet)) (c .before .before .before .before .before .read .result) (c .before .before .before .before .before .read .ensures) (c .before .before .enum-told .given .1) .0, c .if1 .left ∙ c .before .cell-count .ensures)
+    let args = c .before .before .before .before .before .before .before .before .args in
+    let read = c .before .before .before .before .before .read in
+    let enum-told = c .before .before .enum-told in
+    let cell-count = c .before .cell-count in
+    (well-formed (now (args .sheet)) (read .result) (read .ensures) (enum-told .given .1) .0, c .if1 .left ∙ cell-count .ensures)
 
 returns-2 : tie.Need-returns-2
-returns-2 c = judgement-of (now (c .before .before .before .before .before .before .before .args .sheet)) (c .before .before .before .before .read .result) (c .before .before .before .before .read .ensures) (Refused (c .before .outcome .given .0 .0)) (c .before .outcome .given .1) (now (c .before .before .before .before .before .before .before .args .table))
+returns-2 c =
+    let args = c .before .before .before .before .before .before .before .args in
+    let read = c .before .before .before .before .read in
+    let outcome = c .before .outcome in
+    judgement-of (now (args .sheet)) (read .result) (read .ensures) (Refused (outcome .given .0 .0)) (outcome .given .1) (now (args .table))
 
 returns-3 : tie.Need-returns-3
 returns-3 c =
+    let args = c .before .before .before .before .before .before .before .before .before .args in
+    let read = c .before .before .before .before .before .before .read in
+    let enum-told = c .before .before .before .enum-told in
+    let if1 = c .before .if1 in
+    let cell-count = c .before .before .cell-count in
     ap J.Judged (c .check .ensures)
-    ∙ judged-as (now (c .before .before .before .before .before .before .before .before .before .args .sheet)) (c .before .before .before .before .before .before .read .result) (c .before .before .before .before .before .before .read .ensures) (c .before .before .before .enum-told .given .1) (now (c .before .before .before .before .before .before .before .before .before .args .table)) (c .before .if1 .left ∙ c .before .before .cell-count .ensures)
+    ∙ judged-as (now (args .sheet)) (read .result) (read .ensures) (enum-told .given .1) (now (args .table)) (if1 .left ∙ cell-count .ensures)
 
 pub judge-table-spec : {M : Type 1} → statement M
 judge-table-spec =

@@ -16,10 +16,17 @@ enum-told : tie.Need-enum-told
 enum-told c = search needs
 
 returns : tie.Need-returns
-returns c = summary-of (now (c .before .before .before .before .before .before .args .sheet)) (c .before .before .before .before .read .result) (c .before .before .before .before .read .ensures) (Refused (c .before .outcome .given .0 .0)) (c .before .outcome .given .1)
+returns c =
+    let args = c .before .before .before .before .before .before .args in
+    let read = c .before .before .before .before .read in
+    let outcome = c .before .outcome in
+    summary-of (now (args .sheet)) (read .result) (read .ensures) (Refused (outcome .given .0 .0)) (outcome .given .1)
 
 returns-2 : tie.Need-returns-2
-returns-2 c = summary-of (now (c .before .before .before .before .before .args .sheet)) (c .before .before .before .read .result) (c .before .before .before .read .ensures) Accepted (c .enum-told .given .1)
+returns-2 c =
+    let args = c .before .before .before .before .before .args in
+    let read = c .before .before .before .read in
+    summary-of (now (args .sheet)) (read .result) (read .ensures) Accepted (c .enum-told .given .1)
 
 pub read-sheet-spec : {M : Type 1} → statement M
 read-sheet-spec = tie.close (tie.spec read-requires enum-known-outcome enum-told returns returns-2)

@@ -17,21 +17,34 @@ enum-told c = search needs
 
 cell-count-requires : tie.Need-cell-count-requires
 cell-count-requires c κs =
-    let w = well-formed (now (c .before .before .before .before .before .before .before .args .sheet)) (c .before .before .before .read .result) (c .before .before .before .read .ensures) (c .enum-told .given .1) .0 in
+    let args = c .before .before .before .before .before .before .before .args in
+    let read = c .before .before .before .read in
+    let w = well-formed (now (args .sheet)) (read .result) (read .ensures) (c .enum-told .given .1) .0 in
     (w .events, w .signals)
 
 without-line-requires : tie.Need-without-line-requires
 without-line-requires c κs = search needs
 
 returns : tie.Need-returns
-returns c = rw (c .without-line .ensures)
-    (listing-wrong (now (c .before .before .before .before .before .before .before .before .before .before .args .sheet)) (c .before .before .before .before .before .before .read .result) (c .before .before .before .before .before .before .read .ensures) (c .before .before .before .enum-told .given .1) (now (c .before .before .before .before .before .before .before .before .before .before .args .table)) (now (c .before .before .before .before .before .before .before .before .before .before .args .out))
-    (λ z. c .before .if1 .taken (z ∙ sym (c .before .before .cell-count .ensures))))
+returns c =
+    let args = c .before .before .before .before .before .before .before .before .before .before .args in
+    let read = c .before .before .before .before .before .before .read in
+    let enum-told = c .before .before .before .enum-told in
+    let if1 = c .before .if1 in
+    let cell-count = c .before .before .cell-count in
+    rw (c .without-line .ensures)
+    (listing-wrong (now (args .sheet)) (read .result) (read .ensures) (enum-told .given .1) (now (args .table)) (now (args .out))
+    (λ z. if1 .taken (z ∙ sym (cell-count .ensures))))
 
 write-requires : tie.Need-write-requires
 write-requires c κs =
-    let w = well-formed (now (c .before .before .before .before .before .before .before .before .before .before .args .sheet)) (c .before .before .before .before .before .before .read .result) (c .before .before .before .before .before .before .read .ensures) (c .before .before .before .enum-told .given .1) in
-    (w .0, w .1, c .before .if1 .left ∙ c .before .before .cell-count .ensures)
+    let args = c .before .before .before .before .before .before .before .before .before .before .args in
+    let read = c .before .before .before .before .before .before .read in
+    let enum-told = c .before .before .before .enum-told in
+    let if1 = c .before .if1 in
+    let cell-count = c .before .before .cell-count in
+    let w = well-formed (now (args .sheet)) (read .result) (read .ensures) (enum-told .given .1) in
+    (w .0, w .1, if1 .left ∙ cell-count .ensures)
 
 enum-known-written : tie.Need-enum-known-written
 enum-known-written c = search needs
@@ -43,24 +56,42 @@ without-line-requires-2 : tie.Need-without-line-requires-2
 without-line-requires-2 c κs = search needs
 
 returns-2 : tie.Need-returns-2
-returns-2 c = listing-refused (now (c .before .before .before .before .before .before .before .before .args .sheet)) (c .before .before .before .before .read .result) (c .before .before .before .before .read .ensures) (c .before .outcome .given .0 .0) (c .before .outcome .given .1) (now (c .before .before .before .before .before .before .before .before .args .table)) (now (c .before .before .before .before .before .before .before .before .args .out))
+returns-2 c =
+    let args = c .before .before .before .before .before .before .before .before .args in
+    let read = c .before .before .before .before .read in
+    let outcome = c .before .outcome in
+    listing-refused (now (args .sheet)) (read .result) (read .ensures) (outcome .given .0 .0) (outcome .given .1) (now (args .table)) (now (args .out))
 
 same-length : tie.Need-same-length
 same-length c = search needs
 
 returns-3 : tie.Need-returns-3
 returns-3 c =
-    listing-written (now (c .before .before .before .before .before .before .before .before .before .before .before .before .before .before .before .before .args .sheet)) (c .before .before .before .before .before .before .before .before .before .before .before .before .read .result) (c .before .before .before .before .before .before .before .before .before .before .before .before .read .ensures) (c .before .before .before .before .before .before .before .before .before .enum-told .given .1) (now (c .before .before .before .before .before .before .before .before .before .before .before .before .before .before .before .before .args .table)) (now (c .before .before .before .before .before .before .before .before .before .before .before .before .before .before .before .before .args .out))
-    (c .before .before .before .before .before .before .before .if1 .left ∙ c .before .before .before .before .before .before .before .before .cell-count .ensures) (c .before .before .before .before .before .write .last .1 .1 .1 .0) (c .before .before .before .before .before .write .result) (c .before .written .given .0 .0) (c .before .before .before .before .before .write .ensures) (c .before .written .given .1)
+    let args = c .before .before .before .before .before .before .before .before .before .before .before .before .before .before .before .before .args in
+    let read = c .before .before .before .before .before .before .before .before .before .before .before .before .read in
+    let enum-told = c .before .before .before .before .before .before .before .before .before .enum-told in
+    let if1 = c .before .before .before .before .before .before .before .if1 in
+    let cell-count = c .before .before .before .before .before .before .before .before .cell-count in
+    let write = c .before .before .before .before .before .write in
+    let written = c .before .written in
+    listing-written (now (args .sheet)) (read .result) (read .ensures) (enum-told .given .1) (now (args .table)) (now (args .out))
+    (if1 .left ∙ cell-count .ensures) (write .last .1 .1 .1 .0) (write .result) (written .given .0 .0) (write .ensures) (written .given .1)
 
 same-length-2 : tie.Need-same-length-2
 same-length-2 c = search needs
 
 returns-4 : tie.Need-returns-4
 returns-4 c =
+    let args = c .before .before .before .before .before .before .before .before .before .before .before .before .before .before .before .before .args in
+    let read = c .before .before .before .before .before .before .before .before .before .before .before .before .read in
+    let enum-told = c .before .before .before .before .before .before .before .before .before .enum-told in
+    let if1 = c .before .before .before .before .before .before .before .if1 in
+    let cell-count = c .before .before .before .before .before .before .before .before .cell-count in
+    let write = c .before .before .before .before .before .write in
+    let enum-told2 = c .before .enum-told2 in
     rw (c .without-line2 .ensures)
-    (listing-short (now (c .before .before .before .before .before .before .before .before .before .before .before .before .before .before .before .before .args .sheet)) (c .before .before .before .before .before .before .before .before .before .before .before .before .read .result) (c .before .before .before .before .before .before .before .before .before .before .before .before .read .ensures) (c .before .before .before .before .before .before .before .before .before .enum-told .given .1) (now (c .before .before .before .before .before .before .before .before .before .before .before .before .before .before .before .before .args .table)) (now (c .before .before .before .before .before .before .before .before .before .before .before .before .before .before .before .before .args .out))
-    (c .before .before .before .before .before .before .before .if1 .left ∙ c .before .before .before .before .before .before .before .before .cell-count .ensures) (c .before .before .before .before .before .write .last .1 .1 .1 .0) (c .before .before .before .before .before .write .result) (c .before .before .before .before .before .write .ensures) (c .before .enum-told2 .given .1))
+    (listing-short (now (args .sheet)) (read .result) (read .ensures) (enum-told .given .1) (now (args .table)) (now (args .out))
+    (if1 .left ∙ cell-count .ensures) (write .last .1 .1 .1 .0) (write .result) (write .ensures) (enum-told2 .given .1))
 
 pub write-listing-spec : {M : Type 1} → statement M
 write-listing-spec =

@@ -22,13 +22,22 @@ enum-known-judgement-2 c = search needs
 
 packed-verdict-requires : tie.Need-packed-verdict-requires
 packed-verdict-requires c κs =
-    bench-judgement-small (now (c .before .before .before .before .before .before .args .sheet)) (now (c .before .before .before .before .before .before .args .table)) (c .before .judgement2 .given .0 .0) (sym (c .before .before .before .judge-bytes .ensures) ∙ c .before .judgement2 .given .1)
+    let args = c .before .before .before .before .before .before .args in
+    let judgement2 = c .before .judgement2 in
+    let judge-bytes = c .before .before .before .judge-bytes in
+    bench-judgement-small (now (args .sheet)) (now (args .table)) (judgement2 .given .0 .0) (sym (judge-bytes .ensures) ∙ judgement2 .given .1)
 
 returns : tie.Need-returns
-returns c = c .packed-refusal .ensures ∙ ap (λ (j : Judgement). packed (judgementValues j)) (sym (c .before .before .judgement .given .1) ∙ c .before .before .before .before .judge-bytes .ensures)
+returns c =
+    let judgement = c .before .before .judgement in
+    let judge-bytes = c .before .before .before .before .judge-bytes in
+    c .packed-refusal .ensures ∙ ap (λ (j : Judgement). packed (judgementValues j)) (sym (judgement .given .1) ∙ judge-bytes .ensures)
 
 returns-2 : tie.Need-returns-2
-returns-2 c = c .packed-verdict .ensures ∙ ap (λ (j : Judgement). packed (judgementValues j)) (sym (c .before .before .judgement2 .given .1) ∙ c .before .before .before .before .judge-bytes .ensures)
+returns-2 c =
+    let judgement2 = c .before .before .judgement2 in
+    let judge-bytes = c .before .before .before .before .judge-bytes in
+    c .packed-verdict .ensures ∙ ap (λ (j : Judgement). packed (judgementValues j)) (sym (judgement2 .given .1) ∙ judge-bytes .ensures)
 
 pub opening-judge-spec : {M : Type 1} → statement M
 opening-judge-spec =

@@ -25,8 +25,11 @@ enum-known-written-2 c = search needs
 
 mul-result : tie.Need-mul-result
 mul-result c =
-    let few : c .before .written2 .given .0 .0 ≤ 256 =
-    count-few (now (c .before .before .before .before .before .before .before .before .before .args .sheet)) (minutesOf (now (c .before .before .before .before .before .before .before .before .before .args .table))) (c .before .written2 .given .0 .0) (sym (c .before .before .before .before .before .solve-bytes .ensures .answer) ∙ c .before .written2 .given .1) in
+    let written2 = c .before .written2 in
+    let args = c .before .before .before .before .before .before .before .before .before .args in
+    let solve-bytes = c .before .before .before .before .before .solve-bytes in
+    let few : written2 .given .0 .0 ≤ 256 =
+    count-few (now (args .sheet)) (minutesOf (now (args .table))) (written2 .given .0 .0) (sym (solve-bytes .ensures .answer) ∙ written2 .given .1) in
     omega arith
 
 same-length : tie.Need-same-length
@@ -34,9 +37,11 @@ same-length c = search needs
 
 returns : tie.Need-returns
 returns c =
+    let written = c .before .before .written in
+    let solve-bytes = c .before .before .before .before .before .before .solve-bytes in
     record {
-      answer = c .packed-refusal .ensures ∙ ap packedWritten (sym (c .before .before .written .given .1) ∙ c .before .before .before .before .before .before .solve-bytes .ensures .answer);
-      memory = c .before .before .before .before .before .before .solve-bytes .ensures .memory;
+      answer = c .packed-refusal .ensures ∙ ap packedWritten (sym (written .given .1) ∙ solve-bytes .ensures .answer);
+      memory = solve-bytes .ensures .memory;
     }
 
 same-length-2 : tie.Need-same-length-2
@@ -44,9 +49,11 @@ same-length-2 c = search needs
 
 returns-2 : tie.Need-returns-2
 returns-2 c =
+    let written2 = c .before .written2 in
+    let solve-bytes = c .before .before .before .before .before .solve-bytes in
     record {
-      answer = ap packedWritten (sym (c .before .written2 .given .1) ∙ c .before .before .before .before .before .solve-bytes .ensures .answer);
-      memory = c .before .before .before .before .before .solve-bytes .ensures .memory;
+      answer = ap packedWritten (sym (written2 .given .1) ∙ solve-bytes .ensures .answer);
+      memory = solve-bytes .ensures .memory;
     }
 
 pub opening-solve-spec : {M : Type 1} → statement M

@@ -22,7 +22,9 @@ enum-told c = search needs
 
 cell-count-requires : tie.Need-cell-count-requires
 cell-count-requires c κs =
-    let w = well-formed (now (c .before .before .before .before .before .before .args .sheet)) (c .before .before .before .read .result) (c .before .before .before .read .ensures) (c .enum-told .given .1) .0 in
+    let args = c .before .before .before .before .before .before .args in
+    let read = c .before .before .before .read in
+    let w = well-formed (now (args .sheet)) (read .result) (read .ensures) (c .enum-told .given .1) .0 in
     (w .events, w .signals)
 
 without-line-requires : tie.Need-without-line-requires
@@ -30,15 +32,22 @@ without-line-requires c κs = search needs
 
 returns : tie.Need-returns
 returns c =
+    let args = c .before .before .before .before .before .before .before .before .before .args in
+    let read = c .before .before .before .before .before .before .read in
+    let enum-told = c .before .before .before .enum-told in
+    let cell-count = c .before .before .cell-count in
     rw (c .without-line .ensures)
-    (bench-short (now (c .before .before .before .before .before .before .before .before .before .args .sheet)) (c .before .before .before .before .before .before .read .result) (c .before .before .before .before .before .before .read .ensures) (c .before .before .before .enum-told .given .1) (now (c .before .before .before .before .before .before .before .before .before .args .bytes)) (omega (arith, c .before .before .cell-count .ensures)))
+    (bench-short (now (args .sheet)) (read .result) (read .ensures) (enum-told .given .1) (now (args .bytes)) (omega (arith, cell-count .ensures)))
 
 slice-aggregate-solve : tie.Need-slice-aggregate-solve
 slice-aggregate-solve c = search needs
 
 solve-requires : tie.Need-solve-requires
 solve-requires c κs =
-    let w = well-formed (now (c .before .before .before .before .before .before .before .before .before .args .sheet)) (c .before .before .before .before .before .before .read .result) (c .before .before .before .before .before .before .read .ensures) (c .before .before .before .enum-told .given .1) .0 in
+    let args = c .before .before .before .before .before .before .before .before .before .args in
+    let read = c .before .before .before .before .before .before .read in
+    let enum-told = c .before .before .before .enum-told in
+    let w = well-formed (now (args .sheet)) (read .result) (read .ensures) (enum-told .given .1) .0 in
     (w, cells-few w)
 
 enum-told-2 : tie.Need-enum-told-2
@@ -46,21 +55,38 @@ enum-told-2 c = search needs
 
 array-share-prefix-table : tie.Need-array-share-prefix-table
 array-share-prefix-table c =
-    let w = well-formed (now (c .before .before .before .before .before .before .before .before .before .before .before .before .before .args .sheet)) (c .before .before .before .before .before .before .before .before .before .before .read .result) (c .before .before .before .before .before .before .before .before .before .before .read .ensures) (c .before .before .before .before .before .before .before .enum-told .given .1) .0 in
-    omega (arith, c .before .before .before .before .before .before .cell-count .ensures, solved-long (c .before .before .before .before .before .before .before .before .before .before .read .result .network) w _ _ (c .before .before .before .solve .result) (c .before .before .before .solve .ensures) (c .enum-told2 .given .0 .0) (c .enum-told2 .given .1))
+    let args = c .before .before .before .before .before .before .before .before .before .before .before .before .before .args in
+    let read = c .before .before .before .before .before .before .before .before .before .before .read in
+    let enum-told = c .before .before .before .before .before .before .before .enum-told in
+    let cell-count = c .before .before .before .before .before .before .cell-count in
+    let solve = c .before .before .before .solve in
+    let w = well-formed (now (args .sheet)) (read .result) (read .ensures) (enum-told .given .1) .0 in
+    omega (arith, cell-count .ensures, solved-long (read .result .network) w _ _ (solve .result) (solve .ensures) (c .enum-told2 .given .0 .0) (c .enum-told2 .given .1))
 
 slice-aggregate-pack : tie.Need-slice-aggregate-pack
 slice-aggregate-pack c =
-    let w = well-formed (now (c .before .before .before .before .before .before .before .before .before .before .before .before .before .before .args .sheet)) (c .before .before .before .before .before .before .before .before .before .before .before .read .result) (c .before .before .before .before .before .before .before .before .before .before .before .read .ensures) (c .before .before .before .before .before .before .before .before .enum-told .given .1) .0 in
-    rw (c .before .before .before .before .before .before .before .cell-count .ensures)
-    (sym (solved-sized (c .before .before .before .before .before .before .before .before .before .before .before .read .result .network) w _ _ (c .before .before .before .before .solve .result) (c .before .before .before .before .solve .ensures) (c .before .enum-told2 .given .0 .0) (c .before .enum-told2 .given .1)))
+    let args = c .before .before .before .before .before .before .before .before .before .before .before .before .before .before .args in
+    let read = c .before .before .before .before .before .before .before .before .before .before .before .read in
+    let enum-told = c .before .before .before .before .before .before .before .before .enum-told in
+    let cell-count = c .before .before .before .before .before .before .before .cell-count in
+    let solve = c .before .before .before .before .solve in
+    let enum-told2 = c .before .enum-told2 in
+    let w = well-formed (now (args .sheet)) (read .result) (read .ensures) (enum-told .given .1) .0 in
+    rw (cell-count .ensures)
+    (sym (solved-sized (read .result .network) w _ _ (solve .result) (solve .ensures) (enum-told2 .given .0 .0) (enum-told2 .given .1)))
 
 pack-requires : tie.Need-pack-requires
 pack-requires c κs =
-    let w = well-formed (now (c .before .before .before .before .before .before .before .before .before .before .before .before .before .before .before .args .sheet)) (c .before .before .before .before .before .before .before .before .before .before .before .before .read .result) (c .before .before .before .before .before .before .before .before .before .before .before .before .read .ensures) (c .before .before .before .before .before .before .before .before .before .enum-told .given .1) .0 in
-    let size : length (take (c .before .before .before .before .before .before .before .before .cell-count .result) (c .before .before .before .before .before .solve .last .1 .0)) ≡ c .before .before .before .before .before .before .before .before .cell-count .result =
-    rw (c .before .before .before .before .before .before .before .before .cell-count .ensures)
-    (solved-sized (c .before .before .before .before .before .before .before .before .before .before .before .before .read .result .network) w _ _ (c .before .before .before .before .before .solve .result) (c .before .before .before .before .before .solve .ensures) (c .before .before .enum-told2 .given .0 .0) (c .before .before .enum-told2 .given .1)) in
+    let args = c .before .before .before .before .before .before .before .before .before .before .before .before .before .before .before .args in
+    let read = c .before .before .before .before .before .before .before .before .before .before .before .before .read in
+    let enum-told = c .before .before .before .before .before .before .before .before .before .enum-told in
+    let cell-count = c .before .before .before .before .before .before .before .before .cell-count in
+    let solve = c .before .before .before .before .before .solve in
+    let enum-told2 = c .before .before .enum-told2 in
+    let w = well-formed (now (args .sheet)) (read .result) (read .ensures) (enum-told .given .1) .0 in
+    let size : length (take (cell-count .result) (solve .last .1 .0)) ≡ cell-count .result =
+    rw (cell-count .ensures)
+    (solved-sized (read .result .network) w _ _ (solve .result) (solve .ensures) (enum-told2 .given .0 .0) (enum-told2 .given .1)) in
     omega arith
 
 enum-told-3 : tie.Need-enum-told-3
@@ -70,23 +96,40 @@ without-line-requires-2 : tie.Need-without-line-requires-2
 without-line-requires-2 c κs = search needs
 
 returns-2 : tie.Need-returns-2
-returns-2 c = bench-kept (now (c .before .before .before .before .before .before .before .args .sheet)) (now (c .before .before .before .before .before .before .before .args .bytes)) (c .before .outcome .given .0 .0) _ (solving-refused (now (c .before .before .before .before .before .before .before .args .sheet)) (c .before .before .before .before .read .result) (c .before .before .before .before .read .ensures) (c .before .outcome .given .0 .0) (c .before .outcome .given .1) (minutesOf (now (c .before .before .before .before .before .before .before .args .bytes))))
+returns-2 c =
+    let args = c .before .before .before .before .before .before .before .args in
+    let outcome = c .before .outcome in
+    let read = c .before .before .before .before .read in
+    bench-kept (now (args .sheet)) (now (args .bytes)) (outcome .given .0 .0) _ (solving-refused (now (args .sheet)) (read .result) (read .ensures) (outcome .given .0 .0) (outcome .given .1) (minutesOf (now (args .bytes))))
 
 same-length : tie.Need-same-length
 same-length c = search needs
 
 returns-3 : tie.Need-returns-3
 returns-3 c =
-    rw (c .before .before .before .before .before .before .before .before .before .before .before .cell-count .ensures)
-    (bench-solved (now (c .before .before .before .before .before .before .before .before .before .before .before .before .before .before .before .before .before .before .args .sheet)) (c .before .before .before .before .before .before .before .before .before .before .before .before .before .before .before .read .result) (c .before .before .before .before .before .before .before .before .before .before .before .before .before .before .before .read .ensures) (c .before .before .before .before .before .before .before .before .before .before .before .before .enum-told .given .1) (now (c .before .before .before .before .before .before .before .before .before .before .before .before .before .before .before .before .before .before .args .bytes)) _ _ (c .before .before .pack .last .1 .0)
-    (c .before .before .before .before .before .before .before .before .solve .result) (c .before .before .before .before .before .enum-told2 .given .0 .0) (omega (arith, c .before .before .before .before .before .before .before .before .before .before .before .cell-count .ensures)) (c .before .before .before .before .before .before .before .before .solve .ensures) (c .before .before .before .before .before .enum-told2 .given .1)
-    (rw (c .before .before .before .before .before .before .before .before .before .before .before .cell-count .ensures) at (c .before .before .pack .ensures)))
+    let cell-count = c .before .before .before .before .before .before .before .before .before .before .before .cell-count in
+    let args = c .before .before .before .before .before .before .before .before .before .before .before .before .before .before .before .before .before .before .args in
+    let read = c .before .before .before .before .before .before .before .before .before .before .before .before .before .before .before .read in
+    let enum-told = c .before .before .before .before .before .before .before .before .before .before .before .before .enum-told in
+    let pack = c .before .before .pack in
+    let solve = c .before .before .before .before .before .before .before .before .solve in
+    let enum-told2 = c .before .before .before .before .before .enum-told2 in
+    rw (cell-count .ensures)
+    (bench-solved (now (args .sheet)) (read .result) (read .ensures) (enum-told .given .1) (now (args .bytes)) _ _ (pack .last .1 .0)
+    (solve .result) (enum-told2 .given .0 .0) (omega (arith, cell-count .ensures)) (solve .ensures) (enum-told2 .given .1)
+    (rw (cell-count .ensures) at (pack .ensures)))
 
 returns-4 : tie.Need-returns-4
 returns-4 c =
+    let args = c .before .before .before .before .before .before .before .before .before .before .before .before .before .before .args in
+    let read = c .before .before .before .before .before .before .before .before .before .before .before .read in
+    let enum-told = c .before .before .before .before .before .before .before .before .enum-told in
+    let solve = c .before .before .before .before .solve in
+    let enum-told3 = c .before .enum-told3 in
+    let cell-count = c .before .before .before .before .before .before .before .cell-count in
     rw (c .without-line2 .ensures)
-    (bench-none (now (c .before .before .before .before .before .before .before .before .before .before .before .before .before .before .args .sheet)) (c .before .before .before .before .before .before .before .before .before .before .before .read .result) (c .before .before .before .before .before .before .before .before .before .before .before .read .ensures) (c .before .before .before .before .before .before .before .before .enum-told .given .1) (now (c .before .before .before .before .before .before .before .before .before .before .before .before .before .before .args .bytes)) _ _
-    (c .before .before .before .before .solve .result) (c .before .enum-told3 .given .0 .0) (omega (arith, c .before .before .before .before .before .before .before .cell-count .ensures)) (c .before .before .before .before .solve .ensures) (c .before .enum-told3 .given .1))
+    (bench-none (now (args .sheet)) (read .result) (read .ensures) (enum-told .given .1) (now (args .bytes)) _ _
+    (solve .result) (enum-told3 .given .0 .0) (omega (arith, cell-count .ensures)) (solve .ensures) (enum-told3 .given .1))
 
 pub solve-bytes-spec : {M : Type 1} → statement M
 solve-bytes-spec =
