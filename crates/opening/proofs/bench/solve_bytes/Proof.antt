@@ -1,4 +1,5 @@
--- `opening::bench::solve_bytes` meets its contract: the solver works in a table of its own, whose front is what the run reached, and that front is written as pairs. Assumes nothing.
+-- `opening::bench::solve_bytes` meets its contract: the solver works in a table of its own, whose front is what the run
+-- reached, and that front is written as pairs. Assumes nothing.
 use Rattle.opening.proofs.Bytes.{solved-long}
 use denote.Ref.{now}
 use native.Mathlib.Omega.{arith}
@@ -61,7 +62,8 @@ array-share-prefix-table c =
     let cell-count = c .before .before .before .before .before .before .cell-count in
     let solve = c .before .before .before .solve in
     let w = well-formed (now (args .sheet)) (read .result) (read .ensures) (enum-told .given .1) .0 in
-    omega (arith, cell-count .ensures, solved-long (read .result .network) w _ _ (solve .result) (solve .ensures) (c .enum-told2 .given .0 .0) (c .enum-told2 .given .1))
+    let long = solved-long (read .result .network) w _ _ (solve .result) (solve .ensures) (c .enum-told2 .given .0 .0) (c .enum-told2 .given .1) in
+    omega (arith, cell-count .ensures)
 
 slice-aggregate-pack : tie.Need-slice-aggregate-pack
 slice-aggregate-pack c =
@@ -100,7 +102,10 @@ returns-2 c =
     let args = c .before .before .before .before .before .before .before .args in
     let outcome = c .before .outcome in
     let read = c .before .before .before .before .read in
-    bench-kept (now (args .sheet)) (now (args .bytes)) (outcome .given .0 .0) _ (solving-refused (now (args .sheet)) (read .result) (read .ensures) (outcome .given .0 .0) (outcome .given .1) (minutesOf (now (args .bytes))))
+    let refusal = outcome .given .0 .0 in
+    let bytes = now (args .bytes) in
+    bench-kept (now (args .sheet)) bytes refusal _
+    (solving-refused (now (args .sheet)) (read .result) (read .ensures) refusal (outcome .given .1) (minutesOf bytes))
 
 same-length : tie.Need-same-length
 same-length c = search needs
