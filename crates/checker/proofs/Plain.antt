@@ -13,10 +13,10 @@ use lib.ListN.{getD}
 use Rattle.prelude.specs.Bounded.{allBelow}
 use Rattle.prelude.specs.Search.{firstBelow, unless}
 use Rattle.prelude.proofs.Tests.{either, implies}
-use Rattle.network.specs.Build.{scenarios}
+use Rattle.network.specs.Build.{scenarios, observation}
 use Rattle.network.specs.Scenario.{agree}
 use Rattle.network.specs.Constraint.{covers}
-use Rattle.network.specs.Strategy.{time, reaction}
+use Rattle.network.specs.Strategy.{time, known, reaction}
 use Rattle.network.specs.declared.Constraint.{Constraint}
 use Rattle.network.specs.declared.Network.{Network}
 use Rattle.checker.specs.Verdict.{doesHold, firstUnheard}
@@ -96,6 +96,12 @@ pub unheard-is : (Γ : Network) (σ : List ℕ)
     ≡ firstUnheard Γ σ
 unfolding reaction
 unheard-is Γ σ = refl
+
+-- and p is known in s from the time on that the code compares
+pub known-after-is : (Γ : Network) (σ : List ℕ) (s p m : ℕ)
+    → known Γ σ s p m ≡ leb (knownAfter (Γ .events) σ s (observation Γ p)) m
+unfolding reaction
+known-after-is Γ σ s p m = refl
 
 -- what the code compares: the time from which s is told apart from r, and that of u in s
 pub record Compared (n : ℕ) (os σ : List ℕ) (s r k u told mine : ℕ) : Type 0 where

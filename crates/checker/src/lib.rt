@@ -45,7 +45,7 @@ enum Found {
 }
 
 // The time of event u in scenario s.
-fn time_of(table: &[u16], events: usize, s: usize, u: usize) -> u16
+pub fn time_of(table: &[u16], events: usize, s: usize, u: usize) -> u16
     requires { ⌜ s * events + u < length (now table) ⌝ }
     ensures { λ r. ⌜ r ≡ time events (now (table .entry)) s u ⌝ }
 {
@@ -155,7 +155,7 @@ fn agree(s: usize, r: usize, p: usize) -> bool
 }
 
 // From when on the truth of a proposition is known in s, by its observation event: the minute after.
-fn known_after(table: &[u16], events: usize, s: usize, observation: usize) -> u32
+pub fn known_after(table: &[u16], events: usize, s: usize, observation: usize) -> u32
     requires { ⌜ s * events + observation < length (now table) ⌝ }
     ensures { λ r. ⌜ r ≡ P.knownAfter events (now (table .entry)) s observation ⌝ }
 {

@@ -12,11 +12,11 @@ use lib.ListN.{length, getD, take, drop, length-map, List·getD-map}
 use Rattle.prelude.specs.Search.{firstBelow, when, answers}
 use Rattle.prelude.specs.Bytes.{same}
 use Rattle.prelude.proofs.Bytes.{same-true, same-of-eq}
-use Rattle.prelude.proofs.Search.{answered}
+use Rattle.prelude.proofs.Search.{answered, firstBelow-same}
 use Rattle.sheet.specs.Names.{isLetter, Literal}
 use Rattle.sheet.specs.Defined.{eventNamed, placeOf, weight, weights, maskOf}
 use Rattle.layout.specs.Layout.{Signal, In, Distinct, noSignal}
-use Rattle.layout.proofs.Search.{found, finds, firstBelow-same}
+use Rattle.layout.proofs.Search.{found, finds}
 use Rattle.layout.proofs.Contains.{lettersOf, eventsOf, Bears, NamesAre, SignalsAre}
 
 -- an event is found by its name
@@ -113,7 +113,7 @@ module _ {k : ℕ} {letters observations : List ℕ} {names : List (List ℕ)} {
   place-is : (b : ℕ) → placeOf k letters b ≡ placeOf (length xs) (lettersOf xs) b
   place-is b =
       ap (λ (n : ℕ). placeOf n letters b) (s .count)
-      ∙ firstBelow-same (length xs) (λ p. when (eqb (getD letters p 0) b) p) (λ p. when (eqb (getD (lettersOf xs) p 0) b) p)
+      ∙ firstBelow-same (λ p. when (eqb (getD letters p 0) b) p) (λ p. when (eqb (getD (lettersOf xs) p 0) b) p) (length xs)
       (λ p h. ap (λ (a : ℕ). when (eqb a b) p) (s .letter p h ∙ sym (List·getD-map (λ x. x .letter) xs p noSignal)))
 
   weight-is : (b : ℕ) → weight k letters b ≡ weight (length xs) (lettersOf xs) b

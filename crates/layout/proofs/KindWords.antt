@@ -14,6 +14,7 @@ use Rattle.network.specs.declared.Kind.the-variants.{Max, Min, Fix}
 use Rattle.sheet.specs.Names.{isLetter}
 use Rattle.sheet.specs.Defined.{placeOf, allDefined}
 use Rattle.sheet.specs.Rows.{kindOf}
+use Rattle.sheet.proofs.Labels.{allDefined-every}
 use Rattle.layout.specs.Layout.{Signal, In, Each, kindText}
 use Rattle.layout.proofs.Lines.{plain}
 use Rattle.layout.proofs.Lists.{each-mono, each-of-every, every-of-each}
@@ -49,10 +50,6 @@ pub plain-kind : (k : Kind) → every plain (kindText k) ≡ true
 plain-kind Max = refl
 plain-kind Min = refl
 plain-kind Fix = refl
-
-allDefined-every : (k : ℕ) (letters bs : List ℕ) → allDefined k letters bs ≡ every (λ b. answers (placeOf k letters b)) bs
-allDefined-every k letters [] = refl
-allDefined-every k letters (b ∷ bs) = ap (λ (t : Bool). answers (placeOf k letters b) && t) (allDefined-every k letters bs)
 
 -- letters are defined exactly where each is that of a signal
 module _ {k : ℕ} {letters observations : List ℕ} {names : List (List ℕ)} {xs : List Signal}

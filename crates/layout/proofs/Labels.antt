@@ -14,7 +14,8 @@ use Rattle.prelude.proofs.Tests.{either, clash, and-true, and-both}
 use Rattle.sheet.specs.Names.{isLetter, areLiterals, isDash, isLabel, Literal, literals, labelOf, lettersOf as lettersRead}
 use Rattle.layout.specs.Layout.{lettersOf, signText, literalsText, labelText}
 use Rattle.layout.proofs.Lines.{plain}
-use Rattle.layout.proofs.Plain.{letter-bounds, plain-letter}
+use Rattle.sheet.proofs.Tokens.{letter-bounds}
+use Rattle.layout.proofs.Plain.{plain-letter}
 
 -- the letters of literals, said twice
 pub lettersRead-is : (ls : List Literal) → lettersRead ls ≡ lettersOf ls

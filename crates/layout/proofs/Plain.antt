@@ -13,6 +13,7 @@ use Rattle.prelude.proofs.Tests.{and-true, and-both, or-true}
 use Rattle.text.specs.Lines.{comma, lineFeed}
 use Rattle.text.specs.Number.{isDigit}
 use Rattle.sheet.specs.Names.{isLetter, isName, isOneLetter}
+use Rattle.sheet.proofs.Tokens.{letter-bounds}
 use Rattle.layout.proofs.Lines.{plain}
 
 -- a test that holds wherever another does
@@ -32,9 +33,6 @@ digit-bounds b e = let p = and-true (leb 48 b) (leb b 57) e in (leb-true 48 b (p
 
 pub plain-digit : (b : ℕ) → isDigit b ≡ true → plain b ≡ true
 plain-digit b e = let p = digit-bounds b e in plain-byte b (λ z. omega arith) (λ z. omega arith)
-
-pub letter-bounds : (b : ℕ) → isLetter b ≡ true → (97 ≤ b) × (b ≤ 122)
-letter-bounds b e = let p = and-true (leb 97 b) (leb b 122) e in (leb-true 97 b (p .0), leb-true b 122 (p .1))
 
 pub plain-letter : (b : ℕ) → isLetter b ≡ true → plain b ≡ true
 plain-letter b e = let p = letter-bounds b e in plain-byte b (λ z. omega arith) (λ z. omega arith)

@@ -6,18 +6,13 @@ use Prim.Native.Nat.{ℕ, zero, suc, _/_, _^_, _<_}
 use lib.Bits.{bitAnd, bitXor}
 use lib.Dec.{eqb}
 use Rattle.prelude.specs.Bounded.{allBelow}
+use Rattle.prelude.proofs.Tests.{beq-true}
 use Rattle.prelude.proofs.Bounded.{true-of-allBelow}
 use Rattle.network.specs.Scenario.{truth, agree, satisfies}
 use Rattle.network.specs.Constraint.{covers}
 use Rattle.network.specs.declared.Label.{Label}
 use Rattle.network.specs.declared.Constraint.{Constraint}
 use Rattle.network.specs.declared.Network.{Network}
-
-beq-true : (a b : Bool) → Bool·beq a b ≡ true → a ≡ b
-beq-true true true e = refl
-beq-true true false e = sym e
-beq-true false true e = e
-beq-true false false e = refl
 
 -- two tests that agree on all pairs below 16 are equal there
 module _ (f g : ℕ → ℕ → Bool) where

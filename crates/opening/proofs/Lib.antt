@@ -2,6 +2,7 @@
 pub mod Calls
 pub mod Bytes
 pub mod Small
+pub mod Played
 pub mod Promises
 pub mod Demands
 pub mod Trials

@@ -2,7 +2,10 @@
 // refusal leaves the lent memory as it was.
 ghost use mathlib.Core.Path.{_≡_};
 ghost use Rattle.opening.specs.Calls.{withoutLine, summary, judgement, solving, listed, Leaves};
+ghost use Rattle.opening.specs.Play.{eventsDue, eventsDueOn, answerTo};
 use checker::Verdict;
+use dispatch::Dispatched;
+use dispatch::Heard;
 use refusal::Cause;
 use refusal::Refusal;
 use sheet::Outcome;
@@ -32,6 +35,12 @@ pub enum Judgement {
 // What solve_sheet and write_listing answer: how many minutes or bytes were written.
 pub enum Written {
     Count(usize),
+    Refused(Refusal),
+}
+
+// What events_due answers: the events due, bit u for event u.
+pub enum Due {
+    Events(u16),
     Refused(Refusal),
 }
 
@@ -123,4 +132,44 @@ pub fn write_listing(sheet: &[u8], table: &[u16], out: &mut [u8]) -> Written
             }
         }
     }
+}
+
+// What the player answers, as the call's answer.
+fn answer_to(dispatched: Dispatched) -> Due
+    ensures { λ r. ⌜ r ≡ answerTo dispatched ⌝ }
+{
+    match dispatched {
+        Dispatched::Events(events) => Due::Events(events),
+        Dispatched::Misnamed => Due::Refused(without_line(Cause::MisnamedSignal)),
+        Dispatched::NeverHeard => Due::Refused(without_line(Cause::NeverHeard)),
+    }
+}
+
+// The events due at the minute, by what a mask says of the signals heard before it (`dispatch::add`).
+pub fn events_due_on(sheet: &[u8], table: &[u16], minute: u16, said: u64) -> Due
+    ensures { λ r. ⌜ r ≡ eventsDueOn (now (sheet .entry)) (now (table .entry)) minute said ⌝ }
+{
+    let reading = sheet::read(sheet);
+    let outcome = reading.outcome;
+    let network = reading.network;
+    match outcome {
+        Outcome::Refused(refusal) => Due::Refused(refusal),
+        Outcome::Accepted => {
+            if table.len() != network::cell_count(network.events, network.signals) {
+                return Due::Refused(without_line(Cause::WrongTableLength));
+            }
+            let verdict = checker::check(network, table);
+            match verdict {
+                Verdict::Pass => answer_to(dispatch::due(network, table, minute, said)),
+                Verdict::Breach(_) => Due::Refused(without_line(Cause::TableFails)),
+            }
+        }
+    }
+}
+
+// The events due at the minute, by the list of the signals heard before it.
+pub fn events_due(sheet: &[u8], table: &[u16], minute: u16, heard: &[Heard]) -> Due
+    ensures { λ r. ⌜ r ≡ eventsDue (now (sheet .entry)) (now (table .entry)) minute (now (heard .entry)) ⌝ }
+{
+    events_due_on(sheet, table, minute, dispatch::said(heard))
 }

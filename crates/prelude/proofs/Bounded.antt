@@ -3,11 +3,12 @@ use mathlib.Core.Path.{_≡_, refl, sym, _∙_, ap}
 use mathlib.Core.Logic.{_⊎_, inl, inr}
 use mathlib.Core.Bool.{Bool, true, false, _&&_}
 use mathlib.Core.List.{List, [], _∷_, _++_}
-use Prim.Native.Nat.{ℕ, zero, suc, _+_, _≤_, _<_, max}
+use Prim.Native.Nat.{ℕ, zero, suc, _+_, _≤_, _<_, max, zero-le}
+use native.Mathlib.Numerals.{add-one}
 use native.Mathlib.Omega.{arith}
 use lib.ListN.{length, getD}
 use Rattle.prelude.specs.Bounded.{allBelow, maxBelow, sumBelow, tabulateFrom, tabulate}
-use Rattle.prelude.proofs.Tests.{and-true, and-both, and-false, eq-or-ne}
+use Rattle.prelude.proofs.Tests.{clash, false-of-not-true, and-true, and-both, and-false, eq-or-ne}
 
 module _ (f : ℕ → Bool) where
   pub true-of-allBelow : (n : ℕ) → allBelow n f ≡ true → (k : ℕ) → k < n → f k ≡ true
@@ -39,6 +40,28 @@ module _ (f : ℕ → ℕ) where
   maxBelow-le zero m h = omega arith
   maxBelow-le (suc n) m h = omega (arith, h n (omega arith), maxBelow-le n m (λ k l. h k (omega arith)))
 
+-- a loop over n numbers that tries each has come to i, and each below i passed
+pub record Passing (f : ℕ → Bool) (n i : ℕ) : Type 0 where
+  pub within : i ≤ n
+  pub passed : allBelow i f ≡ true
+
+pub passing-start : (f : ℕ → Bool) (n : ℕ) → Passing f n 0
+passing-start f n = record { within = zero-le; passed = refl }
+
+module _ {f : ℕ → Bool} {n i : ℕ} (here : Passing f n i) where
+  pub passing-on : i < n → f i ≡ true → Passing f n (i + 1)
+  passing-on h e = record { within = omega arith; passed = rw add-one (and-both (allBelow i f) (f i) (here .passed) e) }
+
+  pub failed-at : i < n → f i ≡ false → allBelow n f ≡ false
+  failed-at h e = false-of-not-true (allBelow n f) (λ t. clash (f i) (true-of-allBelow f n t i h) e)
+
+  pub passed-all : n ≤ i → allBelow n f ≡ true
+  passed-all h = let end : i ≡ n = omega (arith, here .within) in rw end at (here .passed)
+
+pub allBelow-same : (f g : ℕ → Bool) (n : ℕ) → ((k : ℕ) → k < n → f k ≡ g k) → allBelow n f ≡ allBelow n g
+allBelow-same f g zero h = refl
+allBelow-same f g (suc n) h = rw (allBelow-same f g n (λ k l. h k (omega arith)), h n (omega arith))
+
 module _ (f g : ℕ → ℕ) where
   pub maxBelow-mono : (n : ℕ) → ((k : ℕ) → k < n → f k ≤ g k) → maxBelow n f ≤ maxBelow n g
   maxBelow-mono zero h = omega arith
@@ -47,6 +70,10 @@ module _ (f g : ℕ → ℕ) where
   pub sumBelow-mono : (n : ℕ) → ((k : ℕ) → k < n → f k ≤ g k) → sumBelow n f ≤ sumBelow n g
   sumBelow-mono zero h = omega arith
   sumBelow-mono (suc n) h = omega (arith, h n (omega arith), sumBelow-mono n (λ k l. h k (omega arith)))
+
+  pub sumBelow-same : (n : ℕ) → ((k : ℕ) → k < n → f k ≡ g k) → sumBelow n f ≡ sumBelow n g
+  sumBelow-same zero e = refl
+  sumBelow-same (suc n) e = omega (arith, e n (omega arith), sumBelow-same n (λ k l. e k (omega arith)))
 
   -- less in one place is less in all
   pub sumBelow-lt : (n k : ℕ) → ((j : ℕ) → j < n → f j ≤ g j) → k < n → f k < g k → sumBelow n f < sumBelow n g

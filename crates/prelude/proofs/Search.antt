@@ -112,6 +112,15 @@ module _ {A : Type 0} {f : ℕ → Option A} {n i : ℕ} (here : Searching f n i
   pub found-nothing : n ≤ i → firstBelow n f ≡ none
   found-nothing h = sym (here .rest) ∙ turn-none f i n h
 
+-- searches for the same
+module _ {A : Type 0} (f g : ℕ → Option A) where
+  firstFrom-same : (i n : ℕ) → ((k : ℕ) → k < i + n → f k ≡ g k) → firstFrom i n f ≡ firstFrom i n g
+  firstFrom-same i zero h = refl
+  firstFrom-same i (suc n) h = rw (h i (omega arith), firstFrom-same (suc i) n (λ k l. h k (omega arith)))
+
+  pub firstBelow-same : (n : ℕ) → ((k : ℕ) → k < n → f k ≡ g k) → firstBelow n f ≡ firstBelow n g
+  firstBelow-same n h = firstFrom-same 0 n (λ k l. h k (omega arith))
+
 module _ {A : Type 0} where
   pub true-of-unless : (b : Bool) (a : A) → unless b a ≡ none → b ≡ true
   true-of-unless true a e = refl

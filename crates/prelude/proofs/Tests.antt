@@ -1,9 +1,9 @@
 -- What a joined test tells, and how one is shown. Assumes nothing.
 use mathlib.Core.Path.{_≡_, refl, sym, _∙_}
 use mathlib.Core.Logic.{_⊎_, inl, inr}
-use mathlib.Core.Bool.{Bool, true, false, _&&_, _||_, not, cond, true≢false}
+use mathlib.Core.Bool.{Bool, true, false, _&&_, _||_, not, Bool·beq, cond, true≢false}
 use Prim.Native.Nat.{ℕ, _≤_, _<_}
-use borrow.Author.Tests.{ltb-true, ltb-false, eqb-true, eqb-false}
+use borrow.Author.Tests.{ltb-true, ltb-false, eqb-true, eqb-false, eq-eqb}
 use lib.Dec.{eqb, ltb}
 
 pub either : (a : Bool) → (a ≡ true) ⊎ (a ≡ false)
@@ -55,6 +55,23 @@ pub implies : (a b : Bool) → (a ≡ true → b ≡ true) → not a || b ≡ tr
 implies true b h = h refl
 implies false b h = refl
 
+-- two tests that are compared
+pub beq-refl : (a : Bool) → Bool·beq a a ≡ true
+beq-refl true = refl
+beq-refl false = refl
+
+pub beq-true : (a b : Bool) → Bool·beq a b ≡ true → a ≡ b
+beq-true true true e = refl
+beq-true true false e = sym e
+beq-true false true e = e
+beq-true false false e = refl
+
+-- tests that hold together are equal
+pub same-tests : (a b : Bool) → (a ≡ true → b ≡ true) → (b ≡ true → a ≡ true) → a ≡ b
+same-tests true b f g = sym (f refl)
+same-tests false true f g = g refl
+same-tests false false f g = refl
+
 -- what holds of both arms of a test
 pub by-test {ℓ κ} : {A : Type ℓ} (P : A → Type κ) (b : Bool) (x y : A)
     → (b ≡ true → P x) → (b ≡ false → P y) → P (elim b [ true ↦ x | false ↦ y ])
@@ -72,3 +89,7 @@ lt-or-ge a b = elim (either (ltb a b)) [ inl p ↦ inl (ltb-true a b p) | inr q 
 
 pub eq-or-ne : (a b : ℕ) → (a ≡ b) ⊎ (a ≡ b → ⊥)
 eq-or-ne a b = elim (either (eqb a b)) [ inl p ↦ inl (eqb-true a b p) | inr q ↦ inr (eqb-false a b q) ]
+
+-- equalities that hold together are one test
+pub eqb-same : (a b c d : ℕ) → (a ≡ b → c ≡ d) → (c ≡ d → a ≡ b) → eqb a b ≡ eqb c d
+eqb-same a b c d f g = same-tests (eqb a b) (eqb c d) (λ t. eq-eqb c d (f (eqb-true a b t))) (λ t. eq-eqb a b (g (eqb-true c d t)))

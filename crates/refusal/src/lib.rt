@@ -2,7 +2,7 @@
 ghost use mathlib.Core.Path.{_≡_};
 ghost use Rattle.refusal.specs.Refusal.{numberOf};
 
-// Document 01's refusals, in its checking order.
+// The refusals of document 01, in its checking order, and those of document 02 behind them.
 pub enum Cause {
     // The sheet is longer than 4,096 bytes.
     TooLong,
@@ -28,6 +28,12 @@ pub enum Cause {
     BufferTooShort,
     // No good table exists: the network is not dynamically consistent within its horizon.
     Inconsistent,
+    // A table that is to be played does not pass the judge.
+    TableFails,
+    // A letter in the list of signals heard is undefined or stands twice.
+    MisnamedSignal,
+    // No case has heard exactly this list.
+    NeverHeard,
 }
 
 // A line is counted from 1; 0 where the refusal concerns no line.
@@ -36,7 +42,7 @@ pub struct Refusal {
     pub line: u16,
 }
 
-// Document 01's number of the cause.
+// The number of the cause in these documents.
 pub fn number(cause: Cause) -> u8
     ensures { λ r. ⌜ r ≡ numberOf cause ⌝ }
 {
@@ -54,5 +60,8 @@ pub fn number(cause: Cause) -> u8
         Cause::WrongTableLength => 11,
         Cause::BufferTooShort => 12,
         Cause::Inconsistent => 13,
+        Cause::TableFails => 14,
+        Cause::MisnamedSignal => 15,
+        Cause::NeverHeard => 16,
     }
 }

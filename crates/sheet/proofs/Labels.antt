@@ -1,7 +1,7 @@
 -- A label as two sums of weights: the letters are distinct, so that no weight is added twice. A sum of weights of at most four
 -- signals has the truths that its letters give it: `mask-step` adds one weight, and is a computed test over all such sums.
 -- Assumes nothing.
-use mathlib.Core.Path.{_≡_, refl, sym, _∙_}
+use mathlib.Core.Path.{_≡_, refl, sym, _∙_, ap}
 use mathlib.Core.Logic.{inl, inr}
 use mathlib.Core.Bool.{Bool, true, false, _&&_, _||_, not, Bool·beq, and-false}
 use mathlib.Core.Option.{Option, none, some}
@@ -14,20 +14,14 @@ use lib.Dec.{eqb, ltb}
 use lib.ListN.{getD}
 use Rattle.prelude.specs.Bounded.{allBelow}
 use Rattle.prelude.specs.Search.{when, answers}
-use Rattle.prelude.specs.Bytes.{isIn, distinct}
-use Rattle.prelude.proofs.Tests.{either, clash, and-true, or-true, or-false, or-neither}
+use Rattle.prelude.specs.Bytes.{isIn, every, distinct}
+use Rattle.prelude.proofs.Tests.{either, clash, and-true, or-true, or-false, or-neither, beq-true}
 use Rattle.prelude.proofs.Search.{some-of-firstBelow, when-some, answered}
 use Rattle.prelude.proofs.Bounded.{true-of-allBelow}
 use Rattle.network.specs.Limits as L
 use Rattle.network.specs.Scenario.{truth}
 use Rattle.sheet.specs.Names.{Literal, lettersOf}
 use Rattle.sheet.specs.Defined.{placeOf, allDefined, weight, weights}
-
-same-bool : (a b : Bool) → Bool·beq a b ≡ true → a ≡ b
-same-bool true true e = refl
-same-bool false false e = refl
-same-bool true false e = cc
-same-bool false true e = cc
 
 -- one weight more, which the sum does not have yet
 stepAt : ℕ → ℕ → ℕ → Bool
@@ -56,13 +50,18 @@ one-more k m p kh mh ph e =
           let w = and-true b all y in
           record {
             below = ltb-true (m + 2 ^ p) (2 ^ k) (w .0);
-            truths = λ q h. same-bool (truth (m + 2 ^ p) q) (eqb q p || truth m q)
+            truths = λ q h. beq-true (truth (m + 2 ^ p) q) (eqb q p || truth m q)
                 (true-of-allBelow (λ q. Bool·beq (truth (m + 2 ^ p) q) (eqb q p || truth m q)) L.signals (w .1) q h);
           }
     ]
 
 nothing-true : (p : ℕ) → p < L.signals → truth 0 p ≡ false
 nothing-true p h = not-true (truth 0 p) (true-of-allBelow (λ p. not (truth 0 p)) L.signals refl p h)
+
+-- letters are defined where each is
+pub allDefined-every : (k : ℕ) (letters bs : List ℕ) → allDefined k letters bs ≡ every (λ b. answers (placeOf k letters b)) bs
+allDefined-every k letters [] = refl
+allDefined-every k letters (b ∷ bs) = ap (λ (t : Bool). answers (placeOf k letters b) && t) (allDefined-every k letters bs)
 
 module _ (k : ℕ) (letters : List ℕ) where
   -- a letter stands where it was found

@@ -10,7 +10,7 @@ use native.Mathlib.Omega.{arith}
 use borrow.Author.Tests.{eqb-true, eq-eqb, not-true}
 use lib.Dec.{eqb}
 use Rattle.prelude.specs.Bytes.{distinct}
-use Rattle.prelude.proofs.Tests.{clash, and-true, and-both, or-true, implied, implies}
+use Rattle.prelude.proofs.Tests.{clash, and-true, and-both, or-true, implied, implies, beq-refl, beq-true}
 use Rattle.prelude.proofs.Bounded.{true-of-allBelow, allBelow-true}
 use Rattle.network.specs.Limits as L
 use Rattle.network.specs.Scenario.{truth, asked, satisfies}
@@ -18,16 +18,6 @@ use Rattle.network.specs.declared.Label.{Label}
 use Rattle.sheet.specs.Names.{Literal, lettersOf, labelOf}
 use Rattle.sheet.specs.Defined.{placeOf, allDefined, maskOf}
 use Rattle.sheet.proofs.Labels.{place-is, isAt, asks, sum-is}
-
-same-true : (v : Bool) → Bool·beq v v ≡ true
-same-true true = refl
-same-true false = refl
-
-same-value : (v w : Bool) → Bool·beq v w ≡ true → w ≡ v
-same-value true true e = refl
-same-value false false e = refl
-same-value true false e = cc
-same-value false true e = cc
 
 or-left : (a b : Bool) → a ≡ true → a || b ≡ true
 or-left a b e = rw e
@@ -49,7 +39,7 @@ module _ (k : ℕ) (letters : List ℕ) where
     pub value : literal .value ≡ v
 
   at-here : (v : Bool) (p : ℕ) (l : Literal) → placeOf k letters (l .letter) ≡ some p → l .value ≡ v → isAt k letters v p l ≡ true
-  at-here v p l e h = rw (e, isAt, h) (and-both (Bool·beq v v) (eqb p p) (same-true v) (eq-eqb p p refl))
+  at-here v p l e h = rw (e, isAt, h) (and-both (Bool·beq v v) (eqb p p) (beq-refl v) (eq-eqb p p refl))
 
   at-place : (v : Bool) (p : ℕ) (l : Literal) → isAt k letters v p l ≡ true → (placeOf k letters (l .letter) ≡ some p) × (l .value ≡ v)
   at-place v p l e = by-place (placeOf k letters (l .letter)) refl e
@@ -60,7 +50,7 @@ module _ (k : ℕ) (letters : List ℕ) where
       by-place none h e = clash false e refl
       by-place (some q) h e =
           let w = and-true (Bool·beq v (l .value)) (eqb p q) e in
-          (h ∙ ap some (sym (eqb-true p q (w .1))), same-value v (l .value) (w .0))
+          (h ∙ ap some (sym (eqb-true p q (w .1))), sym (beq-true v (l .value) (w .0)))
 
   asks-member : {ls : List Literal} (l : Literal) (p : ℕ) → List·Memᴰ l ls → placeOf k letters (l .letter) ≡ some p
       → asks k letters (l .value) p ls ≡ true

@@ -5,12 +5,12 @@ use mathlib.Core.Bool.{Bool, true, false, _&&_, _||_, not, cond, Bool·beq, and-
 use mathlib.Core.List.{List, [], _∷_}
 use Prim.Native.Nat.{ℕ, suc, _+_, _≤_, _<_}
 use native.Mathlib.Omega.{arith}
-use borrow.Author.Tests.{le-leb, lt-leb, eq-eqb, ne-eqb}
+use borrow.Author.Tests.{leb-true, le-leb, lt-leb, eq-eqb, ne-eqb}
 use lib.Dec.{eqb, leb}
 use lib.ListN.{length, getD, drop}
 use Rattle.prelude.specs.Search.{answers}
 use Rattle.prelude.specs.Bytes.{every, isIn, distinct}
-use Rattle.prelude.proofs.Tests.{eq-or-ne}
+use Rattle.prelude.proofs.Tests.{and-true as and-parts, eq-or-ne}
 use Rattle.text.specs.Number.{isDigit}
 use Rattle.text.proofs.Lines.{drop-here, drop-end}
 use Rattle.sheet.specs.Names.{isLetter, isName, areLiterals, literals, lettersOf}
@@ -18,6 +18,9 @@ use Rattle.sheet.specs.Defined.{placeOf, allDefined, weight, weights}
 use Rattle.sheet.specs.Scan.{mayFollow, addedBy}
 
 -- letters
+pub letter-bounds : (b : ℕ) → isLetter b ≡ true → (97 ≤ b) × (b ≤ 122)
+letter-bounds b e = let p = and-parts (leb 97 b) (leb b 122) e in (leb-true 97 b (p .0), leb-true b 122 (p .1))
+
 pub letter-low : (b : ℕ) → b < 97 → isLetter b ≡ false
 letter-low b h = rw (lt-leb 97 b h)
 

@@ -4,7 +4,7 @@ ghost use Rattle.sheet.specs.Reading.{read};
 
 mod field;
 mod label;
-mod lookup;
+pub mod lookup;
 mod row;
 mod section;
 mod token;

@@ -68,7 +68,7 @@ pub(crate) fn place_or(found: Found) -> usize
 }
 
 // Whether b is one of the first k letters.
-pub(crate) fn is_defined(k: usize, letters: &[u8; Network::SIGNALS], b: u8) -> bool
+pub fn is_defined(k: usize, letters: &[u8; Network::SIGNALS], b: u8) -> bool
     requires { ⌜ k ≤ L.signals ⌝ }
     ensures { λ r. ⌜ r ≡ answers (placeOf k (now (letters .entry)) b) ⌝ }
 {

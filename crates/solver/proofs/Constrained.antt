@@ -19,7 +19,7 @@ use Rattle.solver.specs.Propagate.{isUpper, isLower, upperBound, lowerBo
 use Rattle.solver.specs.Listed.{asking, listed, upperWeight, lowerWeight, Lists, Bound}
 use Rattle.solver.specs.Compiled.{Framed, RowIn, Listable, UpperAdded, LowerAdded, Constrained, Listing}
 use Rattle.solver.proofs.Weights.{upper-few, lower-few, upper-adds, lower-adds}
-use Rattle.solver.proofs.Labels.{covers-satisfies}
+use Rattle.network.proofs.Masks.{covers-satisfies}
 use Rattle.solver.proofs.Packed.{sixteen}
 
 -- a half that counts, and one that does not

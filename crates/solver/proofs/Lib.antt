@@ -9,7 +9,6 @@ pub mod Examples
 pub mod Wrote
 pub mod Packed
 pub mod Weights
-pub mod Labels
 pub mod Differ
 pub mod First
 pub mod Listed

@@ -4,25 +4,14 @@
 ghost use mathlib.Core.Path.{_≡_};
 ghost use Prim.Native.Nat.{ℕ, _+_, _*_, _<_};
 ghost use lib.ListN.{length, getD};
-ghost use Rattle.network.specs.Scenario.{satisfies};
 ghost use Rattle.network.specs.WellFormed.{InLimits, WellFormed};
-ghost use Rattle.solver.specs.Listed.{Lists, Short, Small, Bound, Added, upperWeight, lowerWeight, countAfter, listAfter};
+ghost use Rattle.solver.specs.Listed.{Lists, Short, Bound, Added, upperWeight, lowerWeight, countAfter, listAfter};
 ghost use Rattle.solver.specs.Compiled.{Framed, Listable, UpperAdded, LowerAdded, Constrained, Compiled};
 use crate::Frame;
 use network::Constraint;
 use network::Kind;
 use network::Label;
 use network::Network;
-
-// Scenario s satisfies the label: it has all the true letters and none of the false ones.
-fn applies(s: usize, label: Label) -> bool
-    requires { ⌜ (s < 16) × Small label ⌝ }
-    ensures { λ r. ⌜ r ≡ satisfies s label ⌝ }
-{
-    let positive = label.positive as usize;
-    let negative = label.negative as usize;
-    (s & positive) == positive && (s & negative) == 0
-}
 
 // The weight that keeps `to` at most the bound after `from`.
 fn upper_weight(bound: i32) -> u16
@@ -80,7 +69,7 @@ fn list_bound(
     let scenarios = frame.scenarios;
     let mut s: usize = 0;
     while s < scenarios {
-        if applies(s, label) {
+        if network::satisfies(s, label) {
             append(s, target, source, weight, counts, lists);
         }
         s += 1;

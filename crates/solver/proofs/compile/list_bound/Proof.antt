@@ -31,8 +31,8 @@ scenario-in c = omega (arith, c .loop-test .taken, c .before .before .pre .0 .sc
 loop-holds : tie.Need-loop-holds Inv-loop μ-loop
 loop-holds c = (omega arith, added-none _ _ _ _ _ _)
 
-applies-requires : tie.Need-applies-requires Inv-loop μ-loop
-applies-requires c κs = (scenario-in c, c .before .before .pre .0 .label)
+satisfies-requires : tie.Need-satisfies-requires Inv-loop μ-loop
+satisfies-requires c κs = (scenario-in c, c .before .before .pre .0 .label .positive, c .before .before .pre .0 .label .negative)
 
 append-requires : tie.Need-append-requires Inv-loop μ-loop
 append-requires c κs =
@@ -59,7 +59,7 @@ loop-again c =
     let l = c .before .before in
     let z = l .before .before in
     let i = l .before .loop .inv .1 in
-    let e = c .before .applies .ensures in (
+    let e = c .before .satisfies .ensures in (
       omega (arith, l .loop-test .taken),
       ⊎-elim
           (λ w.
@@ -81,7 +81,7 @@ list-bound-spec =
     Inv-loop
     μ-loop
     loop-holds
-    applies-requires
+    satisfies-requires
     append-requires
     add-s
     loop-less

@@ -1,0 +1,120 @@
+-- What is due, for each list. It is misnamed, or no case has heard it, or it is the history of some case, and the answer is what is due
+-- there (`due-answer`): the search compares the list with each case as `History` does. Every case that has heard the list has the same
+-- due, by Alike.antt, so the answer is what is due in any of them.
+-- Assumes nothing.
+use mathlib.Core.Path.{_≡_, refl, ap}
+use mathlib.Core.Logic.{_↔_}
+use mathlib.Core.Bool.{Bool, true, false, _&&_, Bool·beq}
+use mathlib.Core.Option.{Option, none, some}
+use mathlib.Core.List.{List}
+use Prim.Native.Nat.{ℕ, _<_}
+use native.Mathlib.Omega.{arith}
+use Rattle.prelude.specs.Search.{when}
+use Rattle.prelude.specs.Bounded.{allBelow}
+use Rattle.prelude.proofs.Tests.{clash, and-true, and-both, beq-refl, beq-true, by-cond}
+use Rattle.prelude.proofs.Search.{none-of-firstBelow, some-of-firstBelow, when-some, when-none}
+use Rattle.prelude.proofs.Bounded.{true-of-allBelow, allBelow-true}
+use Rattle.network.specs.Build.{scenarios}
+use Rattle.network.specs.Solution.{Solution}
+use Rattle.network.specs.WellFormed.{WellFormed}
+use Rattle.network.specs.declared.Network.{Network}
+use Rattle.dispatch.specs.Heard.{wellNamed, says, letter}
+use Rattle.dispatch.specs.History.{hears, History}
+use Rattle.dispatch.specs.Due.{dueIn, asHeard, hearer, dueFor, due}
+use Rattle.dispatch.specs.declared.Heard.{Heard}
+use Rattle.dispatch.specs.declared.Dispatched.{Dispatched}
+use Rattle.dispatch.specs.declared.Dispatched.the-variants.{Events, Misnamed, NeverHeard}
+use Rattle.dispatch.proofs.Alike.{history-unheard, unheard-due}
+
+module _ (Γ : Network) (σ : List ℕ) (m : ℕ) (hs : List Heard) where
+  -- whether s has heard what the list says
+  abbrev heardIn : ℕ → Bool
+  heardIn s = allBelow (Γ .signals) (asHeard Γ σ m (says hs) s)
+
+  -- whether what the list says of p with the truth v is what s has heard
+  abbrev heardOf : ℕ → ℕ → Bool → Bool
+  heardOf s p v = Bool·beq (says hs (letter Γ p) v) (hears Γ σ m s p v)
+
+  heard-of-history : {s : ℕ} → History Γ σ m hs s → heardIn s ≡ true
+  heard-of-history {s} h =
+      allBelow-true (asHeard Γ σ m (says hs) s) (Γ .signals)
+      (λ p l. and-both (heardOf s p true) (heardOf s p false) (same p true l) (same p false l))
+    where
+      same : (p : ℕ) (v : Bool) → p < Γ .signals → heardOf s p v ≡ true
+      same p v l = rw (h .exact p v l) (beq-refl (hears Γ σ m s p v))
+
+  history-of-heard : {s : ℕ} → wellNamed Γ hs ≡ true → heardIn s ≡ true → History Γ σ m hs s
+  history-of-heard {s} n e = record {
+    named = n;
+    exact = λ p v l.
+        beq-true (says hs (letter Γ p) v) (hears Γ σ m s p v)
+        (same p v (true-of-allBelow (asHeard Γ σ m (says hs) s) (Γ .signals) e p l));
+  }
+    where
+      same : (p : ℕ) (v : Bool) → heardOf s p true && heardOf s p false ≡ true → heardOf s p v ≡ true
+      same p true a = and-true (heardOf s p true) (heardOf s p false) a .0
+      same p false a = and-true (heardOf s p true) (heardOf s p false) a .1
+
+  abbrev Never : Type 0
+  Never = (wellNamed Γ hs ≡ true) × ((s : ℕ) → s < scenarios Γ → History Γ σ m hs s → ⊥)
+
+  -- what each answer says of the list
+  data Answer : Dispatched → Type 0 where
+    misnamed : wellNamed Γ hs ≡ false → Answer Misnamed
+    never : Never → Answer NeverHeard
+    events : (s : ℕ) → s < scenarios Γ → History Γ σ m hs s → Answer (Events (dueIn (Γ .events) σ m s))
+
+  answer-for : (o : Option ℕ) → hearer Γ σ m (says hs) ≡ o → wellNamed Γ hs ≡ true → Answer (dueFor Γ σ m o)
+  answer-for none e n =
+      never (
+        n,
+        λ s l h.
+            let miss = none-of-firstBelow (λ s. when (heardIn s) s) (scenarios Γ) e s l in
+            clash (heardIn s) (heard-of-history h) (when-none (heardIn s) s miss),
+      )
+  answer-for (some s) e n =
+      let w = some-of-firstBelow (λ s. when (heardIn s) s) (scenarios Γ) s e in
+      let hit = when-some (heardIn (w .index)) (w .index) s (w .answer) in
+      let there = hit .1 in
+      events s (omega (arith, w .index-lt)) (history-of-heard n (rw there at (hit .0)))
+
+  due-answer : Answer (due Γ σ m hs)
+  unfolding due
+  due-answer =
+      by-cond Answer (wellNamed Γ hs) (dueFor Γ σ m (hearer Γ σ m (says hs))) Misnamed
+      (answer-for (hearer Γ σ m (says hs)) refl) misnamed
+
+  -- a letter is undefined or stands twice
+  pub due-misnamed : (due Γ σ m hs ≡ Misnamed) ↔ (wellNamed Γ hs ≡ false)
+  due-misnamed = (λ e. only (rw e at due-answer), λ e. so e due-answer)
+    where
+      only : Answer Misnamed → wellNamed Γ hs ≡ false
+      only (misnamed e) = e
+
+      so : {d : Dispatched} → wellNamed Γ hs ≡ false → Answer d → d ≡ Misnamed
+      so e (misnamed n) = refl
+      so e (never w) = clash (wellNamed Γ hs) (w .0) e
+      so e (events s l h) = clash (wellNamed Γ hs) (h .named) e
+
+  -- no case has heard it
+  pub due-never : (due Γ σ m hs ≡ NeverHeard)
+      ↔ ((wellNamed Γ hs ≡ true) × ((s : ℕ) → s < scenarios Γ → History Γ σ m hs s → ⊥))
+  due-never = (λ e. only (rw e at due-answer), λ w. so w due-answer)
+    where
+      only : Answer NeverHeard → Never
+      only (never w) = w
+
+      so : {d : Dispatched} → Never → Answer d → d ≡ NeverHeard
+      so w (misnamed n) = clash (wellNamed Γ hs) (w .0) n
+      so w (never x) = refl
+      so w (events s l h) = absurd (w .1 s l h)
+
+  -- what is due in any case that has heard it
+  pub due-history : Solution Γ σ → WellFormed Γ → (s : ℕ) → s < scenarios Γ → History Γ σ m hs s
+      → due Γ σ m hs ≡ Events (dueIn (Γ .events) σ m s)
+  due-history good wf s l h = so due-answer
+    where
+      so : {d : Dispatched} → Answer d → d ≡ Events (dueIn (Γ .events) σ m s)
+      so (misnamed n) = clash (wellNamed Γ hs) (h .named) n
+      so (never w) = absurd (w .1 s l h)
+      so (events r k g) = ap Events (unheard-due Γ σ m good wf k l (history-unheard Γ σ m hs g h))

@@ -1,0 +1,145 @@
+-- Laws of the core. Letters and their bits; one record more; what is said of a letter, by its two bits, and that over a network it is what
+-- a case has heard. Then two loops, each by what has been passed: bits that add up, each of them new, so that nothing is carried
+-- (`Summing`), and the search for a case (`Hearing`). Assumes nothing.
+use mathlib.Core.Path.{_≡_, refl, _∙_, ap₂}
+use mathlib.Core.Logic.{_⊎_, inl, inr}
+use mathlib.Core.Bool.{Bool, true, false, _&&_, _||_, not, Bool·beq, cond, and-false}
+use mathlib.Core.List.{List}
+use Prim.Native.Nat.{ℕ, suc, _+_, _*_, _%_, _^_, _≤_, _<_, zero-le}
+use native.Mathlib.Nat.{one-mul, add-zero, mul-le-mul-right}
+use native.Mathlib.Numerals.{add-one}
+use native.Mathlib.Omega.{arith}
+use borrow.Author.Tests.{leb-true, le-leb, lt-leb, eq-eqb, ne-eqb}
+use lib.Dec.{eqb, leb}
+use lib.ListN.{length}
+use lib.Pow.{shl-exact, pow-mono}
+use Rattle.prelude.specs.Search.{when, answers}
+use Rattle.prelude.specs.Bounded.{allBelow, sumBelow}
+use Rattle.prelude.proofs.Tests.{and-true, and-both, clash, false-of-not-true}
+use Rattle.prelude.proofs.Search.{Searching}
+use Rattle.prelude.proofs.Bounded.{true-of-allBelow}
+use Rattle.network.specs.Build.{observation, scenarios, cells}
+use Rattle.network.specs.Scenario.{truth}
+use Rattle.network.specs.Strategy.{time}
+use Rattle.network.specs.declared.Network.{Network}
+use Rattle.sheet.specs.Names.{isLetter}
+use Rattle.sheet.specs.Defined.{placeOf}
+use Rattle.sheet.proofs.Tokens.{letter-low, letter-from}
+use Rattle.sheet.proofs.Finds.{finds-on, finds-at, finds-end}
+use Rattle.checker.specs.Plain.{knownAfter}
+use Rattle.checker.proofs.Plain.{known-after-is}
+use Rattle.dispatch.specs.Heard.{letter}
+use Rattle.dispatch.specs.Due.{asHeard, dueIn}
+use Rattle.dispatch.specs.Said.{place, misnamed, withBit, saidOn, standsOn, asSaid, added, wellNamedOn, dueOn}
+use Rattle.dispatch.specs.declared.Heard.{Heard}
+use Rattle.dispatch.specs.declared.Dispatched.the-variants.{Events, Misnamed, NeverHeard}
+use Rattle.dispatch.proofs.Bits.{mask-small}
+use Rattle.dispatch.proofs.Letters.{place-lt}
+
+-- one bit, shifted: below the width nothing is lost
+pub one-shifted : (k w : ℕ) → k < w → (1 * 2 ^ k) % 2 ^ w ≡ 2 ^ k
+one-shifted k w h = shl-exact {a = 1} 1 k w (omega arith) (omega arith) ∙ one-mul (2 ^ k)
+
+-- letters lie between two bytes, and each has a bit for either truth
+pub letter-between : (l : ℕ) → 97 ≤ l → l ≤ 122 → isLetter l ≡ true
+letter-between l h k = letter-from l h ∙ le-leb l 122 k
+
+pub not-letter : (l : ℕ) → (l < 97) ⊎ (122 < l) → isLetter l ≡ false
+not-letter l (inl h) = letter-low l h
+not-letter l (inr h) = letter-from l (omega arith) ∙ lt-leb l 122 h
+
+pub place-fits : (l : ℕ) (v : Bool) → isLetter l ≡ true → place l v < 64
+place-fits l v e = omega (arith, place-lt l v e)
+
+-- one record more: with no letter, with one that stands already, and with one that does not
+module _ (x : ℕ) (h : Heard) where
+  pub added-other : isLetter (h .letter) ≡ false → withBit x misnamed ≡ added x h
+  unfolding added
+  added-other e = rw e
+
+  pub added-twice : standsOn x (h .letter) ≡ true → withBit x misnamed ≡ added x h
+  unfolding added
+  added-twice e = rw (e, and-false)
+
+  pub added-new : isLetter (h .letter) ≡ true → standsOn x (h .letter) ≡ false
+      → withBit x (place (h .letter) (h .truth)) ≡ added x h
+  unfolding added
+  added-new e d = rw (e, d)
+
+-- a test against a constant is the test or its negation
+beq-with-true : (b : Bool) → Bool·beq b true ≡ b
+beq-with-true true = refl
+beq-with-true false = refl
+
+beq-with-false : (b : Bool) → Bool·beq b false ≡ not b
+beq-with-false true = refl
+beq-with-false false = refl
+
+-- p and n, whether l is said to be true and whether it is said to be false, are tested as the code tests them
+pub as-said-is : (x l : ℕ) (p n known t : Bool) → p ≡ saidOn x l true → n ≡ saidOn x l false
+    → asSaid x l known t ≡ cond (not known) (not p && not n) (cond t (p && not n) (not p && n))
+as-said-is x l p n true true e d = rw (← e, ← d) (ap₂ _&&_ (beq-with-true p) (beq-with-false n))
+as-said-is x l p n true false e d = rw (← e, ← d) (ap₂ _&&_ (beq-with-false p) (beq-with-true n))
+as-said-is x l p n false t e d = rw (← e, ← d) (ap₂ _&&_ (beq-with-false p) (beq-with-false n))
+
+-- over a network, whose reaction is one minute, with k from when on p is known and t its truth, that is what s has heard
+pub as-heard-is : (Γ : Network) (σ : List ℕ) (m x s p k : ℕ) (t : Bool)
+    → k ≡ knownAfter (Γ .events) σ s (observation Γ p) → t ≡ truth s p
+    → asSaid x (letter Γ p) (leb k m) t ≡ asHeard Γ σ m (saidOn x) s p
+as-heard-is Γ σ m x s p k t e d = rw (known-after-is Γ σ s p m, e, d)
+
+-- the test that the i-th letter passes: where it stands, it is one of the first k
+abbrev pub named : ℕ → List ℕ → ℕ → ℕ → Bool
+named k letters x i = not (standsOn x (97 + i)) || answers (placeOf k letters (97 + i))
+
+-- a loop over the n events of s has come to u, and due has a bit for each below u that is due at m
+pub record Summing (n : ℕ) (σ : List ℕ) (m s due u : ℕ) : Type 0 where
+  pub within : u ≤ n
+  pub sum : due ≡ sumBelow u (λ v. cond (eqb (time n σ s v) m) (2 ^ v) 0)
+
+module _ {n : ℕ} {σ : List ℕ} {m s due u : ℕ} (here : Summing n σ m s due u) where
+  -- one more bit fits 16
+  pub summing-fits : u < 16 → due + (1 * 2 ^ u) % 2 ^ 16 < 2 ^ 16
+  summing-fits h =
+      let small = mask-small (λ v. eqb (time n σ s v) m) u in
+      omega (arith, here .sum, one-shifted u 16 h, small, pow-mono {i = suc u} {j = 16} h)
+
+  pub summing-bit : u < 16 → u < n → time n σ s u ≡ m → Summing n σ m s (due + (1 * 2 ^ u) % 2 ^ 16) (u + 1)
+  summing-bit h l e =
+      record { within = omega arith; sum = rw (one-shifted u 16 h, here .sum, add-one, eq-eqb (time n σ s u) m e) }
+
+  pub summing-none : u < n → (time n σ s u ≡ m → ⊥) → Summing n σ m s due (u + 1)
+  summing-none l e = record { within = omega arith; sum = rw (here .sum, add-one, ne-eqb (time n σ s u) m e, add-zero) }
+
+  pub summed : n ≤ u → due ≡ dueIn n σ m s
+  summed l = let end : u ≡ n = omega (arith, here .within) in rw end at (here .sum)
+
+-- a case's row is in a table of the network's size
+pub row-in : (Γ : Network) (σ : List ℕ) → length σ ≡ cells Γ → (s : ℕ) → s < scenarios Γ → s * Γ .events + Γ .events ≤ length σ
+row-in Γ σ e s h = omega (arith, e, mul-le-mul-right (Γ .events) h)
+
+-- whether s has heard exactly what x says
+abbrev pub heardIn : Network → List ℕ → ℕ → ℕ → ℕ → Bool
+heardIn Γ σ m x s = allBelow (Γ .signals) (asHeard Γ σ m (saidOn x) s)
+
+pub due-misnamed : (Γ : Network) (σ : List ℕ) (m x : ℕ) → wellNamedOn (Γ .signals) (Γ .letters) x ≡ false
+    → Misnamed ≡ dueOn Γ σ m x
+unfolding dueOn
+due-misnamed Γ σ m x e = rw e
+
+-- the letters passed, and the search for a case that has heard what x says has come to s
+pub record Hearing (Γ : Network) (σ : List ℕ) (m x s : ℕ) : Type 0 where
+  pub named : wellNamedOn (Γ .signals) (Γ .letters) x ≡ true
+  pub search : Searching (λ r. when (heardIn Γ σ m x r) r) (scenarios Γ) s
+
+module _ {Γ : Network} {σ : List ℕ} {m x s : ℕ} (here : Hearing Γ σ m x s) where
+  pub hearing-on : s < scenarios Γ → heardIn Γ σ m x s ≡ false → Hearing Γ σ m x (s + 1)
+  hearing-on h e = record { named = here .named; search = finds-on (heardIn Γ σ m x) (here .search) h e }
+
+  pub due-heard : s < scenarios Γ → heardIn Γ σ m x s ≡ true → Events (dueIn (Γ .events) σ m s) ≡ dueOn Γ σ m x
+  unfolding dueOn
+  due-heard h e = rw (here .named, finds-at (heardIn Γ σ m x) (here .search) h e)
+
+  pub due-never : scenarios Γ ≤ s → NeverHeard ≡ dueOn Γ σ m x
+  unfolding dueOn
+  due-never h = rw (here .named, finds-end (heardIn Γ σ m x) (here .search) h)

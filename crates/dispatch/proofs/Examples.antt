@@ -1,0 +1,91 @@
+-- What the definitions say at the edges, in one table that one theorem covers by computation: document 01's sheet with its table, played.
+-- Assumes nothing.
+use mathlib.Core.Path.{_≡_, refl}
+use mathlib.Core.Bool.{Bool, true, false, _&&_}
+use mathlib.Core.List.{List, [], _∷_}
+use Prim.Native.Nat.{ℕ}
+use Prim.Native.Char.{code}
+use lib.Dec.{eqb}
+use Rattle.network.specs.Build.{empty, withEvent, withSignal}
+use Rattle.network.specs.Strategy.{reaction}
+use Rattle.network.specs.declared.Network.{Network}
+use Rattle.dispatch.specs.Due.{due}
+use Rattle.dispatch.specs.Said.{added, saidFrom, dueOn}
+use Rattle.dispatch.specs.declared.Heard.{Heard}
+use Rattle.dispatch.specs.declared.Dispatched.{Dispatched}
+use Rattle.dispatch.specs.declared.Dispatched.the-variants.{Events, Misnamed, NeverHeard}
+
+-- start, call and door; p is given at the call, and q at the door
+abbrev net : Network
+net = withSignal (withSignal (withEvent (withEvent (withEvent (empty 60) 0 5) 6 4) 11 4) (code "p") 1) (code "q") 2
+
+-- the call at 5; the door at 6 where p is false, and at 20 where it is true
+abbrev table : List ℕ
+table = 0 ∷ 5 ∷ 6 ∷ 0 ∷ 5 ∷ 20 ∷ 0 ∷ 5 ∷ 6 ∷ 0 ∷ 5 ∷ 20 ∷ []
+
+abbrev is : ℕ → Bool → Heard
+is l v = record { letter = l; truth = v }
+
+abbrev p : Bool → Heard
+p v = is (code "p") v
+
+abbrev q : Bool → Heard
+q v = is (code "q") v
+
+-- a minute, a list, and what is due
+pub record Question : Type 0 where
+  pub minute : ℕ
+  pub list : List Heard
+  pub answer : Dispatched
+
+abbrev asked : ℕ → List Heard → Dispatched → Question
+asked m hs a = record { minute = m; list = hs; answer = a }
+
+abbrev questions : List Question
+questions =
+    asked 0 [] (Events 1)
+    ∷ asked 4 [] (Events 0)
+    ∷ asked 5 [] (Events 2)
+    -- in its own minute a signal is not yet heard, and in the next it is
+    ∷ asked 5 (p true ∷ []) NeverHeard
+    ∷ asked 6 [] NeverHeard
+    ∷ asked 6 (p false ∷ []) (Events 4)
+    ∷ asked 6 (p true ∷ []) (Events 0)
+    -- a part of what was heard is not what was heard; nor is more than that
+    ∷ asked 7 (p false ∷ []) NeverHeard
+    ∷ asked 7 (q true ∷ []) NeverHeard
+    ∷ asked 7 (p true ∷ q true ∷ []) NeverHeard
+    ∷ asked 20 (p true ∷ []) (Events 4)
+    -- any order, any minute
+    ∷ asked 21 (q false ∷ p true ∷ []) (Events 0)
+    ∷ asked 21 (p true ∷ q false ∷ []) (Events 0)
+    ∷ asked 65535 (q false ∷ p true ∷ []) (Events 0)
+    -- letters that are undefined or stand twice, with either truth; before it is asked who has heard the list
+    ∷ asked 0 (p true ∷ p true ∷ []) Misnamed
+    ∷ asked 0 (p true ∷ p false ∷ []) Misnamed
+    ∷ asked 6 (p true ∷ q true ∷ p true ∷ []) Misnamed
+    ∷ asked 6 (is (code "r") true ∷ p true ∷ []) Misnamed
+    ∷ asked 6 (is (code "P") true ∷ []) Misnamed
+    ∷ asked 6 (is 0 false ∷ []) Misnamed
+    ∷ asked 6 (is 255 true ∷ []) Misnamed
+    ∷ []
+
+-- answers as numbers, to compare them
+abbrev number : Dispatched → ℕ
+number (Events e) = e
+number Misnamed = 65536
+number NeverHeard = 65537
+
+-- by the list, and by its mask
+abbrev holds : Question → Bool
+holds x =
+    eqb (number (due net table (x .minute) (x .list))) (number (x .answer))
+    && eqb (number (dueOn net table (x .minute) (saidFrom 0 (x .list)))) (number (x .answer))
+
+abbrev all : List Question → Bool
+all [] = true
+all (x ∷ xs) = holds x && all xs
+
+pub played : all questions ≡ true
+unfolding reaction due added dueOn
+played = refl

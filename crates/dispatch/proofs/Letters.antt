@@ -1,0 +1,71 @@
+-- The bits of letters in a mask. The letters are 26 (`true-of-letters`, `letters-true`). Two letters with truths have one bit only where
+-- both agree, and none has the bit `misnamed` (`place-same`, `place-lt`); so a letter that is added with a truth is said with it, and all
+-- else is as it was (`said-with`, `misnamed-with`). The empty mask says nothing. Assumes nothing.
+use mathlib.Core.Path.{_≡_, sym, _∙_}
+use mathlib.Core.Bool.{Bool, true, false, _&&_, _||_, Bool·beq, or-comm}
+use mathlib.Core.Bool.{and-true as and-true-right, and-false as and-false-right, or-false as or-false-right}
+use Prim.Native.Nat.{ℕ, _+_, _-_, _^_, _≤_, _<_}
+use native.Mathlib.Nat.{zero-div}
+use native.Mathlib.Omega.{arith}
+use borrow.Author.Tests.{le-leb, ne-eqb}
+use lib.Dec.{eqb, leb}
+use Rattle.prelude.specs.Bounded.{allBelow}
+use Rattle.prelude.proofs.Bounded.{true-of-allBelow, allBelow-true}
+use Rattle.prelude.proofs.Tests.{and-both, eqb-same}
+use Rattle.network.specs.Scenario.{truth}
+use Rattle.sheet.specs.Names.{isLetter}
+use Rattle.sheet.proofs.Tokens.{letter-bounds}
+use Rattle.dispatch.specs.Said.{place, misnamed, withBit, saidOn}
+use Rattle.dispatch.proofs.Bits.{truth-or, truth-power}
+
+-- what holds of each of the 26 letters
+module _ (f : ℕ → Bool) where
+  pub true-of-letters : allBelow 26 (λ i. f (97 + i)) ≡ true → (l : ℕ) → isLetter l ≡ true → f l ≡ true
+  true-of-letters e l a =
+      let h = letter-bounds l a in
+      let is : 97 + (l - 97) ≡ l = omega arith in
+      rw is at (true-of-allBelow (λ i. f (97 + i)) 26 e (l - 97) (omega arith))
+
+  pub letters-true : ((l : ℕ) → isLetter l ≡ true → f l ≡ true) → allBelow 26 (λ i. f (97 + i)) ≡ true
+  letters-true h =
+      allBelow-true (λ i. f (97 + i)) 26 λ i k.
+      let low = le-leb 97 (97 + i) (omega arith) in
+      h (97 + i) (and-both (leb 97 (97 + i)) (leb (97 + i) 122) low (le-leb (97 + i) 122 (omega arith)))
+
+pub place-lt : (l : ℕ) (v : Bool) → isLetter l ≡ true → place l v < misnamed
+place-lt l true e = let h = letter-bounds l e in omega arith
+place-lt l false e = let h = letter-bounds l e in omega arith
+
+pub place-same : (l k : ℕ) (v w : Bool) → isLetter l ≡ true → isLetter k ≡ true
+    → eqb (place l v) (place k w) ≡ eqb l k && Bool·beq v w
+place-same l k v w e f = go v w (letter-bounds l e) (letter-bounds k f)
+  where
+    go : (v w : Bool) → (97 ≤ l) × (l ≤ 122) → (97 ≤ k) × (k ≤ 122) → eqb (place l v) (place k w) ≡ eqb l k && Bool·beq v w
+    go true true h i =
+        eqb-same (place l true) (place k true) l k (λ q. omega arith) (λ q. omega arith) ∙ sym (and-true-right (eqb l k))
+    go false false h i =
+        eqb-same (place l false) (place k false) l k (λ q. omega arith) (λ q. omega arith) ∙ sym (and-true-right (eqb l k))
+    go true false h i = ne-eqb (place l true) (place k false) (λ q. omega arith) ∙ sym (and-false-right (eqb l k))
+    go false true h i = ne-eqb (place l false) (place k true) (λ q. omega arith) ∙ sym (and-false-right (eqb l k))
+
+pub nothing-said : (l : ℕ) (v : Bool) → saidOn 0 l v ≡ false
+nothing-said l v = rw (zero-div (2 ^ place l v))
+
+-- one bit more
+pub truth-withBit : (x j k : ℕ) → j < 64 → k < 64 → truth (withBit x j) k ≡ truth x k || eqb j k
+truth-withBit x j k h l = rw (truth-or, truth-power j k h l)
+
+module _ (x l : ℕ) (v : Bool) (e : isLetter l ≡ true) where
+  pub said-with : (k : ℕ) (w : Bool) → isLetter k ≡ true
+      → saidOn (withBit x (place l v)) k w ≡ (eqb l k && Bool·beq v w) || saidOn x k w
+  said-with k w f =
+      let a = place-lt l v e in
+      let b = place-lt k w f in
+      truth-withBit x (place l v) (place k w) (omega arith) (omega arith)
+      ∙ rw (place-same l k v w e f) (or-comm (saidOn x k w) (eqb l k && Bool·beq v w))
+
+  pub misnamed-with : truth (withBit x (place l v)) misnamed ≡ truth x misnamed
+  misnamed-with =
+      let a = place-lt l v e in
+      truth-withBit x (place l v) misnamed (omega arith) (omega arith)
+      ∙ rw (ne-eqb (place l v) misnamed (λ q. omega arith)) (or-false-right (truth x misnamed))

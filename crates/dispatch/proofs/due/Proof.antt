@@ -1,0 +1,85 @@
+-- `due` meets its contract: the letters are tried first, and then the loop is the definition's search. The invariant: no case passed
+-- has heard what is said. The measure is what is left of the cases. Assumes nothing.
+use mathlib.Core.Path.{sym, _∙_, ap}
+use Prim.Native.Nat.{_-_}
+use native.Mathlib.Omega.{arith}
+use borrow.Author.Needs.{needs}
+use borrow.Author.Tests.{not-true, not-false}
+use denote.Ref.{now}
+use Rattle.prelude.proofs.Search.{searching-start}
+use Rattle.network.specs.Build.{scenarios}
+use Rattle.dispatch.specs.declared.Dispatched.the-variants.{Events}
+use Rattle.dispatch.proofs.Core.{row-in, due-misnamed, Hearing, hearing-on, due-heard, due-never}
+use Rattle.dispatch.proofs.due.Statement.{statement}
+use Rattle.dispatch.proofs.due.Tie as tie
+
+abbrev Inv-loop : tie.InvT-loop
+Inv-loop Γ σ m x n k cases s₀ s = Hearing Γ σ m x s
+
+abbrev μ-loop : tie.MeasureT-loop
+μ-loop Γ σ m x n k cases s₀ s = scenarios Γ - s
+
+well-named-requires : tie.Need-well-named-requires Inv-loop μ-loop
+well-named-requires c κs = search needs
+
+returns : tie.Need-returns Inv-loop μ-loop
+returns c =
+    let at-named = c .before in
+    let a = at-named .before .before .before .before .args in
+    due-misnamed (a .network) (now (a .table)) (a .minute) (a .said) (sym (at-named .well-named .ensures) ∙ not-true _ (c .if1 .taken))
+
+scenario-count-requires : tie.Need-scenario-count-requires Inv-loop μ-loop
+scenario-count-requires c κs = search needs
+
+loop-holds : tie.Need-loop-holds Inv-loop μ-loop
+loop-holds c =
+    let at-if = c .before in
+    record { named = sym (at-if .before .well-named .ensures) ∙ not-false _ (at-if .if1 .left); search = searching-start _ _ }
+
+has-heard-requires : tie.Need-has-heard-requires Inv-loop μ-loop
+has-heard-requires c κs = search needs
+
+due-in-requires : tie.Need-due-in-requires Inv-loop μ-loop
+due-in-requires c κs =
+    let at-loop = c .before .before .before in
+    let start = at-loop .before .before .before .before .before .before .before in
+    (start .pre .0 .events, row-in (start .args .network) (now (start .args .table)) (start .pre .1) (at-loop .loop .s) (omega arith))
+
+returns-2 : tie.Need-returns-2 Inv-loop μ-loop
+returns-2 c =
+    let at-heard = c .before .before in
+    let inv = at-heard .before .before .loop .inv in
+    ap Events (c .due-in .ensures) ∙ due-heard inv (omega arith) (rw (← at-heard .has-heard .ensures) (c .before .if2 .taken))
+
+add-s : tie.Need-add-s Inv-loop μ-loop
+add-s c = search needs
+
+loop-less : tie.Need-loop-less Inv-loop μ-loop
+loop-less c = search needs
+
+loop-again : tie.Need-loop-again Inv-loop μ-loop
+loop-again c =
+    let at-heard = c .before in
+    let inv = at-heard .before .before .loop .inv in
+    hearing-on inv (omega arith) (rw (← at-heard .has-heard .ensures) (c .if2 .left))
+
+returns-3 : tie.Need-returns-3 Inv-loop μ-loop
+returns-3 c = due-never (c .before .loop .inv) (omega arith)
+
+pub due-spec : {M : Type 1} → statement M
+due-spec =
+    tie.close
+    (tie.spec
+    Inv-loop
+    μ-loop
+    well-named-requires
+    returns
+    scenario-count-requires
+    loop-holds
+    has-heard-requires
+    due-in-requires
+    returns-2
+    add-s
+    loop-less
+    loop-again
+    returns-3)

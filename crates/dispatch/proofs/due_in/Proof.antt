@@ -1,0 +1,66 @@
+-- `due_in` meets its contract. The invariant: `due` is the sum for the events passed. The measure is what is left of them.
+-- Assumes nothing.
+use mathlib.Core.Path.{refl, sym, _∙_}
+use mathlib.Core.Logic.{⊎-elim}
+use Prim.Native.Nat.{_-_}
+use native.Mathlib.Omega.{arith}
+use borrow.Author.Needs.{needs}
+use Rattle.dispatch.proofs.Core.{Summing, summing-fits, summing-bit, summing-none, summed}
+use Rattle.dispatch.proofs.due_in.Statement.{statement}
+use Rattle.dispatch.proofs.due_in.Tie as tie
+
+abbrev Inv-loop : tie.InvT-loop
+Inv-loop σ n m s due₀ u₀ due u = Summing n σ m s due u
+
+abbrev μ-loop : tie.MeasureT-loop
+μ-loop σ n m s due₀ u₀ due u = n - u
+
+loop-holds : tie.Need-loop-holds Inv-loop μ-loop
+loop-holds c = record { within = omega arith; sum = refl }
+
+time-of-requires : tie.Need-time-of-requires Inv-loop μ-loop
+time-of-requires c κs = search needs
+
+cast-due : tie.Need-cast-due Inv-loop μ-loop
+cast-due c = search needs
+
+shl-due : tie.Need-shl-due Inv-loop μ-loop
+shl-due c = search needs
+
+add-due : tie.Need-add-due Inv-loop μ-loop
+add-due c = record { fits = summing-fits (c .before .before .before .loop .inv) (omega arith) }
+
+add-u : tie.Need-add-u Inv-loop μ-loop
+add-u c = search needs
+
+loop-less : tie.Need-loop-less Inv-loop μ-loop
+loop-less c = search needs
+
+loop-again : tie.Need-loop-again Inv-loop μ-loop
+loop-again c =
+    let in-loop = c .before .before in
+    let inv = in-loop .before .loop .inv in
+    let timed = c .before .time-of .ensures in
+    ⊎-elim
+    (λ w. rw (w .1) (summing-bit inv (omega arith) (in-loop .loop-test .taken) (sym timed ∙ w .0 .taken)))
+    (λ w. rw (w .1) (summing-none inv (in-loop .loop-test .taken) (λ e. w .0 .left (timed ∙ e))))
+    (c .if1 .came)
+
+returns : tie.Need-returns Inv-loop μ-loop
+returns c = summed (c .before .loop .inv) (c .loop-test .left)
+
+pub due-in-spec : {M : Type 1} → statement M
+due-in-spec =
+    tie.close
+    (tie.spec
+    Inv-loop
+    μ-loop
+    loop-holds
+    time-of-requires
+    cast-due
+    shl-due
+    add-due
+    add-u
+    loop-less
+    loop-again
+    returns)

@@ -1,0 +1,103 @@
+-- `has_heard` meets its contract: what it asks of a signal is the definition's test. The invariant: each signal passed is as s has heard
+-- it. The measure is what is left of the signals. Assumes nothing.
+use mathlib.Core.Path.{_≡_, sym, _∙_}
+use Prim.Native.Nat.{_-_}
+use borrow.Author.Needs.{needs}
+use borrow.Author.Tests.{not-true, not-false}
+use denote.Ref.{now}
+use Rattle.checker.proofs.Reach.{observed}
+use Rattle.dispatch.specs.Due.{asHeard}
+use Rattle.dispatch.specs.Said.{saidOn}
+use Rattle.prelude.proofs.Bounded.{Passing, passing-start, passing-on, failed-at, passed-all}
+use Rattle.dispatch.proofs.Core.{as-heard-is}
+use Rattle.dispatch.proofs.has_heard.Statement.{statement}
+use Rattle.dispatch.proofs.has_heard.Tie as tie
+
+abbrev Inv-loop : tie.InvT-loop
+Inv-loop σ m x s Γ n k p₀ p = Passing (asHeard Γ σ m (saidOn x) s) (Γ .signals) p
+
+abbrev μ-loop : tie.MeasureT-loop
+μ-loop σ m x s Γ n k p₀ p = Γ .signals - p
+
+-- the code's test of a signal
+tested : (c : tie.After-as-said Inv-loop μ-loop)
+    → let at-loop = c .before .before .before .before .before .before in
+    let a = at-loop .before .before .args in
+    c .as-said .result ≡ asHeard (a .t1) (now (a .table)) (a .minute) (saidOn (a .said)) (a .s) (at-loop .loop .p)
+tested c =
+    let at-known = c .before .before in
+    let at-loop = at-known .before .before .before .before in
+    let a = at-loop .before .before .args in
+    c .as-said .ensures
+    ∙ as-heard-is (a .t1) (now (a .table)) (a .minute) (a .said) (a .s) (at-loop .loop .p) _ _
+    (at-known .known-after .ensures) (c .before .has .ensures)
+
+loop-holds : tie.Need-loop-holds Inv-loop μ-loop
+loop-holds c = passing-start _ _
+
+mul-observation : tie.Need-mul-observation Inv-loop μ-loop
+mul-observation c = search needs
+
+element-copy-out-observation : tie.Need-element-copy-out-observation Inv-loop μ-loop
+element-copy-out-observation c = search needs
+
+element-copy-out-letter : tie.Need-element-copy-out-letter Inv-loop μ-loop
+element-copy-out-letter c = search needs
+
+known-after-requires : tie.Need-known-after-requires Inv-loop μ-loop
+known-after-requires c κs =
+    let in-loop = c .before .before in
+    let start = in-loop .before .before .before in
+    let a = start .args in
+    let asked = start .pre in
+    observed (a .t1) (now (a .table)) (asked .0, asked .1) (a .s) (asked .3) .inside (in-loop .before .loop .p) (in-loop .loop-test .taken)
+
+cast-has : tie.Need-cast-has Inv-loop μ-loop
+cast-has c = search needs
+
+has-requires : tie.Need-has-requires Inv-loop μ-loop
+has-requires c κs = search needs
+
+as-said-requires : tie.Need-as-said-requires Inv-loop μ-loop
+as-said-requires c κs =
+    let in-loop = c .before .before .before .before in
+    in-loop .before .before .before .pre .2 .lower (in-loop .before .loop .p) (in-loop .loop-test .taken)
+
+returns : tie.Need-returns Inv-loop μ-loop
+returns c =
+    let in-loop = c .before .before .before .before .before .before in
+    sym (failed-at (in-loop .before .loop .inv) (in-loop .loop-test .taken) (sym (tested (c .before)) ∙ not-true _ (c .if1 .taken)))
+
+add-p : tie.Need-add-p Inv-loop μ-loop
+add-p c = search needs
+
+loop-less : tie.Need-loop-less Inv-loop μ-loop
+loop-less c = search needs
+
+loop-again : tie.Need-loop-again Inv-loop μ-loop
+loop-again c =
+    let in-loop = c .before .before .before .before .before .before in
+    passing-on (in-loop .before .loop .inv) (in-loop .loop-test .taken) (sym (tested (c .before)) ∙ not-false _ (c .if1 .left))
+
+returns-2 : tie.Need-returns-2 Inv-loop μ-loop
+returns-2 c = sym (passed-all (c .before .loop .inv) (c .loop-test .left))
+
+pub has-heard-spec : {M : Type 1} → statement M
+has-heard-spec =
+    tie.close
+    (tie.spec
+    Inv-loop
+    μ-loop
+    loop-holds
+    mul-observation
+    element-copy-out-observation
+    element-copy-out-letter
+    known-after-requires
+    cast-has
+    has-requires
+    as-said-requires
+    returns
+    add-p
+    loop-less
+    loop-again
+    returns-2)

@@ -1,0 +1,39 @@
+-- `stands` meets its contract: the second bit is asked where the first is not there. Assumes nothing.
+use mathlib.Core.Bool.{true, false}
+use borrow.Author.Needs.{needs}
+use Rattle.dispatch.proofs.Core.{place-fits}
+use Rattle.dispatch.proofs.stands.Statement.{statement}
+use Rattle.dispatch.proofs.stands.Tie as tie
+
+place-requires : tie.Need-place-requires
+place-requires c κs = search needs
+
+has-requires : tie.Need-has-requires
+has-requires c κs = rw (c .place .ensures) (place-fits (c .before .args .letter) true (c .before .pre))
+
+returns : tie.Need-returns
+returns c = rw (← c .before .before .place .ensures, ← c .before .has .ensures, c .if1 .taken)
+
+place-requires-2 : tie.Need-place-requires-2
+place-requires-2 c κs = search needs
+
+has-requires-2 : tie.Need-has-requires-2
+has-requires-2 c κs =
+    let start = c .before .before .before .before in
+    rw (c .place2 .ensures) (place-fits (start .args .letter) false (start .pre))
+
+returns-2 : tie.Need-returns-2
+returns-2 c =
+    let at-if = c .before .before in
+    rw (
+      ← c .before .place2 .ensures,
+      ← c .has2 .ensures,
+      ← at-if .before .before .place .ensures,
+      ← at-if .before .has .ensures,
+      at-if .if1 .left,
+    )
+
+pub stands-spec : {M : Type 1} → statement M
+stands-spec =
+    tie.close
+    (tie.spec place-requires has-requires returns place-requires-2 has-requires-2 returns-2)

@@ -1,0 +1,42 @@
+-- What is due at a minute, by what has been heard before it (02, point 1).
+use mathlib.Core.Bool.{Bool, true, false, _&&_, Bool·beq, cond}
+use mathlib.Core.Option.{Option, none, some}
+use mathlib.Core.List.{List}
+use Prim.Native.Nat.{ℕ, _^_}
+use lib.Dec.{eqb}
+use Rattle.prelude.specs.Search.{firstBelow, when}
+use Rattle.prelude.specs.Bounded.{allBelow, sumBelow}
+use Rattle.network.specs.Build.{scenarios}
+use Rattle.network.specs.Strategy.{time}
+use Rattle.network.specs.declared.Network.{Network}
+use Rattle.dispatch.specs.Heard.{wellNamed, says, letter}
+use Rattle.dispatch.specs.History.{hears}
+use Rattle.dispatch.specs.declared.Heard.{Heard}
+use Rattle.dispatch.specs.declared.Dispatched.{Dispatched}
+use Rattle.dispatch.specs.declared.Dispatched.the-variants.{Events, Misnamed, NeverHeard}
+
+-- "the events due at that minute" in s, of n events: bit u for event u
+abbrev pub dueIn : ℕ → List ℕ → ℕ → ℕ → ℕ
+dueIn n σ m s = sumBelow n (λ u. cond (eqb (time n σ s u) m) (2 ^ u) 0)
+
+module _ (Γ : Network) (σ : List ℕ) (m : ℕ) where
+  -- whether what is said of signal p is what s has heard of it
+  abbrev pub asHeard : (ℕ → Bool → Bool) → ℕ → ℕ → Bool
+  asHeard said s p =
+      Bool·beq (said (letter Γ p) true) (hears Γ σ m s p true) && Bool·beq (said (letter Γ p) false) (hears Γ σ m s p false)
+
+  -- the first case that has heard exactly what is said
+  abbrev pub hearer : (ℕ → Bool → Bool) → Option ℕ
+  hearer said = firstBelow (scenarios Γ) (λ s. when (allBelow (Γ .signals) (asHeard said s)) s)
+
+  -- what is due in that case; any other that has heard the same has the same due (`dispatch/proofs/Alike.antt`)
+  abbrev pub dueFor : Option ℕ → Dispatched
+  dueFor none = NeverHeard
+  dueFor (some s) = Events (dueIn (Γ .events) σ m s)
+
+  -- the letters are tried first
+  abbrev pub dueBy : Bool → (ℕ → Bool → Bool) → Dispatched
+  dueBy named said = cond named (dueFor (hearer said)) Misnamed
+
+  unfoldable pub due : List Heard → Dispatched
+  due hs = dueBy (wellNamed Γ hs) (says hs)

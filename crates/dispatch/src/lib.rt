@@ -1,0 +1,195 @@
+// What is due at a minute, by what has been heard before it (document 02, point 1). The records that are lent are walked once, into a
+// mask; all the rest works on the mask.
+ghost use mathlib.Core.Path.{_≡_};
+ghost use mathlib.Core.Bool.{true};
+ghost use Prim.Native.Nat.{_+_, _*_, _≤_, _<_};
+ghost use lib.ListN.{length};
+ghost use Rattle.prelude.specs.Bounded.{allBelow};
+ghost use Rattle.network.specs.Limits as L;
+ghost use Rattle.network.specs.Build.{scenarios, cells};
+ghost use Rattle.network.specs.Scenario as S;
+ghost use Rattle.network.specs.WellFormed.{WellFormed};
+ghost use Rattle.sheet.specs.Names.{isLetter};
+ghost use Rattle.dispatch.specs.Heard.{Lettered};
+ghost use Rattle.dispatch.specs.Due as D;
+ghost use Rattle.dispatch.specs.Said as M;
+use network::Network;
+
+// A signal that has been heard: its letter and its truth.
+pub struct Heard {
+    pub letter: u8,
+    pub truth: bool,
+}
+
+pub enum Dispatched {
+    // The events that are due: bit u for event u.
+    Events(u16),
+    // A letter is undefined or stands twice.
+    Misnamed,
+    // No case has heard exactly this.
+    NeverHeard,
+}
+
+// The bit of a list that holds a byte that is no letter, or a letter twice.
+const MISNAMED: u32 = 63;
+
+// Whether the mask has the bit.
+fn has(mask: u64, bit: u32) -> bool
+    requires { ⌜ bit < 64 ⌝ }
+    ensures { λ r. ⌜ r ≡ S.truth mask bit ⌝ }
+{
+    (mask >> bit) & 1 == 1
+}
+
+// The mask with the bit.
+fn with(mask: u64, bit: u32) -> u64
+    requires { ⌜ bit < 64 ⌝ }
+    ensures { λ r. ⌜ r ≡ M.withBit mask bit ⌝ }
+{
+    mask | (1 << bit)
+}
+
+// The bit of a letter with a truth.
+fn place(letter: u8, truth: bool) -> u32
+    requires { ⌜ isLetter letter ≡ true ⌝ }
+    ensures { λ r. ⌜ r ≡ M.place letter truth ⌝ }
+{
+    let l = (letter - b'a') as u32;
+    if truth {
+        return l;
+    }
+    l + 32
+}
+
+// Whether the letter stands in the mask, with either truth.
+fn stands(said: u64, letter: u8) -> bool
+    requires { ⌜ isLetter letter ≡ true ⌝ }
+    ensures { λ r. ⌜ r ≡ M.standsOn said letter ⌝ }
+{
+    if has(said, place(letter, true)) {
+        return true;
+    }
+    has(said, place(letter, false))
+}
+
+// One record more.
+pub fn add(said: u64, heard: Heard) -> u64
+    ensures { λ r. ⌜ r ≡ M.added said heard ⌝ }
+{
+    let letter = heard.letter;
+    if letter < b'a' || b'z' < letter {
+        return with(said, MISNAMED);
+    }
+    if stands(said, letter) {
+        return with(said, MISNAMED);
+    }
+    with(said, place(letter, heard.truth))
+}
+
+// All records, in any order.
+pub fn said(heard: &[Heard]) -> u64
+    ensures { λ r. ⌜ r ≡ M.saidFrom 0 (now (heard .entry)) ⌝ }
+{
+    let mut said: u64 = 0;
+    let mut i: usize = 0;
+    while i < heard.len() {
+        said = add(said, heard[i]);
+        i += 1;
+    }
+    said
+}
+
+// Whether each letter that stands is one of the signals'.
+fn well_named(signals: usize, letters: &[u8; Network::SIGNALS], said: u64) -> bool
+    requires { ⌜ signals ≤ L.signals ⌝ }
+    ensures { λ r. ⌜ r ≡ M.wellNamedOn signals (now (letters .entry)) said ⌝ }
+{
+    if has(said, MISNAMED) {
+        return false;
+    }
+    let mut i = 0;
+    while i < 26 {
+        let letter = b'a' + i;
+        if stands(said, letter) {
+            if !sheet::lookup::is_defined(signals, letters, letter) {
+                return false;
+            }
+        }
+        i += 1;
+    }
+    true
+}
+
+// Whether what is said of a letter is its truth where that is known, and nothing where it is not.
+fn as_said(said: u64, letter: u8, known: bool, truth: bool) -> bool
+    requires { ⌜ isLetter letter ≡ true ⌝ }
+    ensures { λ r. ⌜ r ≡ M.asSaid said letter known truth ⌝ }
+{
+    let positive = has(said, place(letter, true));
+    let negative = has(said, place(letter, false));
+    if !known {
+        return !positive && !negative;
+    }
+    if truth {
+        return positive && !negative;
+    }
+    !positive && negative
+}
+
+// Whether exactly what is said has been heard in s before the minute.
+fn has_heard(network: Network, table: &[u16], minute: u16, said: u64, s: usize) -> bool
+    requires { ⌜ WellFormed network × (length (now table) ≡ cells network) × Lettered network × (s < scenarios network) ⌝ }
+    ensures { λ r. ⌜ r ≡ allBelow (network .signals) (D.asHeard network (now (table .entry)) minute (M.saidOn said) s) ⌝ }
+{
+    let events = network.events;
+    let signals = network.signals;
+    let mut p = 0;
+    while p < signals {
+        let observation = network.observations[p];
+        let letter = network.letters[p];
+        let known = checker::known_after(table, events, s, observation) <= minute as u32;
+        if !as_said(said, letter, known, has(s as u64, p as u32)) {
+            return false;
+        }
+        p += 1;
+    }
+    true
+}
+
+// The events of s that are due at the minute: bit u for event u.
+fn due_in(table: &[u16], events: usize, minute: u16, s: usize) -> u16
+    requires { ⌜ (events ≤ L.events) × (s * events + events ≤ length (now table)) ⌝ }
+    ensures { λ r. ⌜ r ≡ D.dueIn events (now (table .entry)) minute s ⌝ }
+{
+    let mut due: u16 = 0;
+    let mut u = 0;
+    while u < events {
+        if checker::time_of(table, events, s, u) == minute {
+            due += 1 << u;
+        }
+        u += 1;
+    }
+    due
+}
+
+// What is due at the minute for those who have heard what is said.
+pub fn due(network: Network, table: &[u16], minute: u16, said: u64) -> Dispatched
+    requires { ⌜ WellFormed network × (length (now table) ≡ cells network) × Lettered network ⌝ }
+    ensures { λ r. ⌜ r ≡ M.dueOn network (now (table .entry)) minute said ⌝ }
+{
+    let events = network.events;
+    let signals = network.signals;
+    let letters = network.letters;
+    if !well_named(signals, &letters, said) {
+        return Dispatched::Misnamed;
+    }
+    let scenarios = network::scenario_count(signals);
+    let mut s = 0;
+    while s < scenarios {
+        if has_heard(network, table, minute, said, s) {
+            return Dispatched::Events(due_in(table, events, minute, s));
+        }
+        s += 1;
+    }
+    Dispatched::NeverHeard
+}

@@ -1,0 +1,37 @@
+-- Playing a table: what is due at a minute, for those who have heard a list of signals (02, point 1). The sheet's own refusal comes first,
+-- then 11; then "14, the table does not pass the judge; 15, a letter in the list is undefined or stands twice; 16, no case has heard exactly
+-- this list", each with line 0.
+use mathlib.Core.List.{List}
+use Prim.Native.Nat.{ℕ}
+use Rattle.refusal.specs.declared.Cause.the-variants as C
+use Rattle.sheet.specs.Reading.{read}
+use Rattle.sheet.specs.declared.Reading.{Reading}
+use Rattle.checker.specs.declared.Verdict.the-variants.{Pass, Breach as Breached}
+use Rattle.dispatch.specs.Due.{due}
+use Rattle.dispatch.specs.Said.{dueOn}
+use Rattle.dispatch.specs.declared.Heard.{Heard}
+use Rattle.dispatch.specs.declared.Dispatched.{Dispatched}
+use Rattle.dispatch.specs.declared.Dispatched.the-variants as P
+use Rattle.opening.specs.Calls.{withoutLine, judgement}
+use Rattle.opening.specs.declared.Judgement.{Judgement}
+use Rattle.opening.specs.declared.Judgement.the-variants as J
+use Rattle.opening.specs.declared.Due.{Due}
+use Rattle.opening.specs.declared.Due.the-variants as D
+
+abbrev pub answerTo : Dispatched → Due
+answerTo (P.Events e) = D.Events e
+answerTo P.Misnamed = D.Refused (withoutLine C.MisnamedSignal)
+answerTo P.NeverHeard = D.Refused (withoutLine C.NeverHeard)
+
+-- the judgement of the table is tried before the list
+abbrev pub playedFor : Judgement → Dispatched → Due
+playedFor (J.Refused r) d = D.Refused r
+playedFor (J.Judged Pass) d = answerTo d
+playedFor (J.Judged (Breached b)) d = D.Refused (withoutLine C.TableFails)
+
+unfoldable pub eventsDue : List ℕ → List ℕ → ℕ → List Heard → Due
+eventsDue sheet t m hs = playedFor (judgement sheet t) (due (read sheet .network) t m hs)
+
+-- the same by what a mask says
+unfoldable pub eventsDueOn : List ℕ → List ℕ → ℕ → ℕ → Due
+eventsDueOn sheet t m x = playedFor (judgement sheet t) (dueOn (read sheet .network) t m x)
