@@ -1,8 +1,9 @@
--- The calls, those of the bench, what they promise, the demands, and the trial sheets.
+-- The calls, those of the bench, the player's, what they promise, the demands, what holds of playing, and the trial sheets.
 pub mod Calls
 pub mod Bytes
 pub mod Small
 pub mod Played
 pub mod Promises
 pub mod Demands
+pub mod Playing
 pub mod Trials
