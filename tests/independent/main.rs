@@ -359,13 +359,67 @@ fn expected_one(sheet: &[u8], table: &[u8]) -> Vec<u8> {
     if !table.is_empty() {
         text.extend(judged_line(&judge_outcome(&reading, table)).into_bytes());
         text.extend(listed(sheet, &reading, &minutes(table)));
+        text.extend(asked_first(&reading, &minutes(table)).into_bytes());
     } else if let Ok(net) = &reading {
         text.extend(match model::solve(net) {
-            Some(table) => model::listing(sheet, net, &table),
+            Some(table) => solved(sheet, net, &table),
             None => refused_line("solved ", of_call(13)).into_bytes(),
         });
     }
     text
+}
+
+/// A solved table: its listing; the same again, since playing each case minute by minute gives its row; and what is due for some lists.
+fn solved(sheet: &[u8], net: &Net, table: &[u16]) -> Vec<u8> {
+    let listing = model::listing(sheet, net, table);
+    let mut text = listing.clone();
+    text.extend(b"played ");
+    text.extend(listing);
+    for minute in [0, 1, 6, net.horizon as u16, 65535] {
+        text.extend(format!("asked {minute}").into_bytes());
+        for list in lists(net) {
+            text.extend(match model::due(net, table, minute, &list) {
+                Ok(events) => format!(" {events}").into_bytes(),
+                Err(number) => format!(" r{number}.0").into_bytes(),
+            });
+        }
+        text.push(b'\n');
+    }
+    text
+}
+
+/// What is due at minute 0 for those who have heard nothing, of any table: the sheet's own refusal, 11 and 14 come first.
+fn asked_first(reading: &Result<Net, Refusal>, table: &[u16]) -> String {
+    let answer = match reading {
+        Err(refusal) => Err(*refusal),
+        Ok(net) if table.len() != net.cells() => Err(of_call(11)),
+        Ok(net) if model::judge(net, table) != Verdict::Pass => Err(of_call(14)),
+        Ok(net) => model::due(net, table, 0, &[]).map_err(of_call),
+    };
+    match answer {
+        Ok(events) => format!("asked 0 {events}\n"),
+        Err(refusal) => format!("asked 0 r{}.{}\n", refusal.number, refusal.line),
+    }
+}
+
+/// The lists that the program `trials` asks about.
+fn lists(net: &Net) -> Vec<Vec<(u8, bool)>> {
+    let a = net.signals.first().map_or(b'p', |signal| signal.letter);
+    let backwards = |truths: &[bool]| net.signals.iter().rev().map(|signal| signal.letter).zip(truths.iter().copied()).collect();
+    vec![
+        vec![],
+        vec![(a, true)],
+        vec![(a, false)],
+        backwards(&[true; 4]),
+        backwards(&[false; 4]),
+        backwards(&[true, false, true, false]),
+        vec![(a, true), (a, false)],
+        vec![(a, true), (a, true)],
+        vec![(b'P', true), (a, true)],
+        vec![(0, false)],
+        vec![(255, true)],
+        vec![(b'{', false), (b'`', false)],
+    ]
 }
 
 fn refused_line(before: &str, refusal: Refusal) -> String {

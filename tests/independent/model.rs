@@ -628,3 +628,28 @@ fn case_line(net: &Net, table: &[u16], case: usize) -> String {
     line.push('\n');
     line
 }
+
+/// Document 02, point 1, for a table that passes: the events due at a minute, bit u for event u, for those who have heard exactly this list;
+/// or 15 where a letter is undefined or stands twice, or 16 where no case has heard exactly this list.
+pub fn due(net: &Net, table: &[u16], minute: u16, heard: &[(u8, bool)]) -> Result<u16, u8> {
+    let defined = |letter: u8| net.signals.iter().any(|signal| signal.letter == letter);
+    let stands = |letter: u8| heard.iter().filter(|(l, _)| *l == letter).count();
+    if heard.iter().any(|(letter, _)| !defined(*letter) || stands(*letter) > 1) {
+        return Err(15);
+    }
+    let mut list = heard.to_vec();
+    list.sort();
+    for case in 0..net.cases() {
+        let mut history = vec![];
+        for (p, signal) in net.signals.iter().enumerate() {
+            if table[net.cell(case, signal.event)] < minute {
+                history.push((signal.letter, truth(case, p)));
+            }
+        }
+        history.sort();
+        if history == list {
+            return Ok((0..net.events.len()).filter(|u| table[net.cell(case, *u)] == minute).map(|u| 1u16 << u).sum());
+        }
+    }
+    Err(16)
+}

@@ -1,9 +1,12 @@
 // Runs the trial sheets of data/ and prints what the public calls make of each, then compares the solver with the exhaustive search on
 // the small sheets. What it is to print was written by another program, which shares nothing with this one.
+mod ask;
+mod play;
 mod say;
 mod small;
 
 ghost use Rattle.io.specs.Counts.{Counts};
+use network::Network;
 use opening::Judgement;
 use opening::Summary;
 use opening::Written;
@@ -42,6 +45,25 @@ fn list_front(sheet: &[u8], table: &[u16], n: usize) {
     }
 }
 
+// The listing of the table that playing gives, and some questions.
+fn play_front(sheet: &[u8], network: Network, table: &[u16], n: usize) {
+    if n <= table.len() {
+        let mut played = [65535u16; 256];
+        play::all(sheet, network, &table[..n], &mut played);
+        say::text(b"played ");
+        list_front(sheet, &played, n);
+        ask::all(sheet, network, &table[..n]);
+    }
+}
+
+// The listing of a table, and then it is played.
+fn list_and_play(sheet: &[u8], table: &[u16], n: usize) {
+    list_front(sheet, table, n);
+    let reading = sheet::read(sheet);
+    let network = reading.network;
+    play_front(sheet, network, table, n);
+}
+
 fn solve(sheet: &[u8]) {
     let mut table = [0u16; 256];
     let written = opening::solve_sheet(sheet, &mut table);
@@ -50,7 +72,7 @@ fn solve(sheet: &[u8]) {
             say::text(b"solved ");
             say::refused(refusal);
         }
-        Written::Count(n) => list_front(sheet, &table, n),
+        Written::Count(n) => list_and_play(sheet, &table, n),
     }
 }
 
@@ -73,12 +95,13 @@ fn judge(sheet: &[u8], table: &[u16], odd: bool) -> Judgement {
     opening::judge_table(sheet, table)
 }
 
-// The verdict on the first n minutes, and their listing; odd where half a minute stands behind them.
+// The verdict on the first n minutes, their listing and what is due first; odd where half a minute stands behind them.
 fn judge_front(sheet: &[u8], table: &[u16], n: usize, odd: bool) {
     if n <= table.len() {
         let judgement = judge(sheet, &table[..n], odd);
         say::judgement(judgement);
         list_front(sheet, table, n);
+        ask::first(sheet, &table[..n]);
     }
 }
 

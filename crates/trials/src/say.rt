@@ -37,6 +37,16 @@ pub fn refused(refusal: Refusal) {
     text(b"\n");
 }
 
+// A refusal in one word, as r13.0.
+pub fn short(refusal: Refusal) {
+    let cause = refusal.cause;
+    let line = refusal.line;
+    text(b"r");
+    number(refusal::number(cause) as u64);
+    text(b".");
+    number(line as u64);
+}
+
 pub fn summary(summary: Summary) {
     match summary {
         Summary::Refused(refusal) => refused(refusal),

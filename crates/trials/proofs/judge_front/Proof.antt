@@ -1,4 +1,4 @@
--- `judge_front` is safe: n was tested before the part is taken. Assumes nothing.
+-- `judge_front` is safe: n was tested before the parts are taken. Assumes nothing.
 use mathlib.Core.Path.{sym}
 use native.Mathlib.Omega.{arith}
 use lib.Seq.{length-take-le}
@@ -18,6 +18,12 @@ judgement-requires c κs = search needs
 list-front-requires : tie.Need-list-front-requires
 list-front-requires c κs = search needs
 
+slice-aggregate-first : tie.Need-slice-aggregate-first
+slice-aggregate-first c = sym (length-take-le _ _ (omega arith))
+
+first-requires : tie.Need-first-requires
+first-requires c κs = search needs
+
 returns : tie.Need-returns
 returns c = search needs
 
@@ -32,5 +38,7 @@ judge-front-spec =
     judge-requires
     judgement-requires
     list-front-requires
+    slice-aggregate-first
+    first-requires
     returns
     returns-2)
