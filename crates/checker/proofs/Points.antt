@@ -47,7 +47,7 @@ module _ (Γ : Network) (σ : List ℕ) where
         λ h. implies (covers Γ c s) admitted (h .holds),
       )
 
-  pub isIndistinct-iff : (s r u : ℕ) → (isIndistinct Γ σ s r u ≡ true) ↔ Indistinct Γ σ s r u
+  pub isIndistinct-iff : (s r u : ℕ) → (isIndistinct Γ σ s r u ≡ true) ↔ Indistinct Γ σ s r (time (Γ .events) σ s u)
   isIndistinct-iff s r u =
       let f : ℕ → Bool = λ p. agree s r p || not (known Γ σ s p (at s u)) in
       let each : (p : ℕ) → (f p ≡ true) ↔ (agree s r p ≡ false → known Γ σ s p (at s u) ≡ false) =

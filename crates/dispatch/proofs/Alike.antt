@@ -25,9 +25,11 @@ use Rattle.network.specs.WellFormed.{WellFormed}
 use Rattle.network.specs.declared.Network.{Network}
 use Rattle.network.proofs.Scenario.{agree-comm}
 use Rattle.network.proofs.Strategy.{observed-before, from-known, from-unknown, is-known, unknown-before, knownFrom-same}
-use Rattle.dispatch.specs.History.{hears, History, Unheard}
-use Rattle.dispatch.specs.Due.{dueIn}
+use Rattle.dispatch.specs.Heard.{Lettered}
+use Rattle.dispatch.specs.History.{History}
+use Rattle.dispatch.specs.Due.{dueIn, hears}
 use Rattle.dispatch.specs.declared.Heard.{Heard}
+use Rattle.dispatch.proofs.Told.{named-of-history, told-of-history, history-of-told}
 
 module _ (Γ : Network) (σ : List ℕ) (m : ℕ) where
   -- the time of u in s
@@ -36,32 +38,33 @@ module _ (Γ : Network) (σ : List ℕ) (m : ℕ) where
 
   -- a test that holds in r wherever it holds in s
   abbrev Carried : (ℕ → Bool) → Type 0
-  Carried f = (s r : ℕ) → s < scenarios Γ → r < scenarios Γ → Unheard Γ σ m s r → f s ≡ true → f r ≡ true
+  Carried f = (s r : ℕ) → s < scenarios Γ → r < scenarios Γ → Indistinct Γ σ s r m → f s ≡ true → f r ≡ true
 
   -- cases that have heard the same differ only so: had s heard the truth of p, r would have heard the same truth
-  pub history-unheard : {s r : ℕ} (heard : List Heard) → History Γ σ m heard s → History Γ σ m heard r → Unheard Γ σ m s r
-  history-unheard {s} {r} heard a b = record {
+  pub history-indistinct : Lettered Γ → {s r : ℕ} (heard : List Heard) → History Γ σ m heard s → History Γ σ m heard r
+      → Indistinct Γ σ s r m
+  history-indistinct lettered {s} {r} heard a b = record {
     unknown = λ p h d. false-of-not-true (known Γ σ s p m) (λ k.
         let mine = and-both (known Γ σ s p m) (Bool·beq (truth s p) (truth s p)) k (beq-refl (truth s p)) in
-        let yours = sym (b .exact p (truth s p) h) ∙ (a .exact p (truth s p) h ∙ mine) in
+        let yours = sym (told-of-history Γ σ m lettered b p (truth s p) h) ∙ (told-of-history Γ σ m lettered a p (truth s p) h ∙ mine) in
         clash (agree r s p) (and-true (known Γ σ r p m) (agree r s p) yours .1) (agree-comm r s p ∙ d));
   }
 
   module _ (good : Solution Γ σ) (wf : WellFormed Γ) where
     -- what happens in s by m happens at the same time in r
-    same-time : {s r : ℕ} → s < scenarios Γ → r < scenarios Γ → Unheard Γ σ m s r
+    same-time : {s r : ℕ} → s < scenarios Γ → r < scenarios Γ → Indistinct Γ σ s r m
         → (u : ℕ) → u < Γ .events → at s u ≤ m → at s u ≡ at r u
     same-time {s} {r} hs hr i u h l =
         good .dynamic s r u hs hr h .alike (record { unknown = λ p hp d. unknown-before Γ σ s p (at s u) m l (i .unknown p hp d) })
 
     -- nothing that differs is heard in r, if nothing is in s
-    no-descent : {s r : ℕ} → s < scenarios Γ → r < scenarios Γ → Unheard Γ σ m s r
+    no-descent : {s r : ℕ} → s < scenarios Γ → r < scenarios Γ → Indistinct Γ σ s r m
         → (b p : ℕ) → p < Γ .signals → agree r s p ≡ false → knownFrom Γ σ r p ≤ m → knownFrom Γ σ r p < b → ⊥
     no-descent hs hr i zero p h d k l = omega arith
     no-descent {s} {r} hs hr i (suc b) p h d k l =
         let u = observation Γ p in
         let before = observed-before Γ σ r p m in
-        let none : Indistinct Γ σ r s u = record {
+        let none : Indistinct Γ σ r s (at r u) = record {
           unknown = λ q hq e. false-of-not-true (known Γ σ r q (at r u)) (λ t.
               let sooner = from-known Γ σ r q (at r u) t in
               no-descent hs hr i b q hq e (omega arith) (omega arith));
@@ -69,15 +72,15 @@ module _ (Γ : Network) (σ : List ℕ) (m : ℕ) where
         let same = knownFrom-same Γ σ r s p (good .dynamic r s u hr hs (wf .observed p h) .alike none) in
         omega (arith, from-unknown Γ σ s p m (i .unknown p h (agree-comm s r p ∙ d)))
 
-    pub unheard-comm : {s r : ℕ} → s < scenarios Γ → r < scenarios Γ → Unheard Γ σ m s r → Unheard Γ σ m r s
-    unheard-comm {s} {r} hs hr i = record {
+    pub indistinct-comm : {s r : ℕ} → s < scenarios Γ → r < scenarios Γ → Indistinct Γ σ s r m → Indistinct Γ σ r s m
+    indistinct-comm {s} {r} hs hr i = record {
       unknown = λ p h d. false-of-not-true (known Γ σ r p m) (λ k.
           no-descent hs hr i (suc (knownFrom Γ σ r p)) p h d (from-known Γ σ r p m k) (omega arith));
     }
 
     -- so what is carried one way is the same in both
-    both-ways : {s r : ℕ} (f : ℕ → Bool) → Carried f → s < scenarios Γ → r < scenarios Γ → Unheard Γ σ m s r → f s ≡ f r
-    both-ways {s} {r} f c hs hr i = same-tests (f s) (f r) (c s r hs hr i) (c r s hr hs (unheard-comm hs hr i))
+    both-ways : {s r : ℕ} (f : ℕ → Bool) → Carried f → s < scenarios Γ → r < scenarios Γ → Indistinct Γ σ s r m → f s ≡ f r
+    both-ways {s} {r} f c hs hr i = same-tests (f s) (f r) (c s r hs hr i) (c r s hr hs (indistinct-comm hs hr i))
 
     known-carried : (p : ℕ) → p < Γ .signals → Carried (λ s. known Γ σ s p m)
     known-carried p h s r hs hr i k =
@@ -101,17 +104,18 @@ module _ (Γ : Network) (σ : List ℕ) (m : ℕ) where
         let now = eqb-true (at s u) m e in
         eq-eqb (at r u) m (omega (arith, same-time hs hr i u h (omega arith)))
 
-    module _ {s r : ℕ} (hs : s < scenarios Γ) (hr : r < scenarios Γ) (i : Unheard Γ σ m s r) where
-      pub unheard-known : (p : ℕ) → p < Γ .signals → known Γ σ s p m ≡ known Γ σ r p m
-      unheard-known p h = both-ways (λ x. known Γ σ x p m) (known-carried p h) hs hr i
+    module _ {s r : ℕ} (hs : s < scenarios Γ) (hr : r < scenarios Γ) (i : Indistinct Γ σ s r m) where
+      pub indistinct-known : (p : ℕ) → p < Γ .signals → known Γ σ s p m ≡ known Γ σ r p m
+      indistinct-known p h = both-ways (λ x. known Γ σ x p m) (known-carried p h) hs hr i
 
-      pub unheard-hears : (p : ℕ) (v : Bool) → p < Γ .signals → hears Γ σ m s p v ≡ hears Γ σ m r p v
-      unheard-hears p v h = both-ways (λ x. hears Γ σ m x p v) (hears-carried p v h) hs hr i
+      pub indistinct-hears : (p : ℕ) (v : Bool) → p < Γ .signals → hears Γ σ m s p v ≡ hears Γ σ m r p v
+      indistinct-hears p v h = both-ways (λ x. hears Γ σ m x p v) (hears-carried p v h) hs hr i
 
-      pub unheard-history : (heard : List Heard) → History Γ σ m heard s → History Γ σ m heard r
-      unheard-history heard h = record { named = h .named; exact = λ p v l. h .exact p v l ∙ unheard-hears p v l }
+      pub indistinct-history : Lettered Γ → (heard : List Heard) → History Γ σ m heard s → History Γ σ m heard r
+      indistinct-history lettered heard h =
+          history-of-told Γ σ m (named-of-history Γ σ m h) (λ p v l. told-of-history Γ σ m lettered h p v l ∙ indistinct-hears p v l)
 
-      pub unheard-due : dueIn (Γ .events) σ m s ≡ dueIn (Γ .events) σ m r
-      unheard-due =
+      pub indistinct-due : dueIn (Γ .events) σ m s ≡ dueIn (Γ .events) σ m r
+      indistinct-due =
           sumBelow-same (λ u. cond (eqb (at s u) m) (2 ^ u) 0) (λ u. cond (eqb (at r u) m) (2 ^ u) 0) (Γ .events)
           (λ u h. rw (both-ways (λ x. eqb (at x u) m) (due-carried u h) hs hr i))

@@ -14,19 +14,20 @@ use Rattle.prelude.specs.Bounded.{allBelow}
 use Rattle.prelude.proofs.Tests.{clash, and-true, and-both, beq-refl, beq-true, by-cond}
 use Rattle.prelude.proofs.Search.{none-of-firstBelow, some-of-firstBelow, when-some, when-none}
 use Rattle.prelude.proofs.Bounded.{true-of-allBelow, allBelow-true}
-use Rattle.network.specs.Build.{scenarios}
+use Rattle.network.specs.Build.{letter, scenarios}
 use Rattle.network.specs.Solution.{Solution}
 use Rattle.network.specs.WellFormed.{WellFormed}
 use Rattle.network.specs.declared.Network.{Network}
-use Rattle.dispatch.specs.Heard.{wellNamed, says, letter}
-use Rattle.dispatch.specs.History.{hears, History}
-use Rattle.dispatch.specs.Due.{dueIn, asHeard, hearer, dueFor, due}
+use Rattle.dispatch.specs.Heard.{WellNamed, isWellNamed, Lettered, says}
+use Rattle.dispatch.specs.History.{History}
+use Rattle.dispatch.specs.Due.{hears, dueIn, asHeard, hearer, dueFor, due}
 use Rattle.dispatch.specs.declared.Heard.{Heard}
 use Rattle.dispatch.specs.declared.Dispatched.{Dispatched}
 use Rattle.dispatch.specs.declared.Dispatched.the-variants.{Events, Misnamed, NeverHeard}
-use Rattle.dispatch.proofs.Alike.{history-unheard, unheard-due}
+use Rattle.dispatch.proofs.Told.{well-named, named-of-history, told-of-history, history-of-told}
+use Rattle.dispatch.proofs.Alike.{history-indistinct, indistinct-due}
 
-module _ (Γ : Network) (σ : List ℕ) (m : ℕ) (hs : List Heard) where
+module _ (Γ : Network) (σ : List ℕ) (m : ℕ) (lettered : Lettered Γ) (hs : List Heard) where
   -- whether s has heard what the list says
   abbrev heardIn : ℕ → Bool
   heardIn s = allBelow (Γ .signals) (asHeard Γ σ m (says hs) s)
@@ -41,30 +42,28 @@ module _ (Γ : Network) (σ : List ℕ) (m : ℕ) (hs : List Heard) where
       (λ p l. and-both (heardOf s p true) (heardOf s p false) (same p true l) (same p false l))
     where
       same : (p : ℕ) (v : Bool) → p < Γ .signals → heardOf s p v ≡ true
-      same p v l = rw (h .exact p v l) (beq-refl (hears Γ σ m s p v))
+      same p v l = rw (told-of-history Γ σ m lettered h p v l) (beq-refl (hears Γ σ m s p v))
 
-  history-of-heard : {s : ℕ} → wellNamed Γ hs ≡ true → heardIn s ≡ true → History Γ σ m hs s
-  history-of-heard {s} n e = record {
-    named = n;
-    exact = λ p v l.
-        beq-true (says hs (letter Γ p) v) (hears Γ σ m s p v)
-        (same p v (true-of-allBelow (asHeard Γ σ m (says hs) s) (Γ .signals) e p l));
-  }
+  history-of-heard : {s : ℕ} → WellNamed Γ hs → heardIn s ≡ true → History Γ σ m hs s
+  history-of-heard {s} n e =
+      history-of-told Γ σ m n (λ p v l.
+      beq-true (says hs (letter Γ p) v) (hears Γ σ m s p v)
+      (same p v (true-of-allBelow (asHeard Γ σ m (says hs) s) (Γ .signals) e p l)))
     where
       same : (p : ℕ) (v : Bool) → heardOf s p true && heardOf s p false ≡ true → heardOf s p v ≡ true
       same p true a = and-true (heardOf s p true) (heardOf s p false) a .0
       same p false a = and-true (heardOf s p true) (heardOf s p false) a .1
 
   abbrev Never : Type 0
-  Never = (wellNamed Γ hs ≡ true) × ((s : ℕ) → s < scenarios Γ → History Γ σ m hs s → ⊥)
+  Never = WellNamed Γ hs × ((s : ℕ) → s < scenarios Γ → History Γ σ m hs s → ⊥)
 
   -- what each answer says of the list
   data Answer : Dispatched → Type 0 where
-    misnamed : wellNamed Γ hs ≡ false → Answer Misnamed
+    misnamed : (WellNamed Γ hs → ⊥) → Answer Misnamed
     never : Never → Answer NeverHeard
     events : (s : ℕ) → s < scenarios Γ → History Γ σ m hs s → Answer (Events (dueIn (Γ .events) σ m s))
 
-  answer-for : (o : Option ℕ) → hearer Γ σ m (says hs) ≡ o → wellNamed Γ hs ≡ true → Answer (dueFor Γ σ m o)
+  answer-for : (o : Option ℕ) → hearer Γ σ m (says hs) ≡ o → WellNamed Γ hs → Answer (dueFor Γ σ m o)
   answer-for none e n =
       never (
         n,
@@ -81,31 +80,32 @@ module _ (Γ : Network) (σ : List ℕ) (m : ℕ) (hs : List Heard) where
   due-answer : Answer (due Γ σ m hs)
   unfolding due
   due-answer =
-      by-cond Answer (wellNamed Γ hs) (dueFor Γ σ m (hearer Γ σ m (says hs))) Misnamed
-      (answer-for (hearer Γ σ m (says hs)) refl) misnamed
+      by-cond Answer (isWellNamed Γ hs) (dueFor Γ σ m (hearer Γ σ m (says hs))) Misnamed
+      (λ e. answer-for (hearer Γ σ m (says hs)) refl (well-named Γ hs .0 e))
+      (λ e. misnamed (λ w. clash (isWellNamed Γ hs) (well-named Γ hs .1 w) e))
 
   -- a letter is undefined or stands twice
-  pub due-misnamed : (due Γ σ m hs ≡ Misnamed) ↔ (wellNamed Γ hs ≡ false)
+  pub due-misnamed : (due Γ σ m hs ≡ Misnamed) ↔ (WellNamed Γ hs → ⊥)
   due-misnamed = (λ e. only (rw e at due-answer), λ e. so e due-answer)
     where
-      only : Answer Misnamed → wellNamed Γ hs ≡ false
+      only : Answer Misnamed → WellNamed Γ hs → ⊥
       only (misnamed e) = e
 
-      so : {d : Dispatched} → wellNamed Γ hs ≡ false → Answer d → d ≡ Misnamed
+      so : {d : Dispatched} → (WellNamed Γ hs → ⊥) → Answer d → d ≡ Misnamed
       so e (misnamed n) = refl
-      so e (never w) = clash (wellNamed Γ hs) (w .0) e
-      so e (events s l h) = clash (wellNamed Γ hs) (h .named) e
+      so e (never w) = absurd (e (w .0))
+      so e (events s l h) = absurd (e (named-of-history Γ σ m h))
 
   -- no case has heard it
   pub due-never : (due Γ σ m hs ≡ NeverHeard)
-      ↔ ((wellNamed Γ hs ≡ true) × ((s : ℕ) → s < scenarios Γ → History Γ σ m hs s → ⊥))
+      ↔ (WellNamed Γ hs × ((s : ℕ) → s < scenarios Γ → History Γ σ m hs s → ⊥))
   due-never = (λ e. only (rw e at due-answer), λ w. so w due-answer)
     where
       only : Answer NeverHeard → Never
       only (never w) = w
 
       so : {d : Dispatched} → Never → Answer d → d ≡ NeverHeard
-      so w (misnamed n) = clash (wellNamed Γ hs) (w .0) n
+      so w (misnamed n) = absurd (n (w .0))
       so w (never x) = refl
       so w (events s l h) = absurd (w .1 s l h)
 
@@ -115,6 +115,6 @@ module _ (Γ : Network) (σ : List ℕ) (m : ℕ) (hs : List Heard) where
   due-history good wf s l h = so due-answer
     where
       so : {d : Dispatched} → Answer d → d ≡ Events (dueIn (Γ .events) σ m s)
-      so (misnamed n) = clash (wellNamed Γ hs) (h .named) n
+      so (misnamed n) = absurd (n (named-of-history Γ σ m h))
       so (never w) = absurd (w .1 s l h)
-      so (events r k g) = ap Events (unheard-due Γ σ m good wf k l (history-unheard Γ σ m hs g h))
+      so (events r k g) = ap Events (indistinct-due Γ σ m good wf k l (history-indistinct Γ σ m lettered hs g h))

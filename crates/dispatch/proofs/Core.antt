@@ -18,7 +18,7 @@ use Rattle.prelude.specs.Bounded.{allBelow, sumBelow}
 use Rattle.prelude.proofs.Tests.{and-true, and-both, clash, false-of-not-true}
 use Rattle.prelude.proofs.Search.{Searching}
 use Rattle.prelude.proofs.Bounded.{true-of-allBelow}
-use Rattle.network.specs.Build.{observation, scenarios, cells}
+use Rattle.network.specs.Build.{letter, observation, scenarios, cells}
 use Rattle.network.specs.Scenario.{truth}
 use Rattle.network.specs.Strategy.{time}
 use Rattle.network.specs.declared.Network.{Network}
@@ -28,7 +28,6 @@ use Rattle.sheet.proofs.Tokens.{letter-low, letter-from}
 use Rattle.sheet.proofs.Finds.{finds-on, finds-at, finds-end}
 use Rattle.checker.specs.Plain.{knownAfter}
 use Rattle.checker.proofs.Plain.{known-after-is}
-use Rattle.dispatch.specs.Heard.{letter}
 use Rattle.dispatch.specs.Due.{asHeard, dueIn}
 use Rattle.dispatch.specs.Said.{place, misnamed, withBit, saidOn, standsOn, asSaid, added, wellNamedOn, dueOn}
 use Rattle.dispatch.specs.declared.Heard.{Heard}

@@ -10,17 +10,19 @@ use Prim.Native.Nat.{ℕ, zero, suc, _+_, _≤_, _<_}
 use native.Mathlib.Omega.{arith}
 use borrow.Author.Tests.{eq-eqb, ne-eqb}
 use lib.Dec.{eqb}
-use Rattle.prelude.specs.Search.{when, answers}
+use Rattle.prelude.specs.Search.{answers}
 use Rattle.prelude.specs.Bytes.{isIn, distinct}
-use Rattle.prelude.proofs.Tests.{clash, and-both, by-cond, true-of-not-false, eq-or-ne}
-use Rattle.prelude.proofs.Search.{none-of-firstBelow, when-none, unanswered}
+use Rattle.prelude.proofs.Tests.{and-both, by-cond, eq-or-ne}
+use Rattle.network.specs.Build.{letter}
 use Rattle.network.specs.Scenario.{truth}
 use Rattle.network.specs.Strategy.{known}
 use Rattle.network.specs.declared.Network.{Network}
 use Rattle.sheet.specs.Defined.{placeOf, allDefined}
-use Rattle.dispatch.specs.Heard.{lettersOf, says, letter, Lettered}
-use Rattle.dispatch.specs.History.{hears, History, heardFrom, historyOf}
+use Rattle.dispatch.specs.Heard.{lettersOf, isWellNamed, Lettered, says}
+use Rattle.dispatch.specs.History.{History, heardFrom, historyOf}
+use Rattle.dispatch.specs.Due.{hears}
 use Rattle.dispatch.specs.declared.Heard.{Heard}
+use Rattle.dispatch.proofs.Told.{defined-found, well-named, history-of-told}
 
 module _ (Γ : Network) (σ : List ℕ) (m : ℕ) (lettered : Lettered Γ) (s : ℕ) where
   -- the records of the n signals from i on
@@ -28,10 +30,7 @@ module _ (Γ : Network) (σ : List ℕ) (m : ℕ) (lettered : Lettered Γ) (s : 
   from i n = heardFrom Γ σ m s i n
 
   defined : (p : ℕ) → p < Γ .signals → answers (placeOf (Γ .signals) (Γ .letters) (letter Γ p)) ≡ true
-  defined p h = true-of-not-false _ (λ e.
-      let miss = none-of-firstBelow (λ q. when (eqb (letter Γ q) (letter Γ p)) q) (Γ .signals)
-      (unanswered (placeOf (Γ .signals) (Γ .letters) (letter Γ p)) e) p h in
-      clash (eqb (letter Γ p) (letter Γ p)) (eq-eqb (letter Γ p) (letter Γ p) refl) (when-none (eqb (letter Γ p) (letter Γ p)) p miss))
+  defined p h = defined-found Γ (letter Γ p) (record { signal = p; below = h; is = refl })
 
   differ : (p q : ℕ) → p < Γ .signals → q < Γ .signals → (p ≡ q → ⊥) → eqb (letter Γ p) (letter Γ q) ≡ false
   differ p q hp hq n = ne-eqb _ _ (λ e. n (lettered .once p q hp hq e))
@@ -93,8 +92,9 @@ module _ (Γ : Network) (σ : List ℕ) (m : ℕ) (lettered : Lettered Γ) (s : 
       ]
 
   pub history-of : History Γ σ m (historyOf Γ σ m s) s
-  history-of = record {
-    named = and-both (allDefined (Γ .signals) (Γ .letters) (lettersOf (historyOf Γ σ m s))) (distinct (lettersOf (historyOf Γ σ m s)))
-        (all-defined 0 (Γ .signals) (omega arith)) (all-once 0 (Γ .signals) (omega arith));
-    exact = λ p v h. says-heard p 0 (Γ .signals) v (omega arith) (omega arith) (omega arith);
-  }
+  history-of =
+      let hs = historyOf Γ σ m s in
+      let named = and-both (allDefined (Γ .signals) (Γ .letters) (lettersOf hs)) (distinct (lettersOf hs))
+      (all-defined 0 (Γ .signals) (omega arith)) (all-once 0 (Γ .signals) (omega arith)) in
+      history-of-told Γ σ m (well-named Γ hs .0 named)
+      (λ p v h. says-heard p 0 (Γ .signals) v (omega arith) (omega arith) (omega arith))

@@ -15,13 +15,13 @@ use Rattle.prelude.proofs.Tests.{either, and-true, and-both, implied, implies, 
 use Rattle.prelude.proofs.Bounded.{allBelow-same}
 use Rattle.prelude.proofs.Bytes.{true-of-every, every-true}
 use Rattle.prelude.proofs.Search.{answered, firstBelow-same}
-use Rattle.network.specs.Build.{scenarios}
+use Rattle.network.specs.Build.{letter, scenarios}
 use Rattle.network.specs.Scenario.{truth}
 use Rattle.network.specs.declared.Network.{Network}
 use Rattle.sheet.specs.Names.{isLetter}
 use Rattle.sheet.specs.Defined.{placeOf, allDefined}
 use Rattle.sheet.proofs.Labels.{allDefined-every, place-is}
-use Rattle.dispatch.specs.Heard.{lettersOf, wellNamed, says, letter, Lettered}
+use Rattle.dispatch.specs.Heard.{lettersOf, isWellNamed, says, Lettered}
 use Rattle.dispatch.specs.Due.{asHeard, hearer, dueFor, dueBy, due}
 use Rattle.dispatch.specs.Said.{misnamed, saidOn, standsOn, saidFrom, wellNamedOn, dueOn}
 use Rattle.dispatch.specs.declared.Heard.{Heard}
@@ -68,7 +68,7 @@ module _ (Γ : Network) (lettered : Lettered Γ) where
     tried l = not (standsOn x l) || defined l
 
     -- each letter of a list that is well named is defined, and so fits
-    module _ (e : wellNamed Γ hs ≡ true) where
+    module _ (e : isWellNamed Γ hs ≡ true) where
       each-defined : (b : ℕ) → isIn b ls ≡ true → defined b ≡ true
       each-defined = true-of-every defined ls (sym (allDefined-every (Γ .signals) (Γ .letters) ls) ∙ and-true (all-defined ls) (distinct ls) e .0)
 
@@ -103,13 +103,13 @@ module _ (Γ : Network) (lettered : Lettered Γ) where
           let a = and-true (isLetter b) (not (standsOn 0 b)) (true-of-every (free 0) ls (parts .0) b i) .0 in
           implied (standsOn x b) (defined b) (true-of-letters tried (passes .1) b a) (stands-said hs fits-of-wellNamedOn b a ∙ i)
 
-      wellNamed-of-wellNamedOn : wellNamed Γ hs ≡ true
+      wellNamed-of-wellNamedOn : isWellNamed Γ hs ≡ true
       wellNamed-of-wellNamedOn =
           and-both (all-defined ls) (distinct ls) (allDefined-every (Γ .signals) (Γ .letters) ls ∙ every-true defined ls each-known) (parts .1)
 
-    pub wellNamed-said : wellNamedOn (Γ .signals) (Γ .letters) x ≡ wellNamed Γ hs
+    pub wellNamed-said : wellNamedOn (Γ .signals) (Γ .letters) x ≡ isWellNamed Γ hs
     wellNamed-said =
-        same-tests (wellNamedOn (Γ .signals) (Γ .letters) x) (wellNamed Γ hs) wellNamed-of-wellNamedOn wellNamedOn-of-wellNamed
+        same-tests (wellNamedOn (Γ .signals) (Γ .letters) x) (isWellNamed Γ hs) wellNamed-of-wellNamedOn wellNamedOn-of-wellNamed
 
   -- searches by what is said alike of each letter
   hearer-same : (σ : List ℕ) (m : ℕ) (f g : ℕ → Bool → Bool) → ((l : ℕ) (v : Bool) → isLetter l ≡ true → f l v ≡ g l v)
@@ -125,7 +125,7 @@ pub due-said : (Γ : Network) (σ : List ℕ) (m : ℕ) (hs : List Heard) → Le
 unfolding dueOn due
 due-said Γ σ m hs lettered =
     ap (λ (b : Bool). dueBy Γ σ m b (saidOn (saidFrom 0 hs))) (wellNamed-said Γ lettered hs)
-    ∙ elim (either (wellNamed Γ hs)) [
+    ∙ elim (either (isWellNamed Γ hs)) [
       | inl e ↦
           let said = said-says hs (fits-of-wellNamed Γ lettered hs e) in
           rw e (ap (dueFor Γ σ m) (hearer-same Γ lettered σ m (saidOn (saidFrom 0 hs)) (says hs) said))

@@ -6,11 +6,11 @@ use Prim.Native.Nat.{ℕ, _^_}
 use lib.Dec.{eqb}
 use Rattle.prelude.specs.Search.{firstBelow, when}
 use Rattle.prelude.specs.Bounded.{allBelow, sumBelow}
-use Rattle.network.specs.Build.{scenarios}
-use Rattle.network.specs.Strategy.{time}
+use Rattle.network.specs.Build.{letter, scenarios}
+use Rattle.network.specs.Scenario.{truth}
+use Rattle.network.specs.Strategy.{time, known}
 use Rattle.network.specs.declared.Network.{Network}
-use Rattle.dispatch.specs.Heard.{wellNamed, says, letter}
-use Rattle.dispatch.specs.History.{hears}
+use Rattle.dispatch.specs.Heard.{isWellNamed, says}
 use Rattle.dispatch.specs.declared.Heard.{Heard}
 use Rattle.dispatch.specs.declared.Dispatched.{Dispatched}
 use Rattle.dispatch.specs.declared.Dispatched.the-variants.{Events, Misnamed, NeverHeard}
@@ -20,10 +20,14 @@ abbrev pub dueIn : ℕ → List ℕ → ℕ → ℕ → ℕ
 dueIn n σ m s = sumBelow n (λ u. cond (eqb (time n σ s u) m) (2 ^ u) 0)
 
 module _ (Γ : Network) (σ : List ℕ) (m : ℕ) where
+  -- whether s has heard that the signal p is v
+  abbrev pub hears : ℕ → ℕ → Bool → Bool
+  hears s p v = known Γ σ s p m && Bool·beq (truth s p) v
+
   -- whether what is said of signal p is what s has heard of it
   abbrev pub asHeard : (ℕ → Bool → Bool) → ℕ → ℕ → Bool
   asHeard said s p =
-      Bool·beq (said (letter Γ p) true) (hears Γ σ m s p true) && Bool·beq (said (letter Γ p) false) (hears Γ σ m s p false)
+      Bool·beq (said (letter Γ p) true) (hears s p true) && Bool·beq (said (letter Γ p) false) (hears s p false)
 
   -- the first case that has heard exactly what is said
   abbrev pub hearer : (ℕ → Bool → Bool) → Option ℕ
@@ -34,9 +38,10 @@ module _ (Γ : Network) (σ : List ℕ) (m : ℕ) where
   dueFor none = NeverHeard
   dueFor (some s) = Events (dueIn (Γ .events) σ m s)
 
-  -- the letters are tried first
+  -- 15 is tried before 16
   abbrev pub dueBy : Bool → (ℕ → Bool → Bool) → Dispatched
   dueBy named said = cond named (dueFor (hearer said)) Misnamed
 
+  -- what is due for those who have heard the list
   unfoldable pub due : List Heard → Dispatched
-  due hs = dueBy (wellNamed Γ hs) (says hs)
+  due hs = dueBy (isWellNamed Γ hs) (says hs)

@@ -1,30 +1,32 @@
 -- What a case has heard before a minute (004, Definition 7: the scenario history).
 use mathlib.Core.Path.{_≡_}
-use mathlib.Core.Bool.{Bool, true, false, _&&_, Bool·beq, cond}
+use mathlib.Core.Logic.{_↔_}
+use mathlib.Core.Bool.{true, cond}
 use mathlib.Core.List.{List, [], _∷_}
 use Prim.Native.Nat.{ℕ, zero, suc, _<_}
-use Rattle.network.specs.Scenario.{truth, agree}
+use Rattle.prelude.specs.Lists.{In, Distinct}
+use Rattle.network.specs.Build.{letter}
+use Rattle.network.specs.Scenario.{truth}
 use Rattle.network.specs.Strategy.{known}
 use Rattle.network.specs.declared.Network.{Network}
-use Rattle.dispatch.specs.Heard.{wellNamed, says, letter}
+use Rattle.dispatch.specs.Heard.{lettersOf, noHeard}
 use Rattle.dispatch.specs.declared.Heard.{Heard}
 
 module _ (Γ : Network) (σ : List ℕ) (m : ℕ) where
-  -- whether s has heard that the signal p is v: it counts as in point 3 of a good table
-  abbrev pub hears : ℕ → ℕ → Bool → Bool
-  hears s p v = known Γ σ s p m && Bool·beq (truth s p) v
+  -- s has heard h: the letter of a signal that is known, as point 3 of a good table has it, with the truth that it has in s
+  pub record Hears (s : ℕ) (h : Heard) : Type 0 where
+    pub signal : ℕ
+    pub below : signal < Γ .signals
+    pub named : letter Γ signal ≡ h .letter
+    pub heard : known Γ σ s signal m ≡ true
+    pub told : truth s signal ≡ h .truth
 
-  -- the list is, "in any order, exactly what" the case s "has heard before the minute": each of its letters is defined and stands once,
-  -- and it says of each signal what s has heard
+  -- the list is, "in any order, exactly what" the case s "has heard before the minute"
   pub record History (hs : List Heard) (s : ℕ) : Type 0 where
-    pub named : wellNamed Γ hs ≡ true
-    pub exact : (p : ℕ) (v : Bool) → p < Γ .signals → says hs (letter Γ p) v ≡ hears s p v
+    pub once : Distinct (lettersOf hs) 0
+    pub exact : (h : Heard) → In h hs noHeard ↔ Hears s h
 
-  -- s and r differ only in signals that s has not heard
-  pub record Unheard (s r : ℕ) : Type 0 where
-    pub unknown : (p : ℕ) → p < Γ .signals → agree s r p ≡ false → known Γ σ s p m ≡ false
-
-  -- the list that holds it in the order of the signals, for the n signals from i on
+  -- the list of it in the order of the signals, for the n signals from i on
   abbrev pub heardFrom : ℕ → ℕ → ℕ → List Heard
   heardFrom s i zero = []
   heardFrom s i (suc n) =

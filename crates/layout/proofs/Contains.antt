@@ -10,7 +10,8 @@ use Rattle.network.specs.declared.Constraint.{Constraint}
 use Rattle.network.specs.declared.Network.{Network}
 use Rattle.sheet.specs.Names.{isName}
 use Rattle.sheet.specs.Defined.{maskOf}
-use Rattle.layout.specs.Layout.{Signal, Rule, Contents, Distinct, Each, KeepsSignal, KeepsRule, noSignal, noRule}
+use Rattle.prelude.specs.Lists.{Distinct, Each}
+use Rattle.layout.specs.Layout.{Signal, Rule, Contents, KeepsSignal, KeepsRule, noSignal, noRule}
 
 -- the letters and the events of signals
 abbrev pub lettersOf : List Signal → List ℕ

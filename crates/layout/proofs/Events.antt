@@ -17,9 +17,10 @@ use Rattle.network.specs.Limits as L
 use Rattle.network.specs.declared.Network.{Network}
 use Rattle.sheet.specs.Names.{isName}
 use Rattle.sheet.specs.Rows.{eventOf, eventRefusal, eventRow}
-use Rattle.layout.specs.Layout.{In, Distinct, Each, line}
+use Rattle.prelude.specs.Lists.{In, Distinct, Each}
+use Rattle.layout.specs.Layout.{line}
 use Rattle.layout.proofs.Checks.{_&_, hold, none-fails}
-use Rattle.layout.proofs.Lists.{all-of, each-at, distinct-new}
+use Rattle.prelude.proofs.Lists.{all-of, each-at, distinct-new}
 use Rattle.layout.proofs.Plain.{plain-name}
 use Rattle.layout.proofs.Contains.{Contains, contents}
 use Rattle.layout.proofs.Finds.{event-in, event-answers}

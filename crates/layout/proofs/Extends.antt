@@ -13,8 +13,9 @@ use Rattle.network.specs.Build.{empty, withEvent, withSignal, withRule, noConst
 use Rattle.network.specs.declared.Network.{Network}
 use Rattle.network.specs.declared.Constraint.{Constraint}
 use Rattle.sheet.specs.Names.{isName}
-use Rattle.layout.specs.Layout.{Signal, Rule, In, Distinct, Each, KeepsSignal, KeepsRule, noSignal, noRule}
-use Rattle.layout.proofs.Lists.{by-place, each-snoc, distinct-snoc}
+use Rattle.prelude.specs.Lists.{In, Distinct, Each}
+use Rattle.layout.specs.Layout.{Signal, Rule, KeepsSignal, KeepsRule, noSignal, noRule}
+use Rattle.prelude.proofs.Lists.{by-place, each-snoc, distinct-snoc}
 use Rattle.layout.proofs.Contains.{lettersOf, eventsOf, Bears, SignalsAre, Means, RulesAre, Contains, contents}
 
 module _ {A : Type 0} (d : A) where

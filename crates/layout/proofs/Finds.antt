@@ -15,7 +15,8 @@ use Rattle.prelude.proofs.Bytes.{same-true, same-of-eq}
 use Rattle.prelude.proofs.Search.{answered, firstBelow-same}
 use Rattle.sheet.specs.Names.{isLetter, Literal}
 use Rattle.sheet.specs.Defined.{eventNamed, placeOf, weight, weights, maskOf}
-use Rattle.layout.specs.Layout.{Signal, In, Distinct, noSignal}
+use Rattle.prelude.specs.Lists.{In, Distinct}
+use Rattle.layout.specs.Layout.{Signal, noSignal}
 use Rattle.layout.proofs.Search.{found, finds}
 use Rattle.layout.proofs.Contains.{lettersOf, eventsOf, Bears, NamesAre, SignalsAre}
 

@@ -15,9 +15,10 @@ use Rattle.sheet.specs.Names.{isLetter}
 use Rattle.sheet.specs.Defined.{placeOf, allDefined}
 use Rattle.sheet.specs.Rows.{kindOf}
 use Rattle.sheet.proofs.Labels.{allDefined-every}
-use Rattle.layout.specs.Layout.{Signal, In, Each, kindText}
+use Rattle.prelude.specs.Lists.{In, Each}
+use Rattle.layout.specs.Layout.{Signal, kindText}
 use Rattle.layout.proofs.Lines.{plain}
-use Rattle.layout.proofs.Lists.{each-mono, each-of-every, every-of-each}
+use Rattle.prelude.proofs.Lists.{each-mono, each-of-every, every-of-each}
 use Rattle.layout.proofs.Contains.{lettersOf, SignalsAre}
 use Rattle.layout.proofs.Finds.{letter-in, letter-answers, letter-is}
 

@@ -4,7 +4,6 @@ pub mod Lines
 pub mod Plain
 pub mod Numbers
 pub mod Labels
-pub mod Lists
 pub mod Search
 pub mod Contains
 pub mod Finds

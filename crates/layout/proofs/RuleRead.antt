@@ -23,7 +23,7 @@ use Rattle.layout.specs.Layout.{Signal, Rule, KeepsRule, kindText, signe
 use Rattle.layout.proofs.Checks.{hold}
 use Rattle.layout.proofs.Numbers as N
 use Rattle.layout.proofs.Labels.{lettersRead-is, is-label}
-use Rattle.layout.proofs.Lists.{all-of, distinct-of-test}
+use Rattle.prelude.proofs.Lists.{all-of, distinct-of-test}
 use Rattle.layout.proofs.Contains.{lettersOf, Contains, contents}
 use Rattle.layout.proofs.Finds.{event-in}
 use Rattle.layout.proofs.KindWords.{kind-read, defined-read}

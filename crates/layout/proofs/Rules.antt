@@ -15,13 +15,14 @@ use Rattle.network.specs.declared.Network.{Network}
 use Rattle.sheet.specs.Names.{isLetter, isName, isLabel, labelOf, lettersOf as lettersRead}
 use Rattle.sheet.specs.Defined.{allDefined, maskOf}
 use Rattle.sheet.specs.Rows.{eventOf, ruleOf, ruleRefusal, ruleRow}
-use Rattle.layout.specs.Layout.{Signal, Rule, In, Each, KeepsRule, noRule, kindText, signedText, labelText, lettersOf as lettersWritten}
+use Rattle.prelude.specs.Lists.{In, Each}
+use Rattle.layout.specs.Layout.{Signal, Rule, KeepsRule, noRule, kindText, signedText, labelText, lettersOf as lettersWritten}
 use Rattle.layout.proofs.Checks.{_&_, none-fails}
 use Rattle.layout.proofs.Lines.{Plain}
 use Rattle.layout.proofs.Plain.{plain-name}
 use Rattle.layout.proofs.Numbers as N
 use Rattle.layout.proofs.Labels.{lettersRead-is, labelOf-labelText, isLabel-labelText, plain-labelText}
-use Rattle.layout.proofs.Lists.{each-at, each-in, test-of-distinct}
+use Rattle.prelude.proofs.Lists.{each-at, each-in, test-of-distinct}
 use Rattle.layout.proofs.Contains.{lettersOf, Bears, Means, Contains, contents}
 use Rattle.layout.proofs.Finds.{event-answers, event-found, event-named, mask-is}
 use Rattle.layout.proofs.KindWords.{kind-passes, kind-is, plain-kind, defined-passes, letters-are}

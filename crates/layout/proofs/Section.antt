@@ -30,7 +30,7 @@ use Rattle.layout.proofs.Numbers.{
   plain-decimal,
   decimal-magnitude,
 }
-use Rattle.layout.proofs.Lists.{all-of}
+use Rattle.prelude.proofs.Lists.{all-of}
 use Rattle.layout.proofs.Row.{
   Understood,
   rows-read,

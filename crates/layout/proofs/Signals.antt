@@ -18,10 +18,11 @@ use Rattle.network.specs.declared.Network.{Network}
 use Rattle.sheet.specs.Names.{isName, isLetter, isOneLetter}
 use Rattle.sheet.specs.Defined.{placeOf}
 use Rattle.sheet.specs.Rows.{eventOf, isObservation, signalRefusal, signalRow}
-use Rattle.layout.specs.Layout.{Signal, In, Distinct, Each, KeepsSignal, noSignal}
+use Rattle.prelude.specs.Lists.{In, Distinct, Each}
+use Rattle.layout.specs.Layout.{Signal, KeepsSignal, noSignal}
 use Rattle.layout.proofs.Checks.{_&_, hold, none-fails}
 use Rattle.layout.proofs.Lines.{plain}
-use Rattle.layout.proofs.Lists.{all-of, each-at, each-in, distinct-new}
+use Rattle.prelude.proofs.Lists.{all-of, each-at, each-in, distinct-new}
 use Rattle.layout.proofs.Plain.{plain-name, plain-letter, one-letter}
 use Rattle.layout.proofs.Contains.{Contains, contents, lettersOf, eventsOf}
 use Rattle.layout.proofs.Finds.{

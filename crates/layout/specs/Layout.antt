@@ -8,6 +8,7 @@ use Prim.Native.String.{String}
 use lib.IntN.{ℤ, pos, negsuc}
 use lib.ListN.{length, getD}
 use Rattle.prelude.specs.Bytes.{ascii}
+use Rattle.prelude.specs.Lists.{In, Distinct, Each}
 use Rattle.text.specs.Lines.{comma, lineFeed}
 use Rattle.text.specs.Decimal.{decimal}
 use Rattle.network.specs.Limits as L
@@ -34,20 +35,6 @@ pub record Contents : Type 0 where
   pub names : List (List ℕ)
   pub signals : List Signal
   pub rules : List Rule
-
--- x stands in the list
-pub record In {A : Type 0} (x : A) (xs : List A) (d : A) : Type 0 where
-  pub place : ℕ
-  pub place-lt : place < length xs
-  pub is : getD xs place d ≡ x
-
--- nothing stands in it twice
-pub record Distinct {A : Type 0} (xs : List A) (d : A) : Type 0 where
-  pub once : (i j : ℕ) → i < length xs → j < length xs → getD xs i d ≡ getD xs j d → i ≡ j
-
--- f holds of each of them
-pub record Each {A : Type 0} (P : A → Type 0) (xs : List A) (d : A) : Type 0 where
-  pub each : (i : ℕ) → i < length xs → P (getD xs i d)
 
 abbrev pub lettersOf : List Literal → List ℕ
 lettersOf ls = map (λ l. l .letter) ls

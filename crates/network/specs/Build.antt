@@ -79,6 +79,10 @@ module _ (Γ : Network) where
   abbrev pub nameOf : List ℕ → ℕ → List ℕ
   nameOf sheet u = take (getD (Γ .lengths) u 0) (drop (getD (Γ .starts) u 0) sheet)
 
+  -- the letter of signal p
+  abbrev pub letter : ℕ → ℕ
+  letter p = getD (Γ .letters) p 0
+
   -- the event that gives signal p: its observation event
   abbrev pub observation : ℕ → ℕ
   observation p = getD (Γ .observations) p 0

@@ -25,13 +25,13 @@ module _ (Γ : Network) (σ : List ℕ) where
   pub record Holds (s : ℕ) (c : Constraint) : Type 0 where
     pub holds : covers Γ c s ≡ true → admits (c .kind) (at s (c .from)) (at s (c .to)) (c .bound) ≡ true
 
-  -- in s, nothing on which s and r differ is known at the time of u
-  pub record Indistinct (s r u : ℕ) : Type 0 where
-    pub unknown : (p : ℕ) → p < Γ .signals → agree s r p ≡ false → known Γ σ s p (at s u) ≡ false
+  -- in s, nothing on which s and r differ is known at the minute m
+  pub record Indistinct (s r m : ℕ) : Type 0 where
+    pub unknown : (p : ℕ) → p < Γ .signals → agree s r p ≡ false → known Γ σ s p m ≡ false
 
   -- point 3, for one event and two cases (004, Lemma 1: dynamic)
   pub record Alike (s r u : ℕ) : Type 0 where
-    pub alike : Indistinct s r u → at s u ≡ at r u
+    pub alike : Indistinct s r (at s u) → at s u ≡ at r u
 
   -- a good table
   pub record Solution : Type 0 where

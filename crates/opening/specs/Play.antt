@@ -3,6 +3,7 @@
 -- this list", each with line 0.
 use mathlib.Core.List.{List}
 use Prim.Native.Nat.{ℕ}
+use Rattle.refusal.specs.Refusal.{numberOf}
 use Rattle.refusal.specs.declared.Cause.the-variants as C
 use Rattle.sheet.specs.Reading.{read}
 use Rattle.sheet.specs.declared.Reading.{Reading}
@@ -18,20 +19,32 @@ use Rattle.opening.specs.declared.Judgement.the-variants as J
 use Rattle.opening.specs.declared.Due.{Due}
 use Rattle.opening.specs.declared.Due.the-variants as D
 
+-- what the player says of the list: 15 and 16 have line 0
 abbrev pub answerTo : Dispatched → Due
 answerTo (P.Events e) = D.Events e
 answerTo P.Misnamed = D.Refused (withoutLine C.MisnamedSignal)
 answerTo P.NeverHeard = D.Refused (withoutLine C.NeverHeard)
 
--- the judgement of the table is tried before the list
+-- the judgement of the table comes before the list
 abbrev pub playedFor : Judgement → Dispatched → Due
 playedFor (J.Refused r) d = D.Refused r
 playedFor (J.Judged Pass) d = answerTo d
 playedFor (J.Judged (Breached b)) d = D.Refused (withoutLine C.TableFails)
 
+-- the events of a table t due at the minute m, for those who have heard hs
 unfoldable pub eventsDue : List ℕ → List ℕ → ℕ → List Heard → Due
 eventsDue sheet t m hs = playedFor (judgement sheet t) (due (read sheet .network) t m hs)
 
 -- the same by what a mask says
 unfoldable pub eventsDueOn : List ℕ → List ℕ → ℕ → ℕ → Due
 eventsDueOn sheet t m x = playedFor (judgement sheet t) (dueOn (read sheet .network) t m x)
+
+-- the number, the line and the value of an answer: the events due with 0 and 0, or a refusal's number and line with no event
+pub record DueValues : Type 0 where
+  pub number : ℕ
+  pub line : ℕ
+  pub events : ℕ
+
+abbrev pub dueValues : Due → DueValues
+dueValues (D.Events e) = record { number = 0; line = 0; events = e }
+dueValues (D.Refused r) = record { number = numberOf (r .cause); line = r .line; events = 0 }

@@ -3,5 +3,6 @@ pub mod Tests
 pub mod Search
 pub mod Bounded
 pub mod Bytes
+pub mod Lists
 pub mod Cells
 pub mod Examples

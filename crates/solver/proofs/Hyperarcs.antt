@@ -81,7 +81,7 @@ module _ (Γ : Network) (σ : List ℕ) (s r m : ℕ) where
 
 module _ (Γ : Network) (σ : List ℕ) where
   -- something that differs is known, or nothing is
-  told-or-not : (s r u : ℕ) → Differs Γ σ s r (at Γ σ r u) (Γ .signals) (at Γ σ s u) ⊎ Indistinct Γ σ s r u
+  told-or-not : (s r u : ℕ) → Differs Γ σ s r (at Γ σ r u) (Γ .signals) (at Γ σ s u) ⊎ Indistinct Γ σ s r (at Γ σ s u)
   told-or-not s r u =
       elim (either (allBelow (Γ .signals) test)) [
         | inl e ↦ inr (record {
@@ -122,7 +122,7 @@ module _ (Γ : Network) (σ : List ℕ) where
 
   module _ (observed : (p : ℕ) → p < Γ .signals → observation Γ p < Γ .events) (arcs : Hyperarcs Γ σ) where
     -- no differing proposition is known in r before the time of u in s, if none is known in s by then
-    no-descent : (s r u : ℕ) → s < scenarios Γ → r < scenarios Γ → Indistinct Γ σ s r u
+    no-descent : (s r u : ℕ) → s < scenarios Γ → r < scenarios Γ → Indistinct Γ σ s r (at Γ σ s u)
         → (b p : ℕ) → p < Γ .signals → agree r s p ≡ false → knownFrom Γ σ r p < at Γ σ s u → knownFrom Γ σ r p < b → ⊥
     no-descent s r u hs hr i zero p hp d k l = omega arith
     no-descent s r u hs hr i (suc b) p hp d k l =

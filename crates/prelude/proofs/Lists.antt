@@ -10,11 +10,11 @@ use borrow.Author.Tests.{eqb-true, eq-eqb, not-true}
 use lib.Dec.{eqb}
 use lib.ListN.{length, getD, length-append, List·getD-append}
 use lib.Seq.{getD-append-seam, ext-getD}
 use Rattle.prelude.specs.Bounded.{tabulate}
 use Rattle.prelude.proofs.Bounded.{length-tabulate, getD-tabulate}
 use Rattle.prelude.specs.Bytes.{isIn, every, distinct}
 use Rattle.prelude.proofs.Tests.{either, clash, and-true, and-both, or-true, lt-or-ge}
-use Rattle.layout.specs.Layout.{In, Distinct, Each}
+use Rattle.prelude.specs.Lists.{In, Distinct, Each}
 
 module _ {A : Type 0} (d : A) where
   module _ (xs : List A) (x : A) where
