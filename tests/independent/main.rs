@@ -388,18 +388,29 @@ fn solved(sheet: &[u8], net: &Net, table: &[u16]) -> Vec<u8> {
     text
 }
 
-/// What is due at minute 0 for those who have heard nothing, of any table: the sheet's own refusal, 11 and 14 come first.
+/// What is due at minute 0 of any table, for those who have heard nothing, and for a list with a byte that is no letter.
 fn asked_first(reading: &Result<Net, Refusal>, table: &[u16]) -> String {
-    let answer = match reading {
-        Err(refusal) => Err(*refusal),
-        Ok(net) if table.len() != net.cells() => Err(of_call(11)),
-        Ok(net) if model::judge(net, table) != Verdict::Pass => Err(of_call(14)),
-        Ok(net) => model::due(net, table, 0, &[]).map_err(of_call),
-    };
-    match answer {
-        Ok(events) => format!("asked 0 {events}\n"),
-        Err(refusal) => format!("asked 0 r{}.{}\n", refusal.number, refusal.line),
+    let mut text = "asked 0".to_string();
+    for list in [vec![], vec![(0, false)]] {
+        text.push_str(&match due_outcome(reading, table, 0, &list) {
+            Ok(events) => format!(" {events}"),
+            Err(refusal) => format!(" r{}.{}", refusal.number, refusal.line),
+        });
     }
+    text.push('\n');
+    text
+}
+
+/// The sheet's own refusal, then 11, 14, 15 and 16, or the events.
+fn due_outcome(reading: &Result<Net, Refusal>, table: &[u16], minute: u16, heard: &[(u8, bool)]) -> Result<u16, Refusal> {
+    let net = reading.as_ref().map_err(|refusal| *refusal)?;
+    if table.len() != net.cells() {
+        return Err(of_call(11));
+    }
+    if model::judge(net, table) != Verdict::Pass {
+        return Err(of_call(14));
+    }
+    model::due(net, table, minute, heard).map_err(of_call)
 }
 
 /// The lists that the program `trials` asks about.

@@ -1,7 +1,7 @@
-//! Document 01 in plain Rust, written from the paper alone.
+//! Document 01, and point 1 of document 02, in plain Rust, written from the papers alone.
 //!
 //! Nothing here is fast or clever on purpose: each function renders one rule of the paper, and its comment says which.
-//! Quoted words are document 01's. "Readings" means READINGS.md, section "Document 01".
+//! Quoted words are those of the papers. "Readings" means READINGS.md.
 
 use std::collections::VecDeque;
 use std::ops::Range;
@@ -628,6 +628,8 @@ fn case_line(net: &Net, table: &[u16], case: usize) -> String {
     line.push('\n');
     line
 }
+
+// ---------------------------------------------------------------- What is due this minute
 
 /// Document 02, point 1, for a table that passes: the events due at a minute, bit u for event u, for those who have heard exactly this list;
 /// or 15 where a letter is undefined or stands twice, or 16 where no case has heard exactly this list.

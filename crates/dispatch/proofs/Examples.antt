@@ -1,11 +1,12 @@
--- What the definitions say at the edges, in one table that one theorem covers by computation: document 01's sheet with its table, played.
--- Assumes nothing.
+-- What the definitions say at the edges, in tables that one theorem covers by computation: the events and the minutes of document 01's sheet,
+-- with a second signal; and sixteen events without a signal. Assumes nothing.
 use mathlib.Core.Path.{_≡_, refl}
 use mathlib.Core.Bool.{Bool, true, false, _&&_}
 use mathlib.Core.List.{List, [], _∷_}
-use Prim.Native.Nat.{ℕ}
+use Prim.Native.Nat.{ℕ, zero, suc}
 use Prim.Native.Char.{code}
 use lib.Dec.{eqb}
+use Rattle.prelude.specs.Bounded.{tabulate}
 use Rattle.network.specs.Build.{empty, withEvent, withSignal}
 use Rattle.network.specs.Strategy.{reaction}
 use Rattle.network.specs.declared.Network.{Network}
@@ -82,10 +83,25 @@ holds x =
     eqb (number (due net table (x .minute) (x .list))) (number (x .answer))
     && eqb (number (dueOn net table (x .minute) (saidFrom 0 (x .list)))) (number (x .answer))
 
+-- as many events as there may be, no signal, and event u at minute u
+abbrev sixteen : ℕ → Network
+sixteen zero = empty 60
+sixteen (suc n) = withEvent (sixteen n) 0 1
+
+abbrev row : List ℕ
+row = tabulate 16 (λ u. u)
+
 abbrev all : List Question → Bool
 all [] = true
 all (x ∷ xs) = holds x && all xs
 
-pub played : all questions ≡ true
+-- the last bit, none behind it, and a letter where none is defined
+abbrev ends : Bool
+ends =
+    eqb (number (due (sixteen 16) row 15 [])) 32768
+    && (eqb (number (due (sixteen 16) row 16 [])) 0
+    && eqb (number (due (sixteen 16) row 0 (p true ∷ []))) (number Misnamed))
+
+pub played : all questions && ends ≡ true
 unfolding reaction due added dueOn
 played = refl

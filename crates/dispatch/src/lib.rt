@@ -72,7 +72,7 @@ fn stands(said: u64, letter: u8) -> bool
     has(said, place(letter, false))
 }
 
-// One record more.
+// One record more, behind those that the mask has; 0 has none.
 pub fn add(said: u64, heard: Heard) -> u64
     ensures { λ r. ⌜ r ≡ M.added said heard ⌝ }
 {

@@ -2,7 +2,7 @@
 pub mod Calls
 pub mod Bytes
 pub mod Small
-pub mod Played
+pub mod Play
 pub mod Promises
 pub mod Demands
 pub mod Playing

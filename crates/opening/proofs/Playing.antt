@@ -42,7 +42,7 @@ use Rattle.opening.specs.declared.Due.the-variants as D
 use Rattle.opening.specs.declared.Judgement.{Judgement}
 use Rattle.opening.specs.declared.Judgement.the-variants as J
 use Rattle.opening.proofs.Calls.{judged-wrong, judged-as}
-use Rattle.opening.proofs.Played.{lettered}
+use Rattle.opening.proofs.Play.{lettered}
 use Rattle.opening.proofs.Demands.{reads-well-formed}
 
 abbrev number-of : DueValues → ℕ

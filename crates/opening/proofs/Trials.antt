@@ -1,10 +1,12 @@
--- The trial sheets of document 01 and what `table` prints for each: one table, which one theorem covers by computation.
--- Assumes nothing.
+-- The trial sheets of document 01 and what `table` prints for each: one table, which one theorem covers by computation. And the first of
+-- them, played: what is due in it, in a table that fails and in one that is too short. Assumes nothing.
 use mathlib.Core.Path.{_≡_, refl}
 use mathlib.Core.Bool.{Bool, true, false, _&&_}
 use mathlib.Core.List.{List, [], _∷_, _++_}
 use Prim.Native.Nat.{ℕ}
 use Prim.Native.String.{String}
+use lib.Dec.{eqb}
+use lib.ListN.{getD, take}
 use Rattle.prelude.specs.Bytes.{ascii, same}
 use Rattle.text.specs.Lines.{lineFeed}
 use Rattle.text.specs.Number.{isNumber, inRange}
@@ -13,9 +15,13 @@ use Rattle.network.specs.Constraint.{covers}
 use Rattle.network.specs.Strategy.{reaction}
 use Rattle.sheet.specs.Rows.{sectionRefusal, eventRefusal, signalRefusal, ruleRefusal}
 use Rattle.sheet.specs.Reading.{progress}
+use Rattle.checker.specs.Verdict.{verdict}
 use Rattle.solver.specs.Propagate.{propagate}
 use Rattle.solver.specs.Solve.{solve}
+use Rattle.dispatch.specs.Due.{due}
+use Rattle.dispatch.specs.declared.Heard.{Heard}
 use Rattle.listing.specs.Listing.{listing}
+use Rattle.opening.specs.Play.{eventsDue, dueValues}
 use Rattle.opening.specs.Table.{tableText}
 
 -- lines of text, each with its line feed
@@ -86,3 +92,49 @@ allAgree (t ∷ ts) = same (tableText (lines (t .sheet))) (lines (t .prints)) &&
 pub trials-agree : allAgree trials ≡ true
 unfolding isNumber inRange satisfies covers reaction sectionRefusal eventRefusal signalRefusal ruleRefusal progress propagate solve listing
 trials-agree = refl
+
+-- of the first trial: a table, a minute, a list, and the number and the events that are answered
+record Question : Type 0 where
+  table : List ℕ
+  minute : ℕ
+  list : List Heard
+  number : ℕ
+  events : ℕ
+
+abbrev asked : List ℕ → ℕ → List Heard → ℕ → ℕ → Question
+asked t m hs n e = record { table = t; minute = m; list = hs; number = n; events = e }
+
+abbrev is : String → Bool → Heard
+is l v = record { letter = getD (ascii l) 0 0; truth = v }
+
+abbrev good : List ℕ
+good = 0 ∷ 5 ∷ 6 ∷ 0 ∷ 5 ∷ 20 ∷ []
+
+-- the door opens before the call is heard
+abbrev failing : List ℕ
+failing = 0 ∷ 5 ∷ 5 ∷ 0 ∷ 5 ∷ 20 ∷ []
+
+abbrev questions : List Question
+questions =
+    asked good 5 [] 0 2
+    ∷ asked good 6 (is "p" false ∷ []) 0 4
+    ∷ asked good 20 (is "p" true ∷ []) 0 4
+    ∷ asked good 6 [] 16 0
+    ∷ asked good 6 (is "q" true ∷ []) 15 0
+    -- 14 comes before 15, and 11 before 14
+    ∷ asked failing 6 (is "q" true ∷ []) 14 0
+    ∷ asked (take 5 failing) 6 (is "q" true ∷ []) 11 0
+    ∷ []
+
+abbrev first : List ℕ
+first = lines (safe ("rules,3" ∷ "min,start,call,5,-" ∷ "min,call,door,15,p" ∷ "max,start,door,30,-" ∷ []))
+
+abbrev allAnswered : List Question → Bool
+allAnswered [] = true
+allAnswered (q ∷ qs) =
+    let v = dueValues (eventsDue first (q .table) (q .minute) (q .list)) in
+    (eqb (v .number) (q .number) && (eqb (v .line) 0 && eqb (v .events) (q .events))) && allAnswered qs
+
+pub questions-answered : allAnswered questions ≡ true
+unfolding isNumber inRange satisfies covers reaction sectionRefusal eventRefusal signalRefusal ruleRefusal progress verdict due eventsDue
+questions-answered = refl

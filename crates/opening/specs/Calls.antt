@@ -28,7 +28,7 @@ use Rattle.opening.specs.declared.Judgement.the-variants as J
 use Rattle.opening.specs.declared.Written.{Written}
 use Rattle.opening.specs.declared.Written.the-variants as W
 
--- the line is 0 for refusals 11 to 13
+-- the line is 0 for refusals 11 to 13, and for those of document 02 that name none
 abbrev pub withoutLine : Cause → Refusal
 withoutLine c = refusal c 0
 

@@ -1,4 +1,5 @@
--- What the public calls answer, what the program `table` prints, and the three demands.
+-- What the public calls answer, those of the bench and the player's; what the program `table` prints; the three demands; and what holds of
+-- playing a table.
 pub mod Calls
 pub mod Bench
 pub mod Play

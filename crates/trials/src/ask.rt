@@ -112,9 +112,11 @@ pub fn all(sheet: &[u8], network: Network, table: &[u16]) {
     at(sheet, network, table, 65535);
 }
 
-// What is due at minute 0 for those who have heard nothing, of any table.
+// What is due at minute 0 of any table, for those who have heard nothing, and for a list with a byte that is no letter.
 pub fn first(sheet: &[u8], table: &[u16]) {
+    let misnamed = said(of_two(0, 0, 1, 0));
     say::text(b"asked 0");
     say_due(opening::events_due_on(sheet, table, 0, 0));
+    say_due(opening::events_due_on(sheet, table, 0, misnamed));
     say::text(b"\n");
 }

@@ -52,7 +52,7 @@ use Rattle.dispatch.proofs.said.Symbol.{name as #dispatch·said}
 use Rattle.dispatch.proofs.said.Met as said-thm
 use Rattle.opening.specs.Play.{eventsDue, eventsDueOn}
 use Rattle.opening.specs.declared.Due.{Due}
-use Rattle.opening.proofs.Played.{events-due-said}
+use Rattle.opening.proofs.Play.{events-due-said}
 use Rattle.opening.proofs.Due as D
 use Rattle.opening.proofs.Due.Laws as D′
 use Rattle.opening.proofs.events_due_on as due-on

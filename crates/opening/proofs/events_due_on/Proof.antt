@@ -8,7 +8,7 @@ use Rattle.checker.specs.declared.Verdict.the-variants.{Pass, Breach as Breache
 use Rattle.opening.specs.Play.{answerTo}
 use Rattle.opening.specs.declared.Due.the-variants as D
 use Rattle.opening.proofs.Calls.{well-formed}
-use Rattle.opening.proofs.Played.{due-refused, due-lettered, due-wrong, due-judged}
+use Rattle.opening.proofs.Play.{due-refused, due-lettered, due-wrong, due-judged}
 use Rattle.opening.proofs.events_due_on.Statement.{statement}
 use Rattle.opening.proofs.events_due_on.Tie as tie
 
