@@ -53,6 +53,7 @@ use denote.Triple.Spec.{Meets, tripleOf}
 use denote.Triple.Table.{entered, cited}
 use denote.Triple.Walked.{says, Stays, stay-none-slice, walkOf, goes-none-slice, Walks, ends-at, walked, walk-meets}
 use denote.Exit.{yes}
+use Rattle.dispatch.specs.Heard.{noHeard}
 use Rattle.dispatch.specs.Said.{added, saidFrom}
 use Rattle.dispatch.specs.declared.Heard.{Heard}
 use Rattle.dispatch.proofs.Heard as T
@@ -68,9 +69,6 @@ use Rattle.dispatch.proofs.said.Code as code
 use Rattle.dispatch.proofs.said.Code.Mir as mirᴹ
 
 -- ---- the loop's invariant: how it begins, what one record more makes of it, and what it says when all are passed
-abbrev none : Heard
-none = record { letter = 0; truth = false }
-
 module _ (hs : List Heard) where
   -- i records are passed, and x is the mask that they make
   record Upto : Type 0 where
@@ -94,7 +92,7 @@ module _ (hs : List Heard) where
 
     -- the record to be passed
     abbrev next : Heard
-    next = getD hs (t .i) none
+    next = getD hs (t .i) noHeard
 
     module _ (l : t .i < length hs) where
       abbrev one-more : (r : ℕ) → r ≡ added (t .x) next → r < 2 ^ 64 → Upto
@@ -102,7 +100,7 @@ module _ (hs : List Heard) where
         i = t .i + 1;
         x = r;
         small = g;
-        same = t .same ∙ rw (drop-cons hs (t .i) none l, add-one, e);
+        same = t .same ∙ rw (drop-cons hs (t .i) noHeard l, add-one, e);
       }
 
       nearer : length hs - (t .i + 1) < length hs - t .i
@@ -258,14 +256,14 @@ module _
         -- the slice is looked into, and the record taken out of it
         move ! (16 ∷ 17 ∷ []) $
         looks-slice ! tt R (Is R) (shows 𝓤 H A R) vals tells copies hs b o (λ q′.
-        elem-out ! R (Is R) (shows 𝓤 H A R) vals tells q′ hs (t .i) none b o (in-range less) (λ p.
+        elem-out ! R (Is R) (shows 𝓤 H A R) vals tells q′ hs (t .i) noHeard b o (in-range less) (λ p.
         -- [record i; what it owns; the others; what shuts; the borrow; _7; ..; _6; ..; .. _0; ..; the slice's name; its fact]
         assigns !
         (of-opd ! (load ! (from ! (hop ! (look ! 7 refl) (stop !))) (look-raw ! 0 refl)))
         (from ! (stop !)) (init ! 5 refl (LL.lawful T.the-type T′.the-laws 𝓤 H A W .typed h (vals h) p .0)) $
         -- what it owns is had twice: once for the slice, which is shut again, and once for `add`
         move ! (1 ∷ []) $ use1 W (‵ (R .own h (vals h)) ⊛ ‵ (R .own h (vals h))) (copies .twice h (vals h)) $ split ! $
-        move ! (2 ∷ 1 ∷ 3 ∷ []) $ elem-back ! R q′ hs (t .i) none (vals h) b o (in-range less) $
+        move ! (2 ∷ 1 ∷ 3 ∷ []) $ elem-back ! R q′ hs (t .i) noHeard (vals h) b o (in-range less) $
         move ! (0 ∷ 2 ∷ []) $ shuts-slice ! tt R q′ hs b o $
         -- [the token; what record i owns; the borrow; _7; ..; .. _0; ..; the slice's name; its fact]
         move ! (1 ∷ []) $ use1 W (raw (Add 𝓤 H A mem run .pre (to (t .x) h))) (asked (t .x) h (t .small)) $
