@@ -22,10 +22,10 @@ use Rattle.network.specs.Build.{letter, observation, scenarios, cells}
 use Rattle.network.specs.Scenario.{truth}
 use Rattle.network.specs.Strategy.{time}
 use Rattle.network.specs.declared.Network.{Network}
-use Rattle.sheet.specs.Names.{isLetter}
-use Rattle.sheet.specs.Defined.{placeOf}
-use Rattle.sheet.proofs.Tokens.{letter-low, letter-from}
-use Rattle.sheet.proofs.Finds.{finds-on, finds-at, finds-end}
+use Rattle.names.specs.Names.{isLetter}
+use Rattle.names.specs.Defined.{placeOf}
+use Rattle.names.proofs.Tokens.{letter-low, letter-from}
+use Rattle.names.proofs.Finds.{finds-on, finds-at, finds-end}
 use Rattle.checker.specs.Plain.{knownAfter}
 use Rattle.checker.proofs.Plain.{known-after-is}
 use Rattle.dispatch.specs.Due.{asHeard, dueIn}

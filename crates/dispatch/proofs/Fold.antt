@@ -13,7 +13,7 @@ use lib.Dec.{eqb}
 use Rattle.prelude.specs.Bytes.{isIn, every, distinct}
 use Rattle.prelude.proofs.Tests.{either, and-true}
 use Rattle.network.specs.Scenario.{truth}
-use Rattle.sheet.specs.Names.{isLetter}
+use Rattle.names.specs.Names.{isLetter}
 use Rattle.dispatch.specs.Heard.{lettersOf, says}
 use Rattle.dispatch.specs.Said.{place, misnamed, withBit, saidOn, standsOn, added, saidFrom}
 use Rattle.dispatch.specs.declared.Heard.{Heard}

@@ -13,8 +13,8 @@ use Rattle.prelude.specs.Bounded.{allBelow}
 use Rattle.prelude.proofs.Bounded.{true-of-allBelow, allBelow-true}
 use Rattle.prelude.proofs.Tests.{and-both, eqb-same}
 use Rattle.network.specs.Scenario.{truth}
-use Rattle.sheet.specs.Names.{isLetter}
-use Rattle.sheet.proofs.Tokens.{letter-bounds}
+use Rattle.names.specs.Names.{isLetter}
+use Rattle.names.proofs.Tokens.{letter-bounds}
 use Rattle.dispatch.specs.Said.{place, misnamed, withBit, saidOn}
 use Rattle.dispatch.proofs.Bits.{truth-or, truth-power}
 

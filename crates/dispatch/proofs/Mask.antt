@@ -18,9 +18,9 @@ use Rattle.prelude.proofs.Search.{answered, firstBelow-same}
 use Rattle.network.specs.Build.{letter, scenarios}
 use Rattle.network.specs.Scenario.{truth}
 use Rattle.network.specs.declared.Network.{Network}
-use Rattle.sheet.specs.Names.{isLetter}
-use Rattle.sheet.specs.Defined.{placeOf, allDefined}
-use Rattle.sheet.proofs.Labels.{allDefined-every, place-is}
+use Rattle.names.specs.Names.{isLetter}
+use Rattle.names.specs.Defined.{placeOf, allDefined}
+use Rattle.names.proofs.Labels.{allDefined-every, place-is}
 use Rattle.dispatch.specs.Heard.{lettersOf, isWellNamed, says, Lettered}
 use Rattle.dispatch.specs.Due.{asHeard, hearer, dueFor, dueBy, due}
 use Rattle.dispatch.specs.Said.{misnamed, saidOn, standsOn, saidFrom, wellNamedOn, dueOn}

@@ -20,8 +20,8 @@ use Rattle.network.specs.Build.{letter}
 use Rattle.network.specs.Scenario.{truth}
 use Rattle.network.specs.Strategy.{known}
 use Rattle.network.specs.declared.Network.{Network}
-use Rattle.sheet.specs.Defined.{placeOf, allDefined}
-use Rattle.sheet.proofs.Labels.{allDefined-every, place-is}
+use Rattle.names.specs.Defined.{placeOf, allDefined}
+use Rattle.names.proofs.Labels.{allDefined-every, place-is}
 use Rattle.dispatch.specs.Heard.{lettersOf, noHeard, Defined, WellNamed, isWellNamed, Lettered, says}
 use Rattle.dispatch.specs.History.{Hears, History}
 use Rattle.dispatch.specs.Due.{hears}

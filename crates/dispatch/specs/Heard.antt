@@ -8,8 +8,8 @@ use Rattle.prelude.specs.Bytes.{distinct}
 use Rattle.prelude.specs.Lists.{Distinct, Each}
 use Rattle.network.specs.Build.{letter}
 use Rattle.network.specs.declared.Network.{Network}
-use Rattle.sheet.specs.Names.{isLetter}
-use Rattle.sheet.specs.Defined.{allDefined}
+use Rattle.names.specs.Names.{isLetter}
+use Rattle.names.specs.Defined.{allDefined}
 use Rattle.dispatch.specs.declared.Heard.{Heard}
 
 abbrev pub lettersOf : List Heard → List ℕ

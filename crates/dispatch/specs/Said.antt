@@ -9,8 +9,8 @@ use Rattle.prelude.specs.Search.{answers}
 use Rattle.prelude.specs.Bounded.{allBelow}
 use Rattle.network.specs.Scenario.{truth}
 use Rattle.network.specs.declared.Network.{Network}
-use Rattle.sheet.specs.Names.{isLetter}
-use Rattle.sheet.specs.Defined.{placeOf}
+use Rattle.names.specs.Names.{isLetter}
+use Rattle.names.specs.Defined.{placeOf}
 use Rattle.dispatch.specs.Due.{dueBy}
 use Rattle.dispatch.specs.declared.Heard.{Heard}
 use Rattle.dispatch.specs.declared.Dispatched.{Dispatched}

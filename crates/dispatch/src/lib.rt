@@ -9,7 +9,7 @@ ghost use Rattle.network.specs.Limits as L;
 ghost use Rattle.network.specs.Build.{scenarios, cells};
 ghost use Rattle.network.specs.Scenario as S;
 ghost use Rattle.network.specs.WellFormed.{WellFormed};
-ghost use Rattle.sheet.specs.Names.{isLetter};
+ghost use Rattle.names.specs.Names.{isLetter};
 ghost use Rattle.dispatch.specs.Heard.{Lettered};
 ghost use Rattle.dispatch.specs.Due as D;
 ghost use Rattle.dispatch.specs.Said as M;
@@ -111,7 +111,7 @@ fn well_named(signals: usize, letters: &[u8; Network::SIGNALS], said: u64) -> bo
     while i < 26 {
         let letter = b'a' + i;
         if stands(said, letter) {
-            if !sheet::lookup::is_defined(signals, letters, letter) {
+            if !names::lookup::is_defined(signals, letters, letter) {
                 return false;
             }
         }

@@ -8,8 +8,8 @@ use Rattle.network.specs.Limits as L
 use Rattle.network.specs.Build.{noConstraint}
 use Rattle.network.specs.declared.Constraint.{Constraint}
 use Rattle.network.specs.declared.Network.{Network}
-use Rattle.sheet.specs.Names.{isName}
-use Rattle.sheet.specs.Defined.{maskOf}
+use Rattle.names.specs.Names.{isName}
+use Rattle.names.specs.Defined.{maskOf}
 use Rattle.prelude.specs.Lists.{Distinct, Each}
 use Rattle.layout.specs.Layout.{Signal, Rule, Contents, KeepsSignal, KeepsRule, noSignal, noRule}
 

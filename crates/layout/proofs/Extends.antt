@@ -12,7 +12,7 @@ use Rattle.network.specs.Limits as L
 use Rattle.network.specs.Build.{empty, withEvent, withSignal, withRule, noConstraint}
 use Rattle.network.specs.declared.Network.{Network}
 use Rattle.network.specs.declared.Constraint.{Constraint}
-use Rattle.sheet.specs.Names.{isName}
+use Rattle.names.specs.Names.{isName}
 use Rattle.prelude.specs.Lists.{In, Distinct, Each}
 use Rattle.layout.specs.Layout.{Signal, Rule, KeepsSignal, KeepsRule, noSignal, noRule}
 use Rattle.prelude.proofs.Lists.{by-place, each-snoc, distinct-snoc}

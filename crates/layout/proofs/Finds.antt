@@ -13,8 +13,8 @@ use Rattle.prelude.specs.Search.{firstBelow, when, answers}
 use Rattle.prelude.specs.Bytes.{same}
 use Rattle.prelude.proofs.Bytes.{same-true, same-of-eq}
 use Rattle.prelude.proofs.Search.{answered, firstBelow-same}
-use Rattle.sheet.specs.Names.{isLetter, Literal}
-use Rattle.sheet.specs.Defined.{eventNamed, placeOf, weight, weights, maskOf}
+use Rattle.names.specs.Names.{isLetter, Literal}
+use Rattle.names.specs.Defined.{eventNamed, placeOf, weight, weights, maskOf}
 use Rattle.prelude.specs.Lists.{In, Distinct}
 use Rattle.layout.specs.Layout.{Signal, noSignal}
 use Rattle.layout.proofs.Search.{found, finds}

@@ -11,10 +11,10 @@ use Rattle.prelude.proofs.Bytes.{same-true}
 use Rattle.prelude.proofs.Tests.{either}
 use Rattle.network.specs.declared.Kind.{Kind}
 use Rattle.network.specs.declared.Kind.the-variants.{Max, Min, Fix}
-use Rattle.sheet.specs.Names.{isLetter}
-use Rattle.sheet.specs.Defined.{placeOf, allDefined}
+use Rattle.names.specs.Names.{isLetter}
+use Rattle.names.specs.Defined.{placeOf, allDefined}
+use Rattle.names.proofs.Labels.{allDefined-every}
 use Rattle.sheet.specs.Rows.{kindOf}
-use Rattle.sheet.proofs.Labels.{allDefined-every}
 use Rattle.prelude.specs.Lists.{In, Each}
 use Rattle.layout.specs.Layout.{Signal, kindText}
 use Rattle.layout.proofs.Lines.{plain}
@@ -23,8 +23,8 @@ use Rattle.layout.proofs.Contains.{lettersOf, SignalsAre}
 use Rattle.layout.proofs.Finds.{letter-in, letter-answers, letter-is}
 
 -- a field is a kind exactly where it is its word
-pub kind-read : (sheet f : List ℕ) → answers (kindOf sheet f) ≡ true → (k : Kind) × (f ≡ kindText k)
-kind-read sheet f e =
+pub kind-read : (f : List ℕ) → answers (kindOf f) ≡ true → (k : Kind) × (f ≡ kindText k)
+kind-read f e =
     elim (either (same f (ascii "max"))) [
       | inl p ↦ (Max, same-true f (ascii "max") p)
       | inr p ↦ elim (either (same f (ascii "min"))) [
@@ -37,15 +37,15 @@ kind-read sheet f e =
     fix true e = refl
     fix false e = e
 
-pub kind-passes : (sheet : List ℕ) (k : Kind) → answers (kindOf sheet (kindText k)) ≡ true
-kind-passes sheet Max = refl
-kind-passes sheet Min = refl
-kind-passes sheet Fix = refl
+pub kind-passes : (k : Kind) → answers (kindOf (kindText k)) ≡ true
+kind-passes Max = refl
+kind-passes Min = refl
+kind-passes Fix = refl
 
-pub kind-is : (sheet : List ℕ) (k : Kind) → Option·getD (kindOf sheet (kindText k)) Max ≡ k
-kind-is sheet Max = refl
-kind-is sheet Min = refl
-kind-is sheet Fix = refl
+pub kind-is : (k : Kind) → Option·getD (kindOf (kindText k)) Max ≡ k
+kind-is Max = refl
+kind-is Min = refl
+kind-is Fix = refl
 
 pub plain-kind : (k : Kind) → every plain (kindText k) ≡ true
 plain-kind Max = refl

@@ -11,10 +11,10 @@ use lib.ListN.{length}
 use Rattle.prelude.specs.Bytes.{every}
 use Rattle.prelude.proofs.Bytes.{same-true}
 use Rattle.prelude.proofs.Tests.{either, clash, and-true, and-both}
-use Rattle.sheet.specs.Names.{isLetter, areLiterals, isDash, isLabel, Literal, literals, labelOf, lettersOf as lettersRead}
+use Rattle.names.specs.Names.{isLetter, areLiterals, isDash, isLabel, Literal, literals, labelOf, lettersOf as lettersRead}
 use Rattle.layout.specs.Layout.{lettersOf, signText, literalsText, labelText}
 use Rattle.layout.proofs.Lines.{plain}
-use Rattle.sheet.proofs.Tokens.{letter-bounds}
+use Rattle.names.proofs.Tokens.{letter-bounds}
 use Rattle.layout.proofs.Plain.{plain-letter}
 
 -- the letters of literals, said twice

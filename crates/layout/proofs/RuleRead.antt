@@ -16,8 +16,8 @@ use Rattle.refusal.specs.declared.Cause.{Cause}
 use Rattle.refusal.specs.declared.Cause.the-variants as C
 use Rattle.network.specs.Limits as L
 use Rattle.network.specs.declared.Network.{Network}
-use Rattle.sheet.specs.Names.{isName, isLabel, labelOf, lettersOf as lettersRead}
-use Rattle.sheet.specs.Defined.{allDefined}
+use Rattle.names.specs.Names.{isName, isLabel, labelOf, lettersOf as lettersRead}
+use Rattle.names.specs.Defined.{allDefined}
 use Rattle.sheet.specs.Rows.{eventOf, kindOf, ruleRefusal}
 use Rattle.layout.specs.Layout.{Signal, Rule, KeepsRule, kindText, signedText, labelText}
 use Rattle.layout.proofs.Checks.{hold}
@@ -31,7 +31,7 @@ use Rattle.layout.proofs.KindWords.{kind-read, defined-read}
 -- the tests of a line, in order
 abbrev pub ruleTests : List ℕ → Network → List (List ℕ) → List (Bool × Cause)
 ruleTests sheet Γ fs =
-    (eqb (length fs) 5 && answers (kindOf sheet (field 0 fs)), C.WrongFields)
+    (eqb (length fs) 5 && answers (kindOf (field 0 fs)), C.WrongFields)
     ∷ (isNumber (field 3 fs), C.IllFormedNumber)
     ∷ (leb (magnitude (field 3 fs)) L.horizon, C.OutOfRange)
     ∷ (isName (field 1 fs) && (isName (field 2 fs) && isLabel (field 4 fs)), C.IllFormedName)
@@ -70,8 +70,8 @@ module _ (sheet : List ℕ) (h : ℕ) (names : List (List ℕ)) (xs : List Signa
         let limit = field 3 fs in
         let label = field 4 fs in
         let bs = lettersRead (labelOf label) in
-        let p = and-true (eqb (length fs) 5) (answers (kindOf sheet (field 0 fs))) (t .0) in
-        let k = kind-read sheet (field 0 fs) (p .1) in
+        let p = and-true (eqb (length fs) 5) (answers (kindOf (field 0 fs))) (t .0) in
+        let k = kind-read (field 0 fs) (p .1) in
         let q = and-true (isName from) (isName to && isLabel label) (t .1 .1 .1 .0) in
         let l = is-label label (and-true (isName to) (isLabel label) (q .1) .1) in
         let u = and-true (isEvent from) (isEvent to && areDefined bs) (t .1 .1 .1 .1 .0) in

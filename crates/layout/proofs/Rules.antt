@@ -12,8 +12,8 @@ use Rattle.prelude.proofs.Tests.{and-both}
 use Rattle.text.specs.Number.{magnitude}
 use Rattle.network.specs.Limits as L
 use Rattle.network.specs.declared.Network.{Network}
-use Rattle.sheet.specs.Names.{isLetter, isName, isLabel, labelOf, lettersOf as lettersRead}
-use Rattle.sheet.specs.Defined.{allDefined, maskOf}
+use Rattle.names.specs.Names.{isLetter, isName, isLabel, labelOf, lettersOf as lettersRead}
+use Rattle.names.specs.Defined.{allDefined, maskOf}
 use Rattle.sheet.specs.Rows.{eventOf, ruleOf, ruleRefusal, ruleRow}
 use Rattle.prelude.specs.Lists.{In, Each}
 use Rattle.layout.specs.Layout.{Signal, Rule, KeepsRule, noRule, kindText, signedText, labelText, lettersOf as lettersWritten}
@@ -68,7 +68,7 @@ module _ (sheet : List ℕ) (h : ℕ) (names : List (List ℕ)) (xs : List Signa
           let is : bs ≡ lettersWritten (x .label) = ap lettersRead label-is ∙ lettersRead-is (x .label) in
           let defined = ap areDefined is ∙ defined-passes (c .signals) (lettersWritten (x .label)) (m .known) in
           none-fails (ruleTests sheet Γ (kindText (x .kind) ∷ othersOf x))
-          (kind-passes sheet (x .kind)
+          (kind-passes (x .kind)
           & N.isNumber-signedText (x .limit)
           & le-leb (magnitude (signedText (x .limit))) L.horizon (N.magnitude-signedText (x .limit) (m .limit))
           & and-both (isName from) (isName to && isLabel label) from-is
@@ -93,7 +93,7 @@ module _ (sheet : List ℕ) (h : ℕ) (names : List (List ℕ)) (xs : List Signa
 
       rule-means : Means names xs (ruleOf sheet Γ (kindText (x .kind) ∷ othersOf x)) x
       rule-means = record {
-        kind = kind-is sheet (x .kind);
+        kind = kind-is (x .kind);
         from = bears (x .from) (m .from);
         to = bears (x .to) (m .to);
         bound = N.valueOf-signedText (x .limit);

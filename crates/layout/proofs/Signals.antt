@@ -15,8 +15,8 @@ use Rattle.refusal.specs.declared.Cause.{Cause}
 use Rattle.refusal.specs.declared.Cause.the-variants as C
 use Rattle.network.specs.Limits as L
 use Rattle.network.specs.declared.Network.{Network}
-use Rattle.sheet.specs.Names.{isName, isLetter, isOneLetter}
-use Rattle.sheet.specs.Defined.{placeOf}
+use Rattle.names.specs.Names.{isName, isLetter, isOneLetter}
+use Rattle.names.specs.Defined.{placeOf}
 use Rattle.sheet.specs.Rows.{eventOf, isObservation, signalRefusal, signalRow}
 use Rattle.prelude.specs.Lists.{In, Distinct, Each}
 use Rattle.layout.specs.Layout.{Signal, KeepsSignal, noSignal}

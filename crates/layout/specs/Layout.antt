@@ -15,7 +15,7 @@ use Rattle.network.specs.Limits as L
 use Rattle.network.specs.WellFormed.{InLimits}
 use Rattle.network.specs.declared.Kind.{Kind}
 use Rattle.network.specs.declared.Kind.the-variants.{Max, Min, Fix}
-use Rattle.sheet.specs.Names.{isLetter, isName, Literal}
+use Rattle.names.specs.Names.{isLetter, isName, Literal}
 use Rattle.sheet.specs.Reading.{longest}
 
 -- what a sheet contains; events are told by their names, signals by their letters

@@ -1,12 +1,8 @@
--- Laws of the sheet's definitions, in reading order: tests, places and searches; names, numbers and labels; a line's refusal; what each
--- line keeps; the lines of a section; the whole sheet; and examples.
+-- Laws of the sheet's definitions, in reading order: tests and places; numbers; a line's refusal; what each line keeps; the lines of a
+-- section; the whole sheet; and examples.
 pub mod Checks
 pub mod Places
-pub mod Finds
-pub mod Tokens
 pub mod Numbers
-pub mod Labels
-pub mod Satisfies
 pub mod Refusals
 pub mod RowTests
 pub mod Rows

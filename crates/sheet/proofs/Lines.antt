@@ -13,10 +13,10 @@ use Rattle.network.specs.Limits as L
 use Rattle.network.specs.Build.{withEvent, withSignal, withRule}
 use Rattle.network.specs.declared.Constraint.{Constraint}
 use Rattle.network.specs.declared.Network.{Network}
+use Rattle.names.specs.Found.{NamesIn}
 use Rattle.sheet.specs.Rows.{eventOf, eventRefusal, signalRefusal, ruleRefusal, ruleOf, eventRow, signalRow, ruleRow}
 use Rattle.sheet.specs.Reading.{Progress, Stop}
 use Rattle.sheet.specs.Stage.{Stage}
-use Rattle.sheet.specs.Answers.{NamesIn}
 use Rattle.sheet.specs.declared.EventRow.the-variants as E
 use Rattle.sheet.specs.declared.SignalRow.the-variants as G
 use Rattle.sheet.specs.declared.RuleRow.the-variants as R

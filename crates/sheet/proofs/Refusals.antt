@@ -25,16 +25,17 @@ use Rattle.network.specs.declared.Kind.{Kind}
 use Rattle.network.specs.declared.Kind.the-variants.{Max}
 use Rattle.network.specs.declared.Network.{Network}
 use Rattle.prelude.proofs.Tests.{and-true as both}
-use Rattle.sheet.specs.Names.{isName, isOneLetter, isLabel, literals, labelOf, lettersOf}
-use Rattle.sheet.specs.declared.Found.{Found}
-use Rattle.sheet.specs.Defined.{placeOf, allDefined, maskOf}
+use Rattle.names.specs.Names.{isName, isOneLetter, isLabel, literals, labelOf, lettersOf}
+use Rattle.names.specs.Defined.{placeOf, allDefined, maskOf}
+use Rattle.names.specs.Found.{foundOf, isFound}
+use Rattle.names.specs.declared.Found.{Found}
+use Rattle.names.proofs.Finds.{found-answers}
 use Rattle.sheet.specs.Rows.{eventOf, eventRefusal, signalRefusal, isObservation, kindOf, ruleRefusal, ruleOf}
-use Rattle.sheet.specs.Answers.{foundOf, isFound, checkOf, kindFound, limitOf, wordRefusal, ruleAnswer, endsAnswer}
+use Rattle.sheet.specs.Answers.{givesFound, checkOf, kindFound, limitOf, wordRefusal, ruleAnswer, endsAnswer}
 use Rattle.sheet.specs.declared.Check.the-variants as K
 use Rattle.sheet.specs.declared.KindField.the-variants as F
 use Rattle.sheet.specs.declared.Limit.the-variants as M
 use Rattle.sheet.proofs.Checks.{all-hold, three-same}
-use Rattle.sheet.proofs.Finds.{found-answers}
 use Rattle.sheet.proofs.Numbers.{countTests, value-fits}
 
 -- the end of a line: it is missing, or the line is what stands before it
@@ -73,6 +74,12 @@ module _ (word : List ℕ) (lo hi : ℕ) (fs : List (List ℕ)) where
   pub word-passes : length fs ≡ 2 → same (field 0 fs) word ≡ true → wordRefusal word lo hi fs ≡ countTests lo hi (field 1 fs)
   unfolding wordRefusal
   word-passes n e = rw (eq-eqb (length fs) 2 n, e)
+
+-- an event that was looked for gives a signal where the search for it says so
+pub gives-found : (k : ℕ) (observations : List ℕ) (sheet : List ℕ) (Γ : Network) (o : Option ℕ) → Γ .signals ≡ k
+    → Γ .observations ≡ observations → givesFound k observations (foundOf o) ≡ isObservation sheet Γ o
+gives-found k observations sheet Γ none a b = refl
+gives-found k observations sheet Γ (some u) a b = rw (a, b)
 
 module _ (sheet : List ℕ) (Γ : Network) (fs : List (List ℕ)) where
   -- an event
@@ -116,11 +123,11 @@ module _ (sheet : List ℕ) (Γ : Network) (fs : List (List ℕ)) where
   unfolding ruleRefusal
   rule-count n = rw (ne-eqb (length fs) 5 n)
 
-  pub rule-other : kindOf sheet (field 0 fs) ≡ none → ruleRefusal sheet Γ fs ≡ some C.WrongFields
+  pub rule-other : kindOf (field 0 fs) ≡ none → ruleRefusal sheet Γ fs ≡ some C.WrongFields
   unfolding ruleRefusal
   rule-other e = rw (e, and-false)
 
-  module _ (k : Kind) (n : length fs ≡ 5) (e : kindOf sheet (field 0 fs) ≡ some k) where
+  module _ (k : Kind) (n : length fs ≡ 5) (e : kindOf (field 0 fs) ≡ some k) where
     pub rule-ill : isNumber (field 3 fs) ≡ false → ruleRefusal sheet Γ fs ≡ some C.IllFormedNumber
     unfolding ruleRefusal
     rule-ill h = rw (eq-eqb (length fs) 5 n, e, h)
@@ -227,11 +234,11 @@ module _ (sheet : List ℕ) (Γ : Network) (from to label t : List ℕ) {a b : F
 
 -- a rule whose kind and limit have passed, by its ends and its label
 pub ends-row : (sheet : List ℕ) (Γ : Network) (fs : List (List ℕ)) (k : Kind) (z : ℤ) (n : ℕ) → length fs ≡ 5
-    → kindOf sheet (field 0 fs) ≡ some k → LimitIs (field 3 fs) z
+    → kindOf (field 0 fs) ≡ some k → LimitIs (field 3 fs) z
     → endsAnswer sheet Γ (field 1 fs) (field 2 fs) (field 4 fs) k z n ≡ ruleAnswer (ruleRefusal sheet Γ fs) (ruleOf sheet Γ fs) n
 ends-row sheet Γ fs k z n five e w =
     let value = w .value in
-    let kind : Option·getD (kindOf sheet (field 0 fs)) Max ≡ k = ap (λ (o : Option Kind). Option·getD o Max) e in
+    let kind : Option·getD (kindOf (field 0 fs)) Max ≡ k = ap (λ (o : Option Kind). Option·getD o Max) e in
     let made : ruleOf sheet Γ fs ≡ record {
       kind = k;
       from = Option·getD (eventOf sheet Γ (field 1 fs)) 0;

@@ -17,10 +17,10 @@ use Rattle.refusal.specs.declared.Cause.the-variants as C
 use Rattle.network.specs.Limits as L
 use Rattle.network.specs.Build.{observation}
 use Rattle.network.specs.declared.Network.{Network}
-use Rattle.sheet.specs.Names.{isName, isOneLetter, isLabel, labelOf, lettersOf}
-use Rattle.sheet.specs.Defined.{placeOf, allDefined}
+use Rattle.names.specs.Names.{isName, isOneLetter, isLabel, labelOf, lettersOf}
+use Rattle.names.specs.Defined.{placeOf, allDefined}
+use Rattle.names.proofs.Finds.{finds-nothing}
 use Rattle.sheet.specs.Rows.{eventOf, isObservation, kindOf}
-use Rattle.sheet.proofs.Finds.{finds-nothing}
 
 -- whether event v has this name
 abbrev pub isNamed : List ℕ → Network → List ℕ → ℕ → Bool
@@ -49,7 +49,7 @@ module _ (sheet : List ℕ) (Γ : Network) (fs : List (List ℕ)) where
 
   abbrev pub ruleTests : List (Bool × Cause)
   ruleTests =
-      (eqb (length fs) 5 && answers (kindOf sheet (field 0 fs)), C.WrongFields)
+      (eqb (length fs) 5 && answers (kindOf (field 0 fs)), C.WrongFields)
       ∷ (isNumber (field 3 fs), C.IllFormedNumber)
       ∷ (leb (magnitude (field 3 fs)) L.horizon, C.OutOfRange)
       ∷ (isName (field 1 fs) && (isName (field 2 fs) && isLabel (field 4 fs)), C.IllFormedName)

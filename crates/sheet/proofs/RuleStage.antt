@@ -17,14 +17,14 @@ use Rattle.network.specs.Limits as L
 use Rattle.network.specs.Build.{noConstraint}
 use Rattle.network.specs.WellFormed.{InLimits}
 use Rattle.network.specs.declared.Network.{Network}
-use Rattle.sheet.specs.Names.{labelOf, lettersOf}
-use Rattle.sheet.specs.Defined.{allDefined}
+use Rattle.names.specs.Names.{labelOf, lettersOf}
+use Rattle.names.specs.Defined.{allDefined}
+use Rattle.names.proofs.Finds.{finds-answer}
+use Rattle.names.proofs.Labels.{sum-is}
 use Rattle.sheet.specs.Rows.{eventOf, ruleRefusal, ruleOf, ruleRow}
 use Rattle.sheet.specs.Stage.{Stage}
 use Rattle.sheet.proofs.Checks.{all-hold}
-use Rattle.sheet.proofs.Finds.{finds-answer}
 use Rattle.sheet.proofs.Places.{line-inside}
-use Rattle.sheet.proofs.Labels.{sum-is}
 use Rattle.sheet.proofs.Rows.{Passes}
 use Rattle.sheet.proofs.RowTests.{isNamed, ruleTests}
 

@@ -15,10 +15,10 @@ use Rattle.prelude.proofs.Search.{answered}
 use Rattle.text.specs.Lines.{lineAt, afterLine, fields, field}
 use Rattle.network.specs.Build.{observation}
 use Rattle.network.specs.declared.Network.{Network}
+use Rattle.names.proofs.Finds.{finds-answer}
 use Rattle.sheet.specs.Rows.{eventOf, signalRefusal, signalRow}
 use Rattle.sheet.specs.Stage.{Stage}
 use Rattle.sheet.proofs.Checks.{all-hold}
-use Rattle.sheet.proofs.Finds.{finds-answer}
 use Rattle.sheet.proofs.Places.{line-inside}
 use Rattle.sheet.proofs.Rows.{Passes}
 use Rattle.sheet.proofs.RowTests.{isNamed, signalTests, new-signal}

@@ -16,7 +16,7 @@ use Rattle.text.specs.Lines.{lineAt, endsAt, afterLine, fields, field}
 use Rattle.text.specs.Number.{isDigit}
 use Rattle.network.specs.Build.{withEvent}
 use Rattle.network.specs.declared.Network.{Network}
-use Rattle.sheet.specs.Names.{isName, isLetter}
+use Rattle.names.specs.Names.{isName, isLetter}
 use Rattle.sheet.specs.Rows.{eventRefusal}
 use Rattle.sheet.specs.Stage.{Stage}
 use Rattle.sheet.proofs.Checks.{all-hold}

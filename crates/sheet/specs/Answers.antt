@@ -2,11 +2,11 @@
 use mathlib.Core.Bool.{Bool, true, false, _&&_, cond}
 use mathlib.Core.Option.{Option, none, some, Option·getD}
 use mathlib.Core.List.{List, [], _∷_}
-use Prim.Native.Nat.{ℕ, _+_, _≤_, _<_}
+use Prim.Native.Nat.{ℕ}
 use lib.IntN.{ℤ}
 use lib.Dec.{eqb, leb}
 use lib.ListN.{length, getD}
-use Rattle.prelude.specs.Search.{firstBelow, when, answers}
+use Rattle.prelude.specs.Search.{answers}
 use Rattle.prelude.specs.Bytes.{isIn, same, distinct}
 use Rattle.prelude.specs.Checks.{firstFailing}
 use Rattle.text.specs.Lines.{lineFeed, upTo, fields, field}
@@ -17,8 +17,11 @@ use Rattle.network.specs.Limits as L
 use Rattle.network.specs.declared.Kind.{Kind}
 use Rattle.network.specs.declared.Constraint.{Constraint}
 use Rattle.network.specs.declared.Network.{Network}
-use Rattle.sheet.specs.Names.{isName, isLabel, labelOf, lettersOf}
-use Rattle.sheet.specs.Defined.{allDefined, maskOf}
+use Rattle.names.specs.Names.{isName, isLabel, labelOf, lettersOf}
+use Rattle.names.specs.Defined.{allDefined, maskOf}
+use Rattle.names.specs.Found.{givesSignal}
+use Rattle.names.specs.declared.Found.{Found}
+use Rattle.names.specs.declared.Found.the-variants.{At, Nothing}
 use Rattle.sheet.specs.Rows.{sectionCount, eventOf, eventRefusal, signalRefusal, ruleRefusal, ruleOf}
 use Rattle.sheet.specs.declared.Check.{Check}
 use Rattle.sheet.specs.declared.Check.the-variants as K
@@ -34,8 +37,6 @@ use Rattle.sheet.specs.declared.SignalRow.{SignalRow}
 use Rattle.sheet.specs.declared.SignalRow.the-variants as G
 use Rattle.sheet.specs.declared.RuleRow.{RuleRow}
 use Rattle.sheet.specs.declared.RuleRow.the-variants as R
-use Rattle.sheet.specs.declared.Found.{Found}
-use Rattle.sheet.specs.declared.Found.the-variants.{At, Nothing}
 
 -- why a line is refused: it has no end, or its fields do not pass
 abbrev pub endsOr : Bool → Option Cause → Option Cause
@@ -46,29 +47,7 @@ endsOr true o = o
 abbrev pub lineRefusal : List ℕ → Option Cause → Option Cause
 lineRefusal rest o = endsOr (isIn lineFeed rest) o
 
--- a place, if there is one
-abbrev pub foundOf : Option ℕ → Found
-foundOf none = Nothing
-foundOf (some u) = At u
-
-abbrev pub isFound : Found → Bool
-isFound Nothing = false
-isFound (At u) = true
-
-abbrev pub placeOr : Found → ℕ
-placeOr Nothing = 0
-placeOr (At u) = u
-
--- the names of n events are parts of the sheet
-pub record NamesIn (sheet : List ℕ) (n : ℕ) (starts lengths : List ℕ) : Type 0 where
-  pub few : n ≤ L.events
-  pub inside : (u : ℕ) → u < n → getD starts u 0 + getD lengths u 0 ≤ length sheet
-
--- whether one of k signals is given by event u
-abbrev pub givesSignal : ℕ → List ℕ → ℕ → Bool
-givesSignal k observations u = answers (firstBelow k (λ p. when (eqb (getD observations p 0) u) p))
-
--- the same of an event that was looked for
+-- whether one of k signals is given by an event that was looked for
 abbrev pub givesFound : ℕ → List ℕ → Found → Bool
 givesFound k observations Nothing = false
 givesFound k observations (At u) = givesSignal k observations u

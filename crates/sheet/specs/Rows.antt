@@ -20,8 +20,8 @@ use Rattle.network.specs.declared.Kind.{Kind}
 use Rattle.network.specs.declared.Kind.the-variants.{Max, Min, Fix}
 use Rattle.network.specs.declared.Constraint.{Constraint}
 use Rattle.network.specs.declared.Network.{Network}
-use Rattle.sheet.specs.Names.{isName, isOneLetter, isLabel, labelOf, lettersOf}
-use Rattle.sheet.specs.Defined.{eventNamed, placeOf, allDefined, maskOf}
+use Rattle.names.specs.Names.{isName, isOneLetter, isLabel, labelOf, lettersOf}
+use Rattle.names.specs.Defined.{eventNamed, placeOf, allDefined, maskOf}
 
 -- a section's line: its word, and its count from lo to hi
 unfoldable pub sectionRefusal : String → ℕ → ℕ → List (List ℕ) → Option Cause
@@ -40,6 +40,17 @@ sectionCount fs = magnitude (field 1 fs)
 pub record Row : Type 0 where
   pub refusal : Network → List (List ℕ) → Option Cause
   pub add : Network → ℕ → List (List ℕ) → Network
+
+-- the kind that the first field of a rule says
+abbrev pub kindOf : List ℕ → Option Kind
+kindOf f =
+    elim (same f (ascii "max")) [
+      | true ↦ some Max
+      | false ↦ elim (same f (ascii "min")) [
+        | true ↦ some Min
+        | false ↦ when (same f (ascii "fix")) Fix
+      ]
+    ]
 
 module _ (sheet : List ℕ) where
   -- the event of that name, if it is defined
@@ -83,16 +94,6 @@ module _ (sheet : List ℕ) where
   }
 
   -- `kind,from,to,limit,label`
-  abbrev pub kindOf : List ℕ → Option Kind
-  kindOf f =
-      elim (same f (ascii "max")) [
-        | true ↦ some Max
-        | false ↦ elim (same f (ascii "min")) [
-          | true ↦ some Min
-          | false ↦ when (same f (ascii "fix")) Fix
-        ]
-      ]
-
   unfoldable pub ruleRefusal : Network → List (List ℕ) → Option Cause
   ruleRefusal Γ fs =
       firstFailing

@@ -8,19 +8,20 @@ ghost use Rattle.prelude.specs.Search.{answers};
 ghost use Rattle.text.specs.Number.{isNumber, inRange, magnitude};
 ghost use Rattle.refusal.specs.declared.Cause.the-variants as C;
 ghost use Rattle.network.specs.Limits as L;
-ghost use Rattle.sheet.specs.Names.{isName, isOneLetter, isLabel, literals, lettersOf};
-ghost use Rattle.sheet.specs.Defined.{placeOf, allDefined};
+ghost use Rattle.names.specs.Names.{isName, isOneLetter, isLabel, literals, lettersOf};
+ghost use Rattle.names.specs.Defined.{placeOf, allDefined};
+ghost use Rattle.names.specs.Found.{isFound};
 ghost use Rattle.sheet.specs.Rows.{kindOf};
-ghost use Rattle.sheet.specs.Answers.{checkOf, kindFound, limitOf, sectionAnswer, isFound, givesFound};
+ghost use Rattle.sheet.specs.Answers.{checkOf, kindFound, limitOf, sectionAnswer, givesFound};
 use super::Check;
-use super::Found;
 use super::KindField;
 use super::Limit;
 use super::SectionRow;
 use super::Test;
-use crate::label;
-use crate::lookup;
-use crate::token;
+use names::Found;
+use names::label;
+use names::lookup;
+use names::token;
 use network::Kind;
 use network::Network;
 use refusal::Cause;
@@ -48,7 +49,7 @@ pub(crate) fn first_failing(a: Test, b: Test, c: Test) -> Check
 
 // The kind of a rule.
 pub(crate) fn kind_of(f: &[u8]) -> KindField
-    ensures { λ r. ⌜ r ≡ kindFound (kindOf [] (now (f .entry))) ⌝ }
+    ensures { λ r. ⌜ r ≡ kindFound (kindOf (now (f .entry))) ⌝ }
 {
     if text::equal(f, b"max") {
         return KindField::Is(Kind::Max);

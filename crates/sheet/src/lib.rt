@@ -3,11 +3,8 @@ ghost use mathlib.Core.Path.{_≡_};
 ghost use Rattle.sheet.specs.Reading.{read};
 
 mod field;
-mod label;
-pub mod lookup;
 mod row;
 mod section;
-mod token;
 
 use network::Constraint;
 use network::Kind;
@@ -27,12 +24,6 @@ pub enum Outcome {
 pub struct Reading {
     pub outcome: Outcome,
     pub network: Network,
-}
-
-// The place of what was looked for.
-enum Found {
-    At(usize),
-    Nothing,
 }
 
 // A test with the cause of its failure, and what comes of several.

@@ -4,7 +4,7 @@ use mathlib.Core.Logic.{⊎-elim, inl, inr}
 use mathlib.Core.Bool.{true}
 use borrow.Author.Needs.{needs}
 use borrow.Author.Tests.{ltb-true, ltb-false}
-use Rattle.sheet.specs.Names.{isLetter}
+use Rattle.names.specs.Names.{isLetter}
 use Rattle.dispatch.specs.Said.{withBit}
 use Rattle.dispatch.proofs.Core.{not-letter, letter-between, place-fits, added-other, added-twice, added-new}
 use Rattle.dispatch.proofs.add.Statement.{statement}

@@ -1,6 +1,6 @@
 -- `place` meets its contract: a letter is at least `a`. Assumes nothing.
 use borrow.Author.Needs.{needs}
-use Rattle.sheet.proofs.Tokens.{letter-bounds}
+use Rattle.names.proofs.Tokens.{letter-bounds}
 use Rattle.dispatch.proofs.place.Statement.{statement}
 use Rattle.dispatch.proofs.place.Tie as tie
 

@@ -4,9 +4,9 @@ use mathlib.Core.Path.{sym, _∙_, ap}
 use mathlib.Core.List.{[]}
 use borrow.Author.Tests.{not-true, not-false}
 use Rattle.text.specs.Lines.{fields, field}
-use Rattle.sheet.specs.Names.{isName}
+use Rattle.names.specs.Names.{isName}
+use Rattle.names.proofs.Finds.{event-answers}
 use Rattle.sheet.specs.Answers.{partsOf}
-use Rattle.sheet.proofs.Finds.{event-answers}
 use Rattle.sheet.proofs.Refusals.{event-count, event-ill, event-twice, event-passes}
 use Rattle.sheet.proofs.row.event_fields.Statement.{statement}
 use Rattle.sheet.proofs.row.event_fields.Tie as tie

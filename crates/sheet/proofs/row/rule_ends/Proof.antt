@@ -7,10 +7,11 @@ use mir.Syntax.{w32}
 use mir.ValLaws.{toZ-ofZ}
 use Rattle.prelude.specs.Checks.{firstFailing}
 use Rattle.refusal.specs.declared.Cause.the-variants as C
-use Rattle.sheet.specs.Answers.{placeOr, partsOf}
-use Rattle.sheet.specs.Defined.{maskOf}
+use Rattle.names.specs.Defined.{maskOf}
+use Rattle.names.specs.Found.{placeOr}
+use Rattle.names.proofs.Finds.{found-place}
+use Rattle.sheet.specs.Answers.{partsOf}
 use Rattle.sheet.specs.Rows.{eventOf}
-use Rattle.sheet.proofs.Finds.{found-place}
 use Rattle.sheet.proofs.Refusals.{ends-tests, ends-pass, check-refused, check-passed}
 use Rattle.sheet.proofs.row.rule_ends.Statement.{statement}
 use Rattle.sheet.proofs.row.rule_ends.Tie as tie

@@ -40,7 +40,7 @@ returns-2 c =
     let args = c .before .before .before .before .before .before .before .before .before .args in
     let Γ = partsOf (args .n) (args .starts .now) (args .lengths .now) (args .k) (args .letters .now) [] in
     let fs = fields (args .line .now) in
-    let other = kind-none (kindOf [] (field 0 fs)) (ap (λ (f : List ℕ). kindFound (kindOf [] f))
+    let other = kind-none (kindOf (field 0 fs)) (ap (λ (f : List ℕ). kindFound (kindOf f))
     (sym (c .before .before .before .field .ensures .text)) ∙
     (sym (c .before .before .kind-of .ensures) ∙ c .enum-told .given .1)) in
     sym (rw (rule-other (args .sheet .now) Γ fs other))
@@ -83,8 +83,8 @@ returns-3 c =
     let found = c .before .before .before .before .before .found in
     let Γ = partsOf (args .n) (args .starts .now) (args .lengths .now) (args .k) (args .letters .now) [] in
     let fs = fields (args .line .now) in
-    let kind = kind-some (kindOf [] (field 0 fs)) (found .given .0 .0)
-    (ap (λ (f : List ℕ). kindFound (kindOf [] f)) (sym (was-field .ensures .text)) ∙
+    let kind = kind-some (kindOf (field 0 fs)) (found .given .0 .0)
+    (ap (λ (f : List ℕ). kindFound (kindOf f)) (sym (was-field .ensures .text)) ∙
     (sym (kind-of .ensures) ∙ found .given .1)) in
     let ill = limit-none (field 3 fs) (ap limitOf (sym (c .before .before .before .field2 .ensures .text)) ∙
     (sym (c .before .before .limit-of .ensures) ∙ c .enum-told2 .given .1)) in
@@ -102,8 +102,8 @@ returns-4 c =
     let found = c .before .before .before .before .before .found in
     let Γ = partsOf (args .n) (args .starts .now) (args .lengths .now) (args .k) (args .letters .now) [] in
     let fs = fields (args .line .now) in
-    let kind = kind-some (kindOf [] (field 0 fs)) (found .given .0 .0)
-    (ap (λ (f : List ℕ). kindFound (kindOf [] f)) (sym (was-field .ensures .text)) ∙
+    let kind = kind-some (kindOf (field 0 fs)) (found .given .0 .0)
+    (ap (λ (f : List ℕ). kindFound (kindOf f)) (sym (was-field .ensures .text)) ∙
     (sym (kind-of .ensures) ∙ found .given .1)) in
     let over = limit-over (field 3 fs) (ap limitOf (sym (c .before .before .before .field2 .ensures .text)) ∙
     (sym (c .before .before .limit-of .ensures) ∙ c .enum-told3 .given .1)) in
@@ -134,8 +134,8 @@ returns-5 c =
     let k = found .given .0 .0 in
     let z = was-limit .given .0 .0 in
     let n = length (args .line .now) in
-    let kind = kind-some (kindOf [] (field 0 fs)) k
-    (ap (λ (f : List ℕ). kindFound (kindOf [] f)) (sym (was-field .ensures .text)) ∙ sym (kind-of .ensures) ∙
+    let kind = kind-some (kindOf (field 0 fs)) k
+    (ap (λ (f : List ℕ). kindFound (kindOf f)) (sym (was-field .ensures .text)) ∙ sym (kind-of .ensures) ∙
     found .given .1) in
     let limit = limit-minutes (field 3 fs) z (ap limitOf (sym (field2 .ensures .text)) ∙ sym (limit-of .ensures) ∙
     was-limit .given .1) in

@@ -5,10 +5,10 @@ use mathlib.Core.List.{[], _∷_}
 use Rattle.prelude.specs.Checks.{firstFailing}
 use Rattle.text.specs.Lines.{fields, field}
 use Rattle.refusal.specs.declared.Cause.the-variants as C
+use Rattle.names.proofs.Finds.{event-is, event-answers, event-place}
 use Rattle.sheet.specs.Rows.{eventOf}
 use Rattle.sheet.specs.Answers.{partsOf}
-use Rattle.sheet.proofs.Finds.{event-is, event-answers, event-place, gives-found}
-use Rattle.sheet.proofs.Refusals.{signal-count, signal-tests, check-refused, check-passed}
+use Rattle.sheet.proofs.Refusals.{signal-count, gives-found, signal-tests, check-refused, check-passed}
 use Rattle.sheet.proofs.row.signal_fields.Statement.{statement}
 use Rattle.sheet.proofs.row.signal_fields.Tie as tie
 
