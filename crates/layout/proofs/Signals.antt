@@ -44,7 +44,7 @@ signalTests sheet Γ fs =
     ∷ (isOneLetter (field 0 fs) && isName (field 1 fs), C.IllFormedName)
     ∷ (
       not (answers (placeOf (Γ .signals) (Γ .letters) (getD (field 0 fs) 0 0))
-          || isObservation sheet Γ (eventOf sheet Γ (field 1 fs))),
+          || isObservation Γ (eventOf sheet Γ (field 1 fs))),
       C.Duplicate,
     )
     ∷ (answers (eventOf sheet Γ (field 1 fs)), C.Undefined)
@@ -74,7 +74,7 @@ module _ (sheet : List ℕ) (h : ℕ) (names : List (List ℕ)) where
     known b = answers (placeOf (Γ .signals) (Γ .letters) b)
 
     abbrev given : List ℕ → Bool
-    given f = isObservation sheet Γ (eventOf sheet Γ f)
+    given f = isObservation Γ (eventOf sheet Γ f)
 
     -- whether the event of that name gives a signal
     given-in : (f : List ℕ) → In f names [] → given f ≡ true → In f (eventsOf xs) []

@@ -19,6 +19,10 @@ eventNamed sheet n starts lengths f =
 abbrev pub placeOf : ℕ → List ℕ → ℕ → Option ℕ
 placeOf k letters b = firstBelow k (λ p. when (eqb (getD letters p 0) b) p)
 
+-- whether one of k signals is given by event u
+abbrev pub givesSignal : ℕ → List ℕ → ℕ → Bool
+givesSignal k observations u = answers (firstBelow k (λ p. when (eqb (getD observations p 0) u) p))
+
 module _ (k : ℕ) (letters : List ℕ) where
   -- whether each of these letters is defined
   abbrev pub allDefined : List ℕ → Bool

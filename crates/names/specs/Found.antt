@@ -3,9 +3,7 @@ use mathlib.Core.Bool.{Bool, true, false}
 use mathlib.Core.Option.{Option, none, some}
 use mathlib.Core.List.{List}
 use Prim.Native.Nat.{ℕ, _+_, _≤_, _<_}
-use lib.Dec.{eqb}
 use lib.ListN.{length, getD}
-use Rattle.prelude.specs.Search.{firstBelow, when, answers}
 use Rattle.network.specs.Limits as L
 use Rattle.names.specs.declared.Found.{Found}
 use Rattle.names.specs.declared.Found.the-variants.{At, Nothing}
@@ -27,7 +25,3 @@ placeOr (At u) = u
 pub record NamesIn (sheet : List ℕ) (n : ℕ) (starts lengths : List ℕ) : Type 0 where
   pub few : n ≤ L.events
   pub inside : (u : ℕ) → u < n → getD starts u 0 + getD lengths u 0 ≤ length sheet
-
--- whether one of k signals is given by event u
-abbrev pub givesSignal : ℕ → List ℕ → ℕ → Bool
-givesSignal k observations u = answers (firstBelow k (λ p. when (eqb (getD observations p 0) u) p))

@@ -1,11 +1,10 @@
 // What has been defined so far: events by their names, signals by their letters.
 ghost use mathlib.Core.Path.{_≡_};
-ghost use mathlib.Core.Bool.{Bool, _||_, not};
-ghost use Prim.Native.Nat.{_≤_, _^_};
+ghost use Prim.Native.Nat.{_≤_};
 ghost use Rattle.prelude.specs.Search.{answers};
 ghost use Rattle.network.specs.Limits as L;
-ghost use Rattle.names.specs.Defined.{eventNamed, placeOf, weight};
-ghost use Rattle.names.specs.Found.{NamesIn, foundOf, isFound, placeOr, givesSignal};
+ghost use Rattle.names.specs.Defined.{eventNamed, placeOf, givesSignal};
+ghost use Rattle.names.specs.Found.{NamesIn, foundOf, isFound, placeOr};
 use super::Found;
 use network::Network;
 

@@ -91,8 +91,8 @@ module _ (sheet : List ℕ) (Γ : Network) (at : ℕ) where
 
   -- they are answers about the network
   observation-parts : (o : Option ℕ)
-      → isObservation sheet (partsOf (Γ .events) (Γ .starts) (Γ .lengths) (Γ .signals) (Γ .letters) (Γ .observations)) o ≡
-      isObservation sheet Γ o
+      → isObservation (partsOf (Γ .events) (Γ .starts) (Γ .lengths) (Γ .signals) (Γ .letters) (Γ .observations)) o ≡
+      isObservation Γ o
   observation-parts none = refl
   observation-parts (some u) = refl
 

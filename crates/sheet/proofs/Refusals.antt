@@ -77,7 +77,7 @@ module _ (word : List ℕ) (lo hi : ℕ) (fs : List (List ℕ)) where
 
 -- an event that was looked for gives a signal where the search for it says so
 pub gives-found : (k : ℕ) (observations : List ℕ) (sheet : List ℕ) (Γ : Network) (o : Option ℕ) → Γ .signals ≡ k
-    → Γ .observations ≡ observations → givesFound k observations (foundOf o) ≡ isObservation sheet Γ o
+    → Γ .observations ≡ observations → givesFound k observations (foundOf o) ≡ isObservation Γ o
 gives-found k observations sheet Γ none a b = refl
 gives-found k observations sheet Γ (some u) a b = rw (a, b)
 
@@ -107,7 +107,7 @@ module _ (sheet : List ℕ) (Γ : Network) (fs : List (List ℕ)) where
   signal-count n = rw (ne-eqb (length fs) 2 n)
 
   pub signal-tests : {named fresh defined : Bool} → length fs ≡ 2 → named ≡ isOneLetter (field 0 fs) && isName (field 1 fs)
-      → fresh ≡ not (answers (placeOf (Γ .signals) (Γ .letters) (getD (field 0 fs) 0 0)) || isObservation sheet Γ
+      → fresh ≡ not (answers (placeOf (Γ .signals) (Γ .letters) (getD (field 0 fs) 0 0)) || isObservation Γ
       (eventOf sheet Γ (field 1 fs)))
       → defined ≡ answers (eventOf sheet Γ (field 1 fs))
       → signalRefusal sheet Γ fs ≡ firstFailing ((named, C.IllFormedName) ∷ (fresh, C.Duplicate) ∷ (defined, C.Undefined) ∷ [])
@@ -115,7 +115,7 @@ module _ (sheet : List ℕ) (Γ : Network) (fs : List (List ℕ)) where
   signal-tests {named} {fresh} {defined} n a b d =
       rw (eq-eqb (length fs) 2 n)
       (sym (three-same named fresh defined (isOneLetter (field 0 fs) && isName (field 1 fs))
-      (not (answers (placeOf (Γ .signals) (Γ .letters) (getD (field 0 fs) 0 0)) || isObservation sheet Γ (eventOf sheet Γ (field 1 fs))))
+      (not (answers (placeOf (Γ .signals) (Γ .letters) (getD (field 0 fs) 0 0)) || isObservation Γ (eventOf sheet Γ (field 1 fs))))
       (answers (eventOf sheet Γ (field 1 fs))) C.IllFormedName C.Duplicate C.Undefined a b d))
 
   -- a rule

@@ -41,7 +41,7 @@ module _ (sheet : List ℕ) (Γ : Network) (fs : List (List ℕ)) where
       ∷ (isOneLetter (field 0 fs) && isName (field 1 fs), C.IllFormedName)
       ∷ (
         not (answers (placeOf (Γ .signals) (Γ .letters) (getD (field 0 fs) 0 0))
-            || isObservation sheet Γ (eventOf sheet Γ (field 1 fs))),
+            || isObservation Γ (eventOf sheet Γ (field 1 fs))),
         C.Duplicate,
       )
       ∷ (answers (eventOf sheet Γ (field 1 fs)), C.Undefined)
@@ -63,11 +63,11 @@ module _ (sheet : List ℕ) (Γ : Network) (fs : List (List ℕ)) where
 
   -- the event that gives a signal gave none before
   pub new-signal : (u : ℕ) → eventOf sheet Γ (field 1 fs) ≡ some u
-      → not (answers (placeOf (Γ .signals) (Γ .letters) (getD (field 0 fs) 0 0)) || isObservation sheet Γ
+      → not (answers (placeOf (Γ .signals) (Γ .letters) (getD (field 0 fs) 0 0)) || isObservation Γ
       (eventOf sheet Γ (field 1 fs))) ≡ true
       → (q : ℕ) → q < Γ .signals → eqb (observation Γ q) u ≡ false
   new-signal u e h q l =
       let a = answers (placeOf (Γ .signals) (Γ .letters) (getD (field 0 fs) 0 0)) in
-      let b = isObservation sheet Γ (eventOf sheet Γ (field 1 fs)) in
+      let b = isObservation Γ (eventOf sheet Γ (field 1 fs)) in
       let n = or-false a b (not-true (a || b) h) in
       finds-nothing (λ p. eqb (getD (Γ .observations) p 0) u) (Γ .signals) (rw e at (n .1)) q l

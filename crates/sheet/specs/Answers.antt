@@ -19,7 +19,7 @@ use Rattle.network.specs.declared.Constraint.{Constraint}
 use Rattle.network.specs.declared.Network.{Network}
 use Rattle.names.specs.Names.{isName, isLabel, labelOf, lettersOf}
 use Rattle.names.specs.Defined.{allDefined, maskOf}
-use Rattle.names.specs.Found.{givesSignal}
+use Rattle.names.specs.Defined.{givesSignal}
 use Rattle.names.specs.declared.Found.{Found}
 use Rattle.names.specs.declared.Found.the-variants.{At, Nothing}
 use Rattle.sheet.specs.Rows.{sectionCount, eventOf, eventRefusal, signalRefusal, ruleRefusal, ruleOf}

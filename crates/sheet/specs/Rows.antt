@@ -7,7 +7,7 @@ use Prim.Native.Nat.{ℕ, _+_}
 use Prim.Native.String.{String}
 use lib.Dec.{eqb, leb}
 use lib.ListN.{length, getD}
-use Rattle.prelude.specs.Search.{firstBelow, when, answers}
+use Rattle.prelude.specs.Search.{when, answers}
 use Rattle.prelude.specs.Checks.{firstFailing}
 use Rattle.prelude.specs.Bytes.{ascii, same, distinct}
 use Rattle.text.specs.Lines.{field}
@@ -21,7 +21,7 @@ use Rattle.network.specs.declared.Kind.the-variants.{Max, Min, Fix}
 use Rattle.network.specs.declared.Constraint.{Constraint}
 use Rattle.network.specs.declared.Network.{Network}
 use Rattle.names.specs.Names.{isName, isOneLetter, isLabel, labelOf, lettersOf}
-use Rattle.names.specs.Defined.{eventNamed, placeOf, allDefined, maskOf}
+use Rattle.names.specs.Defined.{eventNamed, placeOf, allDefined, maskOf, givesSignal}
 
 -- a section's line: its word, and its count from lo to hi
 unfoldable pub sectionRefusal : String → ℕ → ℕ → List (List ℕ) → Option Cause
@@ -52,6 +52,11 @@ kindOf f =
       ]
     ]
 
+-- "the event already gives a signal", where it is defined
+abbrev pub isObservation : Network → Option ℕ → Bool
+isObservation Γ none = false
+isObservation Γ (some u) = givesSignal (Γ .signals) (Γ .observations) u
+
 module _ (sheet : List ℕ) where
   -- the event of that name, if it is defined
   abbrev pub eventOf : Network → List ℕ → Option ℕ
@@ -70,10 +75,6 @@ module _ (sheet : List ℕ) where
   eventRow = record { refusal = eventRefusal; add = λ Γ at fs. withEvent Γ at (length (field 0 fs)) }
 
   -- `letter,event`
-  abbrev pub isObservation : Network → Option ℕ → Bool
-  isObservation Γ none = false
-  isObservation Γ (some u) = answers (firstBelow (Γ .signals) (λ p. when (eqb (getD (Γ .observations) p 0) u) p))
-
   unfoldable pub signalRefusal : Network → List (List ℕ) → Option Cause
   signalRefusal Γ fs =
       firstFailing
