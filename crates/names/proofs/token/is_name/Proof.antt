@@ -22,7 +22,7 @@ returns : tie.Need-returns Inv-loop μ-loop
 returns c = sym (name-empty (c .before .before .args .f .now) (c .if1 .taken))
 
 returns-2 : tie.Need-returns-2 Inv-loop μ-loop
-returns-2 c = sym (name-long (c .before .before .before .args .f .now) (c .if2 .taken))
+returns-2 c = sym (name-long (c .before .before .before .args .f .now) (omega (arith, c .if2 .taken)))
 
 shared-slice-read-is-letter : tie.Need-shared-slice-read-is-letter Inv-loop μ-loop
 shared-slice-read-is-letter c = search needs
@@ -42,7 +42,7 @@ loop-holds c =
     let if1 = c .before .before .before .before .if1 in
     let is-letter = c .before .is-letter in (
       omega arith,
-      name-rest (args .f .now) (if1 .left) (c .before .before .before .if2 .left)
+      name-rest (args .f .now) (if1 .left) (omega (arith, c .before .before .before .if2 .left))
           (sym (is-letter .ensures) ∙ not-false (is-letter .result) (c .if3 .left)),
     )
 
