@@ -11,16 +11,11 @@ use lib.ListN.{length}
 use Rattle.prelude.specs.Bytes.{every}
 use Rattle.prelude.proofs.Bytes.{same-true}
 use Rattle.prelude.proofs.Tests.{either, clash, and-true, and-both}
-use Rattle.names.specs.Names.{isLetter, areLiterals, isDash, isLabel, Literal, literals, labelOf, lettersOf as lettersRead}
-use Rattle.layout.specs.Layout.{lettersOf, signText, literalsText, labelText}
+use Rattle.names.specs.Names.{isLetter, areLiterals, isDash, isLabel, Literal, literals, labelOf, lettersOf}
+use Rattle.layout.specs.Layout.{signText, literalsText, labelText}
 use Rattle.layout.proofs.Lines.{plain}
 use Rattle.names.proofs.Tokens.{letter-bounds}
 use Rattle.layout.proofs.Plain.{plain-letter}
-
--- the letters of literals, said twice
-pub lettersRead-is : (ls : List Literal) → lettersRead ls ≡ lettersOf ls
-lettersRead-is [] = refl
-lettersRead-is (l ∷ ls) = ap (λ (bs : List ℕ). l .letter ∷ bs) (lettersRead-is ls)
 
 no-bang : (b : ℕ) → isLetter b ≡ true → eqb b 33 ≡ false
 no-bang b e = let p = letter-bounds b e in ne-eqb b 33 (λ z. omega arith)

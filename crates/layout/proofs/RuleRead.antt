@@ -22,7 +22,7 @@ use Rattle.sheet.specs.Rows.{eventOf, kindOf, ruleRefusal}
 use Rattle.layout.specs.Layout.{Signal, Rule, KeepsRule, kindText, signedText, labelText}
 use Rattle.layout.proofs.Checks.{hold}
 use Rattle.layout.proofs.Numbers as N
-use Rattle.layout.proofs.Labels.{lettersRead-is, is-label}
+use Rattle.layout.proofs.Labels.{is-label}
 use Rattle.prelude.proofs.Lists.{all-of, distinct-of-test}
 use Rattle.layout.proofs.Contains.{lettersOf, Contains, contents}
 use Rattle.layout.proofs.Finds.{event-in}
@@ -84,7 +84,7 @@ module _ (sheet : List ℕ) (h : ℕ) (names : List (List ℕ)) (xs : List Signa
             from = event-in (c .names) from (u .0);
             to = event-in (c .names) to (v .0);
             limit = N.valueOf-limits limit (leb-true (magnitude limit) L.horizon (t .1 .1 .0));
-            known = rw (lettersRead-is (labelOf label)) at (defined-read (c .signals) bs (v .1));
-            once = rw (lettersRead-is (labelOf label)) at (distinct-of-test bs (t .1 .1 .1 .1 .1 .0));
+            known = defined-read (c .signals) bs (v .1);
+            once = distinct-of-test bs (t .1 .1 .1 .1 .1 .0);
           },
         )

@@ -16,12 +16,12 @@ use Rattle.names.specs.Names.{isLetter, isName, isLabel, labelOf, lettersOf as 
 use Rattle.names.specs.Defined.{allDefined, maskOf}
 use Rattle.sheet.specs.Rows.{eventOf, ruleOf, ruleRefusal, ruleRow}
 use Rattle.prelude.specs.Lists.{In, Each}
-use Rattle.layout.specs.Layout.{Signal, Rule, KeepsRule, noRule, kindText, signedText, labelText, lettersOf as lettersWritten}
+use Rattle.layout.specs.Layout.{Signal, Rule, KeepsRule, noRule, kindText, signedText, labelText}
 use Rattle.layout.proofs.Checks.{_&_, none-fails}
 use Rattle.layout.proofs.Lines.{Plain}
 use Rattle.layout.proofs.Plain.{plain-name}
 use Rattle.layout.proofs.Numbers as N
-use Rattle.layout.proofs.Labels.{lettersRead-is, labelOf-labelText, isLabel-labelText, plain-labelText}
+use Rattle.layout.proofs.Labels.{labelOf-labelText, isLabel-labelText, plain-labelText}
 use Rattle.prelude.proofs.Lists.{each-at, each-in, test-of-distinct}
 use Rattle.layout.proofs.Contains.{lettersOf, Bears, Means, Contains, contents}
 use Rattle.layout.proofs.Finds.{event-answers, event-found, event-named, mask-is}
@@ -52,8 +52,8 @@ module _ (sheet : List ℕ) (h : ℕ) (names : List (List ℕ)) (xs : List Signa
       to-is : isName (x .to) ≡ true
       to-is = each-in (λ n. isName n ≡ true) (c .names .each) (m .to)
 
-      letters : every isLetter (lettersWritten (x .label)) ≡ true
-      letters = letters-are (c .signals) (lettersWritten (x .label)) (m .known)
+      letters : every isLetter (lettersRead (x .label)) ≡ true
+      letters = letters-are (c .signals) (lettersRead (x .label)) (m .known)
 
       label-is : labelOf (labelText (x .label)) ≡ x .label
       label-is = labelOf-labelText (x .label) letters
@@ -65,8 +65,8 @@ module _ (sheet : List ℕ) (h : ℕ) (names : List (List ℕ)) (xs : List Signa
           let to = x .to in
           let label = labelText (x .label) in
           let bs = lettersRead (labelOf label) in
-          let is : bs ≡ lettersWritten (x .label) = ap lettersRead label-is ∙ lettersRead-is (x .label) in
-          let defined = ap areDefined is ∙ defined-passes (c .signals) (lettersWritten (x .label)) (m .known) in
+          let is : bs ≡ lettersRead (x .label) = ap lettersRead label-is in
+          let defined = ap areDefined is ∙ defined-passes (c .signals) (lettersRead (x .label)) (m .known) in
           none-fails (ruleTests sheet Γ (kindText (x .kind) ∷ othersOf x))
           (kind-passes (x .kind)
           & N.isNumber-signedText (x .limit)
@@ -75,7 +75,7 @@ module _ (sheet : List ℕ) (h : ℕ) (names : List (List ℕ)) (xs : List Signa
           (and-both (isName to) (isLabel label) to-is (isLabel-labelText (x .label) letters))
           & and-both (isEvent from) (isEvent to && areDefined bs) (event-answers (c .names) from (m .from))
           (and-both (isEvent to) (areDefined bs) (event-answers (c .names) to (m .to)) defined)
-          & (ap distinct is ∙ test-of-distinct (lettersWritten (x .label)) (m .once))
+          & (ap distinct is ∙ test-of-distinct (lettersRead (x .label)) (m .once))
           & tt)
 
       rule-plain : Plain (kindText (x .kind) ∷ othersOf x)

@@ -15,7 +15,7 @@ use Rattle.network.specs.Limits as L
 use Rattle.network.specs.WellFormed.{InLimits}
 use Rattle.network.specs.declared.Kind.{Kind}
 use Rattle.network.specs.declared.Kind.the-variants.{Max, Min, Fix}
-use Rattle.names.specs.Names.{isLetter, isName, Literal}
+use Rattle.names.specs.Names.{isLetter, isName, Literal, lettersOf}
 use Rattle.sheet.specs.Reading.{longest}
 
 -- what a sheet contains; events are told by their names, signals by their letters
@@ -35,9 +35,6 @@ pub record Contents : Type 0 where
   pub names : List (List ℕ)
   pub signals : List Signal
   pub rules : List Rule
-
-abbrev pub lettersOf : List Literal → List ℕ
-lettersOf ls = map (λ l. l .letter) ls
 
 -- the rules of the layout
 pub record KeepsSignal (names : List (List ℕ)) (x : Signal) : Type 0 where

@@ -1,6 +1,6 @@
 -- Names, letters and labels as they are written (01, The sheet).
 use mathlib.Core.Bool.{Bool, true, false, _&&_, _||_, not}
-use mathlib.Core.List.{List, [], _∷_}
+use mathlib.Core.List.{List, [], _∷_, map}
 use Prim.Native.Nat.{ℕ}
 use Prim.Native.Char.{code}
 use lib.Dec.{eqb, leb}
@@ -55,5 +55,4 @@ abbrev pub labelOf : List ℕ → List Literal
 labelOf f = elim (isDash f) [ true ↦ [] | false ↦ literals false f ]
 
 abbrev pub lettersOf : List Literal → List ℕ
-lettersOf [] = []
-lettersOf (l ∷ ls) = l .letter ∷ lettersOf ls
+lettersOf ls = map (λ l. l .letter) ls

@@ -3,7 +3,7 @@
 use mathlib.Core.Path.{_≡_}
 use mathlib.Core.Bool.{Bool, true, false}
 use mathlib.Core.List.{List, _++_}
-use Prim.Native.Nat.{ℕ, _+_, _*_, _%_, _≤_, _<_}
+use Prim.Native.Nat.{ℕ, _+_, _*_, _%_}
 use lib.Dec.{eqb}
 use lib.ListN.{length, take, drop}
 use Rattle.pairs.specs.Pairs.{minutesOf, bytesOf}
@@ -88,16 +88,3 @@ packedWritten (W.Refused r) = packed (refused r)
 pub record BenchLeaves (l : Left) (r : ℕ) (b : List ℕ) : Type 0 where
   pub answer : r ≡ packedWritten (l .answer)
   pub memory : b ≡ l .memory
-
--- each value of an answer fits its bytes
-pub record Small (v : Values) : Type 0 where
-  pub number : v .number < 256
-  pub line : v .line < 65536
-  pub word : v .word < 4
-  pub first : v .first < 256
-  pub second : v .second < 256
-  pub third : v .third < 256
-
-abbrev pub Fits : Written → Type 0
-Fits (W.Count n) = n ≤ 256
-Fits (W.Refused r) = Unit {0}

@@ -1,7 +1,6 @@
 // The calls of the workshop bench, which is written in C: byte slices and numbers only. A table travels as two bytes a minute, low byte
 // first, and an answer is one number, whose bytes include/opening.h explains.
 ghost use mathlib.Core.Path.{_≡_};
-ghost use Prim.Native.Nat.{_<_};
 ghost use Rattle.opening.specs.Calls.{Leaves};
 ghost use Rattle.opening.specs.Bench as B;
 use crate::Judgement;
@@ -72,42 +71,13 @@ fn packed_refusal(refusal: Refusal) -> u64
 }
 
 // A word with its three values, behind a number and a line of 0.
-fn packed_word(word: u64, first: usize, second: usize, third: usize) -> u64
-    requires { ⌜ B.Small (B.judged word first second third) ⌝ }
+fn packed_word(word: u8, first: u8, second: u8, third: u8) -> u64
     ensures { λ r. ⌜ r ≡ B.packed (B.judged word first second third) ⌝ }
 {
-    16777216 * (word + 256 * (first as u64 + 256 * (second as u64 + 256 * (third as u64))))
+    16777216 * (word as u64 + 256 * (first as u64 + 256 * (second as u64 + 256 * (third as u64))))
 }
 
-fn packed_breach(breach: Breach) -> u64
-    requires { ⌜ B.Small (B.breachValues breach) ⌝ }
-    ensures { λ r. ⌜ r ≡ B.packed (B.breachValues breach) ⌝ }
-{
-    match breach {
-        Breach::Late { scenario, event } => packed_word(1, scenario, event, 0),
-        Breach::Rule {
-            scenario,
-            constraint,
-        } => packed_word(2, scenario, constraint, 0),
-        Breach::Unheard {
-            scenario,
-            other,
-            event,
-        } => packed_word(3, scenario, other, event),
-    }
-}
-
-fn packed_verdict(verdict: Verdict) -> u64
-    requires { ⌜ B.Small (B.verdictValues verdict) ⌝ }
-    ensures { λ r. ⌜ r ≡ B.packed (B.verdictValues verdict) ⌝ }
-{
-    match verdict {
-        Verdict::Pass => packed_word(0, 0, 0, 0),
-        Verdict::Breach(breach) => packed_breach(breach),
-    }
-}
-
-// The judge for C.
+// The judge for C. Cases, events and rules are fewer than 256.
 #[no_mangle]
 pub extern "C" fn opening_judge(sheet: &[u8], table: &[u8]) -> u64
     ensures { λ r. ⌜ r ≡ B.packed (B.judgementValues (B.benchJudgement (now (sheet .entry)) (now (table .entry)))) ⌝ }
@@ -115,7 +85,21 @@ pub extern "C" fn opening_judge(sheet: &[u8], table: &[u8]) -> u64
     let judgement = judge_bytes(sheet, table);
     match judgement {
         Judgement::Refused(refusal) => packed_refusal(refusal),
-        Judgement::Judged(verdict) => packed_verdict(verdict),
+        Judgement::Judged(verdict) => match verdict {
+            Verdict::Pass => packed_word(0, 0, 0, 0),
+            Verdict::Breach(breach) => match breach {
+                Breach::Late { scenario, event } => packed_word(1, scenario as u8, event as u8, 0),
+                Breach::Rule {
+                    scenario,
+                    constraint,
+                } => packed_word(2, scenario as u8, constraint as u8, 0),
+                Breach::Unheard {
+                    scenario,
+                    other,
+                    event,
+                } => packed_word(3, scenario as u8, other as u8, event as u8),
+            },
+        },
     }
 }
 
