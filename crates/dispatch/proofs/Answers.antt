@@ -10,7 +10,6 @@ use mathlib.Core.List.{List}
 use Prim.Native.Nat.{ℕ, _<_}
 use native.Mathlib.Omega.{arith}
 use Rattle.prelude.specs.Search.{when}
-use Rattle.prelude.specs.Bounded.{allBelow}
 use Rattle.prelude.proofs.Tests.{clash, and-true, and-both, beq-refl, beq-true, by-cond}
 use Rattle.prelude.proofs.Search.{none-of-firstBelow, some-of-firstBelow, when-some, when-none}
 use Rattle.prelude.proofs.Bounded.{true-of-allBelow, allBelow-true}
@@ -20,7 +19,7 @@ use Rattle.network.specs.WellFormed.{WellFormed}
 use Rattle.network.specs.declared.Network.{Network}
 use Rattle.dispatch.specs.Heard.{WellNamed, isWellNamed, Lettered, says}
 use Rattle.dispatch.specs.History.{History}
-use Rattle.dispatch.specs.Due.{hears, dueIn, asHeard, hearer, dueFor, due}
+use Rattle.dispatch.specs.Due.{hears, dueIn, asHeard, hasHeard, hearer, dueFor, due}
 use Rattle.dispatch.specs.declared.Heard.{Heard}
 use Rattle.dispatch.specs.declared.Dispatched.{Dispatched}
 use Rattle.dispatch.specs.declared.Dispatched.the-variants.{Events, Misnamed, NeverHeard}
@@ -30,7 +29,7 @@ use Rattle.dispatch.proofs.Alike.{history-indistinct, indistinct-due}
 module _ (Γ : Network) (σ : List ℕ) (m : ℕ) (lettered : Lettered Γ) (hs : List Heard) where
   -- whether s has heard what the list says
   abbrev heardIn : ℕ → Bool
-  heardIn s = allBelow (Γ .signals) (asHeard Γ σ m (says hs) s)
+  heardIn s = hasHeard Γ σ m (says hs) s
 
   -- whether what the list says of p with the truth v is what s has heard
   abbrev heardOf : ℕ → ℕ → Bool → Bool

@@ -28,7 +28,7 @@ use Rattle.names.proofs.Tokens.{letter-low, letter-from}
 use Rattle.names.proofs.Finds.{finds-on, finds-at, finds-end}
 use Rattle.checker.specs.Plain.{knownAfter}
 use Rattle.checker.proofs.Plain.{known-after-is}
-use Rattle.dispatch.specs.Due.{asHeard, dueIn}
+use Rattle.dispatch.specs.Due.{asHeard, dueIn, hasHeard}
 use Rattle.dispatch.specs.Said.{place, misnamed, withBit, saidOn, standsOn, asSaid, added, wellNamedOn, dueOn}
 use Rattle.dispatch.specs.declared.Heard.{Heard}
 use Rattle.dispatch.specs.declared.Dispatched.the-variants.{Events, Misnamed, NeverHeard}
@@ -117,28 +117,24 @@ module _ {n : ℕ} {σ : List ℕ} {m s due u : ℕ} (here : Summing n σ m s du
 pub row-in : (Γ : Network) (σ : List ℕ) → length σ ≡ cells Γ → (s : ℕ) → s < scenarios Γ → s * Γ .events + Γ .events ≤ length σ
 row-in Γ σ e s h = omega (arith, e, mul-le-mul-right (Γ .events) h)
 
--- whether s has heard exactly what x says
-abbrev pub heardIn : Network → List ℕ → ℕ → ℕ → ℕ → Bool
-heardIn Γ σ m x s = allBelow (Γ .signals) (asHeard Γ σ m (saidOn x) s)
-
-pub due-misnamed : (Γ : Network) (σ : List ℕ) (m x : ℕ) → wellNamedOn (Γ .signals) (Γ .letters) x ≡ false
+pub misnamed-on : (Γ : Network) (σ : List ℕ) (m x : ℕ) → wellNamedOn (Γ .signals) (Γ .letters) x ≡ false
     → Misnamed ≡ dueOn Γ σ m x
 unfolding dueOn
-due-misnamed Γ σ m x e = rw e
+misnamed-on Γ σ m x e = rw e
 
 -- the letters passed, and the search for a case that has heard what x says has come to s
 pub record Hearing (Γ : Network) (σ : List ℕ) (m x s : ℕ) : Type 0 where
   pub named : wellNamedOn (Γ .signals) (Γ .letters) x ≡ true
-  pub search : Searching (λ r. when (heardIn Γ σ m x r) r) (scenarios Γ) s
+  pub search : Searching (λ r. when (hasHeard Γ σ m (saidOn x) r) r) (scenarios Γ) s
 
 module _ {Γ : Network} {σ : List ℕ} {m x s : ℕ} (here : Hearing Γ σ m x s) where
-  pub hearing-on : s < scenarios Γ → heardIn Γ σ m x s ≡ false → Hearing Γ σ m x (s + 1)
-  hearing-on h e = record { named = here .named; search = finds-on (heardIn Γ σ m x) (here .search) h e }
+  pub hearing-on : s < scenarios Γ → hasHeard Γ σ m (saidOn x) s ≡ false → Hearing Γ σ m x (s + 1)
+  hearing-on h e = record { named = here .named; search = finds-on (hasHeard Γ σ m (saidOn x)) (here .search) h e }
 
-  pub due-heard : s < scenarios Γ → heardIn Γ σ m x s ≡ true → Events (dueIn (Γ .events) σ m s) ≡ dueOn Γ σ m x
+  pub heard-on : s < scenarios Γ → hasHeard Γ σ m (saidOn x) s ≡ true → Events (dueIn (Γ .events) σ m s) ≡ dueOn Γ σ m x
   unfolding dueOn
-  due-heard h e = rw (here .named, finds-at (heardIn Γ σ m x) (here .search) h e)
+  heard-on h e = rw (here .named, finds-at (hasHeard Γ σ m (saidOn x)) (here .search) h e)
 
-  pub due-never : scenarios Γ ≤ s → NeverHeard ≡ dueOn Γ σ m x
+  pub never-on : scenarios Γ ≤ s → NeverHeard ≡ dueOn Γ σ m x
   unfolding dueOn
-  due-never h = rw (here .named, finds-end (heardIn Γ σ m x) (here .search) h)
+  never-on h = rw (here .named, finds-end (hasHeard Γ σ m (saidOn x)) (here .search) h)

@@ -22,7 +22,7 @@ use Rattle.names.specs.Names.{isLetter}
 use Rattle.names.specs.Defined.{placeOf, allDefined}
 use Rattle.names.proofs.Labels.{allDefined-every, place-is}
 use Rattle.dispatch.specs.Heard.{lettersOf, isWellNamed, says, Lettered}
-use Rattle.dispatch.specs.Due.{asHeard, hearer, dueFor, dueBy, due}
+use Rattle.dispatch.specs.Due.{asHeard, hasHeard, hearer, dueFor, dueBy, due}
 use Rattle.dispatch.specs.Said.{misnamed, saidOn, standsOn, saidFrom, wellNamedOn, dueOn}
 use Rattle.dispatch.specs.declared.Heard.{Heard}
 use Rattle.dispatch.proofs.Letters.{true-of-letters, letters-true, nothing-said}
@@ -115,7 +115,7 @@ module _ (Γ : Network) (lettered : Lettered Γ) where
   hearer-same : (σ : List ℕ) (m : ℕ) (f g : ℕ → Bool → Bool) → ((l : ℕ) (v : Bool) → isLetter l ≡ true → f l v ≡ g l v)
       → hearer Γ σ m f ≡ hearer Γ σ m g
   hearer-same σ m f g h =
-      firstBelow-same (λ s. when (allBelow (Γ .signals) (asHeard Γ σ m f s)) s) (λ s. when (allBelow (Γ .signals) (asHeard Γ σ m g s)) s)
+      firstBelow-same (λ s. when (hasHeard Γ σ m f s) s) (λ s. when (hasHeard Γ σ m g s) s)
       (scenarios Γ) λ s k.
       ap (λ (t : Bool). when t s) (allBelow-same (asHeard Γ σ m f s) (asHeard Γ σ m g s) (Γ .signals) λ p l.
       let e = lettered .lower p l in rw (h (letter Γ p) true e, h (letter Γ p) false e))

@@ -29,9 +29,13 @@ module _ (Γ : Network) (σ : List ℕ) (m : ℕ) where
   asHeard said s p =
       Bool·beq (said (letter Γ p) true) (hears s p true) && Bool·beq (said (letter Γ p) false) (hears s p false)
 
-  -- the first case that has heard exactly what is said
+  -- whether s has heard exactly what is said
+  abbrev pub hasHeard : (ℕ → Bool → Bool) → ℕ → Bool
+  hasHeard said s = allBelow (Γ .signals) (asHeard said s)
+
+  -- the first case that has
   abbrev pub hearer : (ℕ → Bool → Bool) → Option ℕ
-  hearer said = firstBelow (scenarios Γ) (λ s. when (allBelow (Γ .signals) (asHeard said s)) s)
+  hearer said = firstBelow (scenarios Γ) (λ s. when (hasHeard said s) s)
 
   -- what is due in that case; any other that has heard the same has the same due (`dispatch/proofs/Alike.antt`)
   abbrev pub dueFor : Option ℕ → Dispatched

@@ -4,7 +4,6 @@ ghost use mathlib.Core.Path.{_≡_};
 ghost use mathlib.Core.Bool.{true};
 ghost use Prim.Native.Nat.{_+_, _*_, _≤_, _<_};
 ghost use lib.ListN.{length};
-ghost use Rattle.prelude.specs.Bounded.{allBelow};
 ghost use Rattle.network.specs.Limits as L;
 ghost use Rattle.network.specs.Build.{scenarios, cells};
 ghost use Rattle.network.specs.Scenario as S;
@@ -139,7 +138,7 @@ fn as_said(said: u64, letter: u8, known: bool, truth: bool) -> bool
 // Whether exactly what is said has been heard in s before the minute.
 fn has_heard(network: Network, table: &[u16], minute: u16, said: u64, s: usize) -> bool
     requires { ⌜ WellFormed network × (length (now table) ≡ cells network) × Lettered network × (s < scenarios network) ⌝ }
-    ensures { λ r. ⌜ r ≡ allBelow (network .signals) (D.asHeard network (now (table .entry)) minute (M.saidOn said) s) ⌝ }
+    ensures { λ r. ⌜ r ≡ D.hasHeard network (now (table .entry)) minute (M.saidOn said) s ⌝ }
 {
     let events = network.events;
     let signals = network.signals;

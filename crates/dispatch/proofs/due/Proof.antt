@@ -9,7 +9,7 @@ use denote.Ref.{now}
 use Rattle.prelude.proofs.Search.{searching-start}
 use Rattle.network.specs.Build.{scenarios}
 use Rattle.dispatch.specs.declared.Dispatched.the-variants.{Events}
-use Rattle.dispatch.proofs.Core.{row-in, due-misnamed, Hearing, hearing-on, due-heard, due-never}
+use Rattle.dispatch.proofs.Core.{row-in, misnamed-on, Hearing, hearing-on, heard-on, never-on}
 use Rattle.dispatch.proofs.due.Statement.{statement}
 use Rattle.dispatch.proofs.due.Tie as tie
 
@@ -26,7 +26,7 @@ returns : tie.Need-returns Inv-loop μ-loop
 returns c =
     let at-named = c .before in
     let a = at-named .before .before .before .before .args in
-    due-misnamed (a .network) (now (a .table)) (a .minute) (a .said) (sym (at-named .well-named .ensures) ∙ not-true _ (c .if1 .taken))
+    misnamed-on (a .network) (now (a .table)) (a .minute) (a .said) (sym (at-named .well-named .ensures) ∙ not-true _ (c .if1 .taken))
 
 scenario-count-requires : tie.Need-scenario-count-requires Inv-loop μ-loop
 scenario-count-requires c κs = search needs
@@ -49,7 +49,7 @@ returns-2 : tie.Need-returns-2 Inv-loop μ-loop
 returns-2 c =
     let at-heard = c .before .before in
     let inv = at-heard .before .before .loop .inv in
-    ap Events (c .due-in .ensures) ∙ due-heard inv (omega arith) (rw (← at-heard .has-heard .ensures) (c .before .if2 .taken))
+    ap Events (c .due-in .ensures) ∙ heard-on inv (omega arith) (rw (← at-heard .has-heard .ensures) (c .before .if2 .taken))
 
 add-s : tie.Need-add-s Inv-loop μ-loop
 add-s c = search needs
@@ -64,7 +64,7 @@ loop-again c =
     hearing-on inv (omega arith) (rw (← at-heard .has-heard .ensures) (c .if2 .left))
 
 returns-3 : tie.Need-returns-3 Inv-loop μ-loop
-returns-3 c = due-never (c .before .loop .inv) (omega arith)
+returns-3 c = never-on (c .before .loop .inv) (omega arith)
 
 pub due-spec : {M : Type 1} → statement M
 due-spec =
