@@ -1,7 +1,5 @@
 -- Laws of `specs/`, for the proofs of this crate and of those above. No contract cites them.
-pub mod Join
 pub mod Truths
 pub mod Names
 pub mod Listed
-pub mod Memory
 pub mod Examples

@@ -4,9 +4,10 @@ use Prim.Native.Nat.{ℕ}
 use native.Mathlib.Omega.{arith}
 use Rattle.network.specs.Build.{scenarios}
 use Rattle.network.specs.declared.Network.{Network}
-use Rattle.listing.specs.Listing.{joinFrom, header, listing}
+use Rattle.listing.specs.Listing.{header, listing}
 use Rattle.listing.specs.Line.{lineOf}
 use Rattle.listing.specs.Most.{mostHeader, mostLines, mostListing}
+use Rattle.page.specs.Joined.{joinFrom}
 use Rattle.page.specs.Appended.{Appended}
 use Rattle.page.proofs.Append.{append-then}
 

@@ -7,10 +7,11 @@ use native.Mathlib.Numerals.{add-one}
 use borrow.Author.Tests.{ne-eqb}
 use lib.Pow.{pow-mono}
 use Rattle.prelude.specs.Bytes.{ascii}
+use Rattle.page.specs.Joined.{joinFrom}
+use Rattle.page.proofs.Join.{tabulate-join}
 use Rattle.network.specs.Limits as L
-use Rattle.listing.specs.Listing.{joinFrom, scenarioText}
+use Rattle.listing.specs.Listing.{scenarioText}
 use Rattle.listing.specs.Line.{markOf}
-use Rattle.listing.proofs.Join.{tabulate-join}
 
 module _ (s : ℕ) where
   -- s halved p times has the truth of p as its last binary digit

@@ -1,6 +1,4 @@
--- Read in this order: the listing; a line by the numbers that it depends on; how long each part is at most; what
--- the call does with the memory that it is lent.
+-- Read in this order: the listing; a line by the numbers that it depends on; how long each part is at most.
 pub mod Listing
 pub mod Line
 pub mod Most
-pub mod Written

@@ -1,22 +1,18 @@
 -- The printed listing (01, The printed listing): a line of names, then a line of times for each scenario.
 use mathlib.Core.Bool.{true, false, cond}
 use mathlib.Core.List.{List, [], _∷_, _++_}
-use Prim.Native.Nat.{ℕ, zero, suc}
+use Prim.Native.Nat.{ℕ}
 use Prim.Native.Char.{code}
 use lib.Dec.{eqb}
 use Rattle.prelude.specs.Bounded.{tabulate}
 use Rattle.prelude.specs.Bytes.{ascii}
 use Rattle.text.specs.Lines.{comma, lineFeed}
 use Rattle.text.specs.Decimal.{decimal}
+use Rattle.page.specs.Joined.{joinFrom}
 use Rattle.network.specs.Build.{nameOf, scenarios}
 use Rattle.network.specs.Scenario.{truth}
 use Rattle.network.specs.Strategy.{time}
 use Rattle.network.specs.declared.Network.{Network}
-
--- f i, f (i + 1), .. one behind the other: n of them
-abbrev pub joinFrom : ℕ → ℕ → (ℕ → List ℕ) → List ℕ
-joinFrom i zero f = []
-joinFrom i (suc n) f = f i ++ joinFrom (suc i) n f
 
 -- n fields, each behind a comma, and the line feed
 abbrev pub fieldsOf : ℕ → (ℕ → List ℕ) → List ℕ

@@ -9,18 +9,14 @@ ghost use Rattle.text.specs.Decimal.{decimal};
 ghost use Rattle.network.specs.Limits as L;
 ghost use Rattle.network.specs.Build.{nameOf, cells};
 ghost use Rattle.network.specs.WellFormed.{WellFormed, Named};
-ghost use Rattle.listing.specs.Listing.{joinFrom, fieldsOf, scenarioText, header, listing};
+ghost use Rattle.listing.specs.Listing.{fieldsOf, scenarioText, header, listing};
 ghost use Rattle.listing.specs.Line.{markOf, timesOf, lineOf};
 ghost use Rattle.listing.specs.Most.{mostNames, mostTimes, mostHeader, mostLine, mostLines};
+ghost use Rattle.page.specs.Joined.{joinFrom};
 ghost use Rattle.page.specs.Appended.{Appended};
-ghost use Rattle.listing.specs.Written.{WrittenIs};
+ghost use Rattle.page.specs.Written.{WrittenIs};
 use network::Network;
-
-// What a call that writes did: so many bytes, or nothing, since the memory is too short for them.
-pub enum Written {
-    Bytes(usize),
-    TooShort,
-}
+use page::Written;
 
 // The names of all events, and the line feed.
 fn push_names(page: &mut [u8], at: usize, sheet: &[u8], network: Network) -> usize
@@ -143,8 +139,5 @@ pub fn write(sheet: &[u8], network: Network, table: &[u16], out: &mut [u8]) -> W
     let events = network.events;
     let at = push_header(&mut page, sheet, network);
     let end = push_lines(&mut page, at, table, signals, events);
-    if out.len() < end {
-        return Written::TooShort;
-    }
-    Written::Bytes(page::push_all(out, 0, &page[..end]))
+    page::hand_out(&page[..end], out)
 }

@@ -10,6 +10,9 @@ use borrow.Author.Tests.{leb-true, leb-false, le-leb, lt-leb, eq-eqb, ne-eqb}
 use lib.Dec.{eqb, leb}
 use lib.ListN.{length, drop}
 use Rattle.prelude.proofs.Tests.{either}
+use Rattle.page.specs.Written.{isRoom, writtenOf, bufferAfter, WrittenIs}
+use Rattle.page.specs.declared.Written as PD
+use Rattle.page.specs.declared.Written.the-variants as PW
 use Rattle.refusal.specs.declared.Cause.the-variants.{WrongTableLength, BufferTooShort, Inconsistent}
 use Rattle.refusal.specs.declared.Refusal.{Refusal}
 use Rattle.fixpoint.specs.Run.{Run, End, Rests, Passes, Spent}
@@ -28,9 +31,6 @@ use Rattle.solver.specs.declared.Solved.{Solved}
 use Rattle.solver.specs.declared.Solved.the-variants.{Found, Inconsistent as None}
 use Rattle.solver.proofs.Least.{solve-least}
 use Rattle.listing.specs.Listing.{listing}
-use Rattle.listing.specs.Written.{isRoom, writtenOf, bufferAfter, WrittenIs}
-use Rattle.listing.specs.declared.Written as LD
-use Rattle.listing.specs.declared.Written.the-variants as LW
 use Rattle.opening.specs.Calls.{withoutLine, summaryFor, summary, judgementFor, judgement, Left, Leaves, kept, written, solvedFor, solvingFor, solving, listingFor, listed}
 use Rattle.opening.specs.declared.Judgement.the-variants as J
 use Rattle.opening.specs.declared.Written.the-variants as W
@@ -146,16 +146,16 @@ module _ (sheet : List ℕ) (g : Reading) (e : g ≡ read sheet) where
       listing-as : written text m ≡ listed sheet t m
       listing-as = rw (eq-eqb (length t) (cells (g .network)) sized, listingFor) at (listed-of Accepted a t m)
 
-      bytes-of : (b : Bool) (r : LD.Written) (n : ℕ) → r ≡ cond b (LW.Bytes (length text)) LW.TooShort → r ≡ LW.Bytes n
+      bytes-of : (b : Bool) (r : PD.Written) (n : ℕ) → r ≡ cond b (PW.Bytes (length text)) PW.TooShort → r ≡ PW.Bytes n
           → (b ≡ true) × (n ≡ length text)
       bytes-of true r n p q = (refl, cc)
       bytes-of false r n p q = absurd (let z : _≡_ {A = ℕ} 0 1 = cc in omega arith)
 
-      short-of : (b : Bool) (r : LD.Written) → r ≡ cond b (LW.Bytes (length text)) LW.TooShort → r ≡ LW.TooShort → b ≡ false
+      short-of : (b : Bool) (r : PD.Written) → r ≡ cond b (PW.Bytes (length text)) PW.TooShort → r ≡ PW.TooShort → b ≡ false
       short-of true r p q = absurd (let z : _≡_ {A = ℕ} 0 1 = cc in omega arith)
       short-of false r p q = refl
 
-      pub listing-written : (x : List ℕ) (r : LD.Written) (n : ℕ) → WrittenIs text m x r → r ≡ LW.Bytes n
+      pub listing-written : (x : List ℕ) (r : PD.Written) (n : ℕ) → WrittenIs text m x r → r ≡ PW.Bytes n
           → Leaves (listed sheet t m) (W.Count n) x
       unfolding writtenOf bufferAfter
       listing-written x r n is q =
@@ -163,7 +163,7 @@ module _ (sheet : List ℕ) (g : Reading) (e : g ≡ read sheet) where
           leaves-as (sym (written-room text m (leb-true _ _ (w .0))) ∙ listing-as)
           (record { answer = ap W.Count (w .1); memory = is .buffer ∙ rw (w .0) })
 
-      pub listing-short : (x : List ℕ) (r : LD.Written) → WrittenIs text m x r → r ≡ LW.TooShort
+      pub listing-short : (x : List ℕ) (r : PD.Written) → WrittenIs text m x r → r ≡ PW.TooShort
           → Leaves (listed sheet t m) (W.Refused (withoutLine BufferTooShort)) x
       unfolding writtenOf bufferAfter
       listing-short x r is q =

@@ -127,8 +127,8 @@ pub fn write_listing(sheet: &[u8], table: &[u16], out: &mut [u8]) -> Written
             }
             let written = listing::write(sheet, network, table, out);
             match written {
-                listing::Written::Bytes(n) => Written::Count(n),
-                listing::Written::TooShort => Written::Refused(without_line(Cause::BufferTooShort)),
+                page::Written::Bytes(n) => Written::Count(n),
+                page::Written::TooShort => Written::Refused(without_line(Cause::BufferTooShort)),
             }
         }
     }

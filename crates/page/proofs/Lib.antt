@@ -1,2 +1,4 @@
--- Laws of appending, for the proofs of whatever writes.
+-- Laws of `specs/`, for the proofs of whatever writes: of appending, of a loop that appends, and of lent memory.
 pub mod Append
+pub mod Join
+pub mod Memory

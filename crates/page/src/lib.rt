@@ -1,11 +1,18 @@
-// Text written into lent memory. Each function takes the place where its text begins and answers the place where it ends; everything
-// else in the memory stays as it was.
+// Text written into lent memory. Each push takes the place where its text begins and answers the place where it ends; hand_out begins
+// at the front, and tests first whether there is room. Everything else in the memory stays as it was.
 ghost use mathlib.Core.List.{[], _∷_};
 ghost use Prim.Native.Nat.{_+_, _≤_, _<_};
 ghost use lib.ListN.{length};
 ghost use Rattle.text.specs.Lines.{comma};
 ghost use Rattle.text.specs.Decimal.{decimal};
 ghost use Rattle.page.specs.Appended.{Appended};
+ghost use Rattle.page.specs.Written.{WrittenIs};
+
+// What a call that writes did: so many bytes, or nothing, since the memory is too short for them.
+pub enum Written {
+    Bytes(usize),
+    TooShort,
+}
 
 // One byte.
 pub fn push(page: &mut [u8], at: usize, b: u8) -> usize
@@ -45,4 +52,14 @@ pub fn push_number(page: &mut [u8], at: usize, v: u16) -> usize
     let bytes = digits.bytes;
     let count = digits.count;
     push_all(page, at, &bytes[..count])
+}
+
+// A text into the front of lent memory: how many bytes were written, or that the memory is too short for them.
+pub fn hand_out(text: &[u8], out: &mut [u8]) -> Written
+    ensures { λ r. ⌜ WrittenIs (now (text .entry)) (now (out .entry)) (now (out .exit)) r ⌝ }
+{
+    if out.len() < text.len() {
+        return Written::TooShort;
+    }
+    Written::Bytes(push_all(out, 0, text))
 }

@@ -9,7 +9,7 @@ use borrow.Author.Needs.{needs}
 use Rattle.listing.specs.Line.{lineOf}
 use Rattle.listing.specs.Most.{mostLine}
 use Rattle.page.proofs.Append.{append-as}
-use Rattle.listing.proofs.Join.{Joining, join-none, join-next, join-all}
+use Rattle.page.proofs.Join.{Joining, join-none, join-next, join-all}
 use Rattle.listing.proofs.Truths.{few-scenarios}
 use Rattle.listing.proofs.push_lines.Statement.{statement}
 use Rattle.listing.proofs.push_lines.Tie as tie

@@ -10,7 +10,7 @@ use Rattle.network.specs.Build.{nameOf}
 use denote.Ref.{now}
 use Rattle.listing.proofs.Names.{part-from, name-short}
 use Rattle.page.proofs.Append.{append-then}
-use Rattle.listing.proofs.Join.{Joining, join-none, join-next, join-all}
+use Rattle.page.proofs.Join.{Joining, join-none, join-next, join-all}
 use Rattle.listing.proofs.push_names.Statement.{statement}
 use Rattle.listing.proofs.push_names.Tie as tie
 

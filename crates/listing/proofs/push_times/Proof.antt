@@ -8,7 +8,7 @@ use Rattle.text.specs.Lines.{comma}
 use Rattle.text.specs.Decimal.{decimal}
 use Rattle.network.specs.Strategy.{time}
 use Rattle.page.proofs.Append.{append-then}
-use Rattle.listing.proofs.Join.{Joining, join-none, join-next, join-all}
+use Rattle.page.proofs.Join.{Joining, join-none, join-next, join-all}
 use Rattle.listing.proofs.push_times.Statement.{statement}
 use Rattle.listing.proofs.push_times.Tie as tie
 

@@ -7,7 +7,7 @@ use native.Mathlib.Omega.{arith}
 use borrow.Author.Needs.{needs}
 use Rattle.listing.specs.Line.{markOf}
 use Rattle.page.proofs.Append.{append-as}
-use Rattle.listing.proofs.Join.{Joining, join-none, join-next, join-all}
+use Rattle.page.proofs.Join.{Joining, join-none, join-next, join-all}
 use Rattle.listing.proofs.Truths.{halved-none, halved-more, scenarioText-none, scenarioText-some}
 use Rattle.listing.proofs.push_truths.Statement.{statement}
 use Rattle.listing.proofs.push_truths.Tie as tie

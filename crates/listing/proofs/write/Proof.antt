@@ -1,13 +1,11 @@
--- `listing::write` meets its contract: the page begins with the listing, header and lines, and its length decides whether it is copied.
+-- `listing::write` meets its contract: the page begins with the listing, header and lines, and that part of it is handed out.
 -- Assumes nothing.
 use native.Mathlib.Omega.{arith}
 use denote.Ref.{now}
 use mathlib.Core.Path.{sym}
-use native.Mathlib.Nat.{le-refl}
 use lib.Seq.{length-take-le}
-use Rattle.page.proofs.Append.{append-as}
+use Rattle.page.proofs.Memory.{append-front}
 use Rattle.listing.proofs.Listed.{listing-appended}
-use Rattle.listing.proofs.Memory.{append-front, written-nothing, written-all}
 use borrow.Author.Needs.{needs}
 use Rattle.listing.proofs.write.Statement.{statement}
 use Rattle.listing.proofs.write.Tie as tie
@@ -24,42 +22,28 @@ slice-aggregate-push-lines c = search needs
 push-lines-requires : tie.Need-push-lines-requires
 push-lines-requires c κs = search needs
 
-returns : tie.Need-returns
-returns c =
-    let lines = c .before .before in
-    let first = lines .before .before .before in
-    let args = first .before .before .before .before .before .args in
-    let whole =
-    listing-appended (now (args .sheet)) (args .network) (now (args .table)) (first .push-header .ensures) (lines .push-lines .ensures)
-    in
-    written-nothing _ (now (args .out)) (omega (arith, append-front whole .0))
-
 array-share-prefix-page : tie.Need-array-share-prefix-page
 array-share-prefix-page c = search needs
 
-slice-aggregate-push-all : tie.Need-slice-aggregate-push-all
-slice-aggregate-push-all c =
-    let lines = c .before .before .before .before .push-lines in
-    sym (length-take-le (lines .result) (lines .last .0) (omega arith))
+slice-aggregate-hand-out : tie.Need-slice-aggregate-hand-out
+slice-aggregate-hand-out c = sym (length-take-le _ _ (omega arith))
 
-push-all-requires : tie.Need-push-all-requires
-push-all-requires c κs =
-    let lines = c .before .before .before .before .push-lines in
-    omega (arith, length-take-le (lines .result) (lines .last .0) (omega arith))
+hand-out-requires : tie.Need-hand-out-requires
+hand-out-requires c κs = search needs
 
 same-length : tie.Need-same-length
 same-length c = search needs
 
-returns-2 : tie.Need-returns-2
-returns-2 c =
-    let copied = c .before .before in
-    let lines = copied .before .before .before .before .before in
+returns : tie.Need-returns
+returns c =
+    let handed = c .before .before in
+    let lines = handed .before .before .before .before in
     let first = lines .before .before .before in
     let args = first .before .before .before .before .before .args in
     let whole =
     listing-appended (now (args .sheet)) (args .network) (now (args .table)) (first .push-header .ensures) (lines .push-lines .ensures)
     in
-    written-all _ _ (append-as (append-front whole .1) (copied .push-all .ensures) (le-refl _))
+    rw (append-front whole .1) at (handed .hand-out .ensures)
 
 pub write-spec : {M : Type 1} → statement M
 write-spec =
@@ -69,9 +53,8 @@ write-spec =
     push-header-requires
     slice-aggregate-push-lines
     push-lines-requires
-    returns
     array-share-prefix-page
-    slice-aggregate-push-all
-    push-all-requires
+    slice-aggregate-hand-out
+    hand-out-requires
     same-length
-    returns-2)
+    returns)

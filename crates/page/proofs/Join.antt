@@ -7,9 +7,9 @@ use native.Mathlib.Numerals.{add-one}
 use native.Mathlib.Omega.{arith}
 use lib.ListN.{length}
 use Rattle.prelude.specs.Bounded.{tabulateFrom, tabulate}
-use Rattle.listing.specs.Listing.{joinFrom}
+use Rattle.page.specs.Joined.{joinFrom}
 use Rattle.page.specs.Appended.{Appended}
 use Rattle.page.proofs.Append.{append-nothing, append-then}
 
 module _ (f : ℕ → List ℕ) where
   joinFrom-end : (i n j : ℕ) → j ≡ i + n → joinFrom i (suc n) f ≡ joinFrom i n f ++ f j

@@ -6,8 +6,8 @@ use mathlib.Core.List.{List, _++_}
 use Prim.Native.Nat.{ℕ}
 use lib.Dec.{leb}
 use lib.ListN.{length, drop}
-use Rattle.listing.specs.declared.Written.{Written}
-use Rattle.listing.specs.declared.Written.the-variants.{Bytes, TooShort}
+use Rattle.page.specs.declared.Written.{Written}
+use Rattle.page.specs.declared.Written.the-variants.{Bytes, TooShort}
 
 module _ (text before : List ℕ) where
   -- the text is no longer than the memory

@@ -7,10 +7,10 @@ use native.Mathlib.Omega.{arith}
 use borrow.Author.Tests.{le-leb, lt-leb}
 use lib.ListN.{length, take, drop, length-append}
 use lib.Seq.{take-append-seam}
 use Rattle.page.specs.Appended.{Appended}
-use Rattle.listing.specs.Written.{isRoom, writtenOf, bufferAfter, WrittenIs}
-use Rattle.listing.specs.declared.Written.{Written}
-use Rattle.listing.specs.declared.Written.the-variants.{Bytes, TooShort}
+use Rattle.page.specs.Written.{isRoom, writtenOf, bufferAfter, WrittenIs}
+use Rattle.page.specs.declared.Written.{Written}
+use Rattle.page.specs.declared.Written.the-variants.{Bytes, TooShort}
 
 -- a text that was appended at the front
 pub append-front : {most : ℕ} {b text after : List ℕ} {end : ℕ} → Appended most b 0 text after end
