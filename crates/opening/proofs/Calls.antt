@@ -31,7 +31,7 @@ use Rattle.solver.specs.declared.Solved.{Solved}
 use Rattle.solver.specs.declared.Solved.the-variants.{Found, Inconsistent as None}
 use Rattle.solver.proofs.Least.{solve-least}
 use Rattle.listing.specs.Listing.{listing}
-use Rattle.opening.specs.Calls.{withoutLine, summaryFor, summary, judgementFor, judgement, Left, Leaves, kept, written, solvedFor, solvingFor, solving, listingFor, listed}
+use Rattle.opening.specs.Calls.{withoutLine, summaryFor, summary, judgementFor, judgement, Left, Leaves, kept, written, handedOut, solvedFor, solvingFor, solving, listingFor, listed}
 use Rattle.opening.specs.declared.Judgement.the-variants as J
 use Rattle.opening.specs.declared.Written.the-variants as W
 
@@ -48,8 +48,18 @@ pub written-room : (text m : List ℕ) → length text ≤ length m
     → written text m ≡ record { answer = W.Count (length text); memory = text ++ drop (length text) m }
 written-room text m h = rw (le-leb (length text) (length m) h, written)
 
-written-short : (text m : List ℕ) → length m < length text → written text m ≡ kept (W.Refused (withoutLine BufferTooShort)) m
-written-short text m h = rw (lt-leb (length text) (length m) h, written)
+-- what a writer did with the memory is what the call does
+pub written-by : (text m x : List ℕ) (w : PD.Written) → WrittenIs text m x w → Leaves (written text m) (handedOut w) x
+unfolding writtenOf bufferAfter
+written-by text m x w is = by-room (isRoom text m) refl
+  where
+    by-room : (b : Bool) → isRoom text m ≡ b → Leaves (written text m) (handedOut w) x
+    by-room true r =
+        let done : w ≡ PW.Bytes (length text) = is .answer ∙ rw r in
+        rw (r, written, done) (record { answer = refl; memory = is .buffer ∙ rw r })
+    by-room false r =
+        let done : w ≡ PW.TooShort = is .answer ∙ rw r in
+        rw (r, written, done) (record { answer = refl; memory = is .buffer ∙ rw r })
 
 module _ (sheet : List ℕ) (g : Reading) (e : g ≡ read sheet) where
   pub well-formed : g .outcome ≡ Accepted → WellFormed (g .network) × Named sheet (g .network)
@@ -139,34 +149,7 @@ module _ (sheet : List ℕ) (g : Reading) (e : g ≡ read sheet) where
         by-end Spent p = unsolved Spent p refl (is .table ∙ rw (p, tableAfter))
 
     -- the listing writer's answer is the call's
-    module _ (t m : List ℕ) (sized : length t ≡ cells (g .network)) where
-      abbrev text : List ℕ
-      text = listing sheet (g .network) t
-
-      listing-as : written text m ≡ listed sheet t m
-      listing-as = rw (eq-eqb (length t) (cells (g .network)) sized, listingFor) at (listed-of Accepted a t m)
-
-      bytes-of : (b : Bool) (r : PD.Written) (n : ℕ) → r ≡ cond b (PW.Bytes (length text)) PW.TooShort → r ≡ PW.Bytes n
-          → (b ≡ true) × (n ≡ length text)
-      bytes-of true r n p q = (refl, cc)
-      bytes-of false r n p q = absurd (let z : _≡_ {A = ℕ} 0 1 = cc in omega arith)
-
-      short-of : (b : Bool) (r : PD.Written) → r ≡ cond b (PW.Bytes (length text)) PW.TooShort → r ≡ PW.TooShort → b ≡ false
-      short-of true r p q = absurd (let z : _≡_ {A = ℕ} 0 1 = cc in omega arith)
-      short-of false r p q = refl
-
-      pub listing-written : (x : List ℕ) (r : PD.Written) (n : ℕ) → WrittenIs text m x r → r ≡ PW.Bytes n
-          → Leaves (listed sheet t m) (W.Count n) x
-      unfolding writtenOf bufferAfter
-      listing-written x r n is q =
-          let w = bytes-of (isRoom text m) r n (is .answer) q in
-          leaves-as (sym (written-room text m (leb-true _ _ (w .0))) ∙ listing-as)
-          (record { answer = ap W.Count (w .1); memory = is .buffer ∙ rw (w .0) })
-
-      pub listing-short : (x : List ℕ) (r : PD.Written) → WrittenIs text m x r → r ≡ PW.TooShort
-          → Leaves (listed sheet t m) (W.Refused (withoutLine BufferTooShort)) x
-      unfolding writtenOf bufferAfter
-      listing-short x r is q =
-          let w = short-of (isRoom text m) r (is .answer) q in
-          leaves-as (sym (written-short text m (leb-false _ _ w)) ∙ listing-as)
-          (record { answer = refl; memory = is .buffer ∙ rw w })
+    pub listing-written : (t m : List ℕ) → length t ≡ cells (g .network) → (x : List ℕ) (w : PD.Written) → WrittenIs (listing sheet (g .network) t) m x w
+        → Leaves (listed sheet t m) (handedOut w) x
+    listing-written t m sized x w is =
+        leaves-as (rw (eq-eqb (length t) (cells (g .network)) sized, listingFor) at (listed-of Accepted a t m)) (written-by _ m x w is)

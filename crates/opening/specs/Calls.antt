@@ -6,6 +6,8 @@ use mathlib.Core.List.{List, _++_}
 use Prim.Native.Nat.{ℕ}
 use lib.Dec.{eqb, leb}
 use lib.ListN.{length, drop}
+use Rattle.page.specs.declared.Written as PD
+use Rattle.page.specs.declared.Written.the-variants as PW
 use Rattle.refusal.specs.Refusal.{refusal}
 use Rattle.refusal.specs.declared.Cause.{Cause}
 use Rattle.refusal.specs.declared.Refusal.{Refusal}
@@ -76,6 +78,11 @@ written text m =
       | true ↦ record { answer = W.Count (length text); memory = text ++ drop (length text) m }
       | false ↦ kept (W.Refused (withoutLine BufferTooShort)) m
     ]
+
+-- the same by what a writer did
+abbrev pub handedOut : PD.Written → Written
+handedOut (PW.Bytes n) = W.Count n
+handedOut PW.TooShort = W.Refused (withoutLine BufferTooShort)
 
 -- solving: 12 "even where 13 would follow", then the least solution or 13
 abbrev pub solvedFor : End → List ℕ → List ℕ → Left

@@ -1,7 +1,7 @@
 // The public calls. None asks anything of its caller: whatever the bytes and the lengths are, the answer is a defined one, and a
 // refusal leaves the lent memory as it was.
 ghost use mathlib.Core.Path.{_≡_};
-ghost use Rattle.opening.specs.Calls.{withoutLine, summary, judgement, solving, listed, Leaves};
+ghost use Rattle.opening.specs.Calls.{withoutLine, summary, judgement, solving, listed, Leaves, handedOut};
 ghost use Rattle.opening.specs.Play.{eventsDue, eventsDueOn, answerTo};
 use checker::Verdict;
 use dispatch::Dispatched;
@@ -112,6 +112,16 @@ pub fn solve_sheet(sheet: &[u8], table: &mut [u16]) -> Written
     }
 }
 
+// What a writer did with the memory that it was lent, as the call's answer.
+fn handed_out(written: page::Written) -> Written
+    ensures { λ r. ⌜ r ≡ handedOut written ⌝ }
+{
+    match written {
+        page::Written::Bytes(n) => Written::Count(n),
+        page::Written::TooShort => Written::Refused(without_line(Cause::BufferTooShort)),
+    }
+}
+
 // The listing of any table of the right length, into the first bytes of out.
 pub fn write_listing(sheet: &[u8], table: &[u16], out: &mut [u8]) -> Written
     ensures { λ r. ⌜ Leaves (listed (now (sheet .entry)) (now (table .entry)) (now (out .entry))) r (now (out .exit)) ⌝ }
@@ -125,11 +135,7 @@ pub fn write_listing(sheet: &[u8], table: &[u16], out: &mut [u8]) -> Written
             if table.len() != network::cell_count(network.events, network.signals) {
                 return Written::Refused(without_line(Cause::WrongTableLength));
             }
-            let written = listing::write(sheet, network, table, out);
-            match written {
-                page::Written::Bytes(n) => Written::Count(n),
-                page::Written::TooShort => Written::Refused(without_line(Cause::BufferTooShort)),
-            }
+            handed_out(listing::write(sheet, network, table, out))
         }
     }
 }

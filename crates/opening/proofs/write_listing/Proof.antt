@@ -1,7 +1,7 @@
 -- `opening::write_listing` meets its contract: the outcome of the reading, then the table's length, then what the writer did. Assumes nothing.
 use denote.Ref.{now}
 use mathlib.Core.Path.{sym, _∙_}
-use Rattle.opening.proofs.Calls.{well-formed, listing-refused, listing-wrong, listing-written, listing-short}
+use Rattle.opening.proofs.Calls.{well-formed, listing-refused, listing-wrong, listing-written}
 use borrow.Author.Needs.{needs}
 use Rattle.opening.proofs.write_listing.Statement.{statement}
 use Rattle.opening.proofs.write_listing.Tie as tie
@@ -19,7 +19,8 @@ cell-count-requires : tie.Need-cell-count-requires
 cell-count-requires c κs =
     let args = c .before .before .before .before .before .before .before .args in
     let read = c .before .before .before .read in
-    let w = well-formed (now (args .sheet)) (read .result) (read .ensures) (c .enum-told .given .1) .0 in
+    let enum-told = c .enum-told in
+    let w = well-formed (now (args .sheet)) (read .result) (read .ensures) (enum-told .given .1) .0 in
     (w .events, w .signals)
 
 without-line-requires : tie.Need-without-line-requires
@@ -27,12 +28,13 @@ without-line-requires c κs = search needs
 
 returns : tie.Need-returns
 returns c =
+    let without-line = c .without-line in
     let args = c .before .before .before .before .before .before .before .before .before .before .args in
     let read = c .before .before .before .before .before .before .read in
     let enum-told = c .before .before .before .enum-told in
     let if1 = c .before .if1 in
     let cell-count = c .before .before .cell-count in
-    rw (c .without-line .ensures)
+    rw (without-line .ensures)
     (listing-wrong (now (args .sheet)) (read .result) (read .ensures) (enum-told .given .1) (now (args .table)) (now (args .out))
     (λ z. if1 .taken (z ∙ sym (cell-count .ensures))))
 
@@ -46,14 +48,8 @@ write-requires c κs =
     let w = well-formed (now (args .sheet)) (read .result) (read .ensures) (enum-told .given .1) in
     (w .0, w .1, if1 .left ∙ cell-count .ensures)
 
-enum-known-written : tie.Need-enum-known-written
-enum-known-written c = search needs
-
-enum-told-2 : tie.Need-enum-told-2
-enum-told-2 c = search needs
-
-without-line-requires-2 : tie.Need-without-line-requires-2
-without-line-requires-2 c κs = search needs
+handed-out-requires : tie.Need-handed-out-requires
+handed-out-requires c κs = search needs
 
 returns-2 : tie.Need-returns-2
 returns-2 c =
@@ -67,31 +63,16 @@ same-length c = search needs
 
 returns-3 : tie.Need-returns-3
 returns-3 c =
-    let args = c .before .before .before .before .before .before .before .before .before .before .before .before .before .before .before .before .args in
-    let read = c .before .before .before .before .before .before .before .before .before .before .before .before .read in
-    let enum-told = c .before .before .before .before .before .before .before .before .before .enum-told in
-    let if1 = c .before .before .before .before .before .before .before .if1 in
-    let cell-count = c .before .before .before .before .before .before .before .before .cell-count in
-    let write = c .before .before .before .before .before .write in
-    let written = c .before .written in
-    listing-written (now (args .sheet)) (read .result) (read .ensures) (enum-told .given .1) (now (args .table)) (now (args .out))
-    (if1 .left ∙ cell-count .ensures) (write .last .1 .1 .1 .0) (write .result) (written .given .0 .0) (write .ensures) (written .given .1)
-
-same-length-2 : tie.Need-same-length-2
-same-length-2 c = search needs
-
-returns-4 : tie.Need-returns-4
-returns-4 c =
-    let args = c .before .before .before .before .before .before .before .before .before .before .before .before .before .before .before .before .args in
-    let read = c .before .before .before .before .before .before .before .before .before .before .before .before .read in
-    let enum-told = c .before .before .before .before .before .before .before .before .before .enum-told in
-    let if1 = c .before .before .before .before .before .before .before .if1 in
-    let cell-count = c .before .before .before .before .before .before .before .before .cell-count in
-    let write = c .before .before .before .before .before .write in
-    let enum-told2 = c .before .enum-told2 in
-    rw (c .without-line2 .ensures)
-    (listing-short (now (args .sheet)) (read .result) (read .ensures) (enum-told .given .1) (now (args .table)) (now (args .out))
-    (if1 .left ∙ cell-count .ensures) (write .last .1 .1 .1 .0) (write .result) (write .ensures) (enum-told2 .given .1))
+    let handed-out = c .handed-out in
+    let args = c .before .before .before .before .before .before .before .before .before .before .before .before .before .before .args in
+    let read = c .before .before .before .before .before .before .before .before .before .before .read in
+    let enum-told = c .before .before .before .before .before .before .before .enum-told in
+    let if1 = c .before .before .before .before .before .if1 in
+    let cell-count = c .before .before .before .before .before .before .cell-count in
+    let write = c .before .before .before .write in
+    rw (handed-out .ensures)
+    (listing-written (now (args .sheet)) (read .result) (read .ensures) (enum-told .given .1) (now (args .table)) (now (args .out))
+    (if1 .left ∙ cell-count .ensures) (write .last .1 .1 .1 .0) (write .result) (write .ensures))
 
 pub write-listing-spec : {M : Type 1} → statement M
 write-listing-spec =
@@ -104,11 +85,7 @@ write-listing-spec =
     without-line-requires
     returns
     write-requires
-    enum-known-written
-    enum-told-2
-    without-line-requires-2
+    handed-out-requires
     returns-2
     same-length
-    returns-3
-    same-length-2
-    returns-4)
+    returns-3)
