@@ -1,9 +1,11 @@
 //! Sheets and tables to try, made from a seed and nothing else.
 //!
 //! `sheet` makes valid and damaged sheets of all sizes, `tiny_sheet` those that the search of `model.rs` can finish, and `table`
-//! the bytes of a table for a sheet that was accepted.
+//! the bytes of a table for a sheet that was accepted. `house_sheet` makes sheets whose house forms are worth a look, and `retyped`
+//! types the procedure of an accepted sheet another way.
 
-use crate::model::{self, Net, Verdict};
+use crate::model::{self, Kind, Net, Verdict};
+use std::collections::BTreeSet;
 
 // ---------------------------------------------------------------- Chance
 
@@ -55,6 +57,7 @@ impl Rng {
 
 // ---------------------------------------------------------------- Valid sheets
 
+#[derive(Clone)]
 struct DraftRule {
     kind: &'static str,
     from: usize,
@@ -302,8 +305,7 @@ fn shuffle_and_repeat(rng: &mut Rng, rules: &mut [DraftRule]) {
     }
     if rules.len() >= 2 && rng.chance(15) {
         let (old, new) = (rng.below(rules.len()), rng.below(rules.len()));
-        let DraftRule { kind, from, to, limit, .. } = rules[old];
-        rules[new] = DraftRule { kind, from, to, limit, label: rules[old].label.clone() };
+        rules[new] = rules[old].clone();
     }
 }
 
@@ -329,6 +331,225 @@ pub fn tiny_sheet(rng: &mut Rng) -> Vec<u8> {
         if model::search_size(&model::read(&sheet).unwrap()) <= 2_000_000.0 {
             return sheet;
         }
+    }
+}
+
+// ---------------------------------------------------------------- One procedure typed many ways
+
+/// As many rules as a sheet may have.
+const RULES_MOST: usize = model::RULES_MOST as usize;
+
+/// A sheet for the house form, and the word for what it was made for.
+pub fn house_sheet(rng: &mut Rng) -> (&'static str, Vec<u8>) {
+    let (kind, mut draft) = match rng.below(10) {
+        0..=2 => ("drafted", drafted(rng)),
+        3..=5 => ("crowded", crowded(rng)),
+        _ => ("brimming", brimming(rng)),
+    };
+    type_anew(rng, &mut draft);
+    let mut bytes = draft.paper().bytes();
+    match rng.below(100) {
+        0..=9 => ("damaged", damaged(rng, draft.paper())),
+        10..=12 => {
+            append_bytes(rng, &mut bytes);
+            ("damaged", bytes)
+        }
+        _ => (kind, bytes),
+    }
+}
+
+/// A sheet as those for the solver.
+fn drafted(rng: &mut Rng) -> Draft {
+    let (size, horizon) = (size(rng), horizon(rng));
+    draft(rng, size, horizon)
+}
+
+/// Up to 64 rules for a few pairs of ends and labels, so that few rows are left.
+fn crowded(rng: &mut Rng) -> Draft {
+    let (events, signals, rules) = (rng.between(1, 5) as usize, rng.between(0, 4) as usize, rng.between(0, 64) as usize);
+    let horizon = horizon(rng);
+    let mut draft = bare(rng, &Size { events, signals: signals.min(events), rules }, horizon);
+    let places: Vec<DraftRule> = (0..rng.between(1, 12)).map(|_| house_rule(rng, &draft)).collect();
+    for _ in 0..rules {
+        let mut rule = places[rng.below(places.len())].clone();
+        rule.kind = rng.pick(&["max", "min", "fix"]);
+        let limit = if rng.chance(50) { rule.limit + rng.between(-2, 2) } else { house_limit(rng) };
+        rule.limit = limit.clamp(-10_080, 10_080);
+        draft.rules.push(rule);
+    }
+    draft
+}
+
+/// About 64 rows left, or more: some `fix` rules, which leave two rows each, and others, which leave one.
+fn brimming(rng: &mut Rng) -> Draft {
+    let goal = match rng.below(10) {
+        0..=2 => 64,
+        3..=5 => 65,
+        6 => 63,
+        7 => 66,
+        8 => rng.between(58, 72),
+        _ => rng.between(65, 128),
+    } as usize;
+    let fewest = goal.saturating_sub(RULES_MOST);
+    let fixes = if rng.chance(20) { goal / 2 } else { (fewest + rng.below(8)).min(goal / 2) };
+    let (events, signals, horizon) = (rng.between(12, 16) as usize, rng.between(0, 4) as usize, horizon(rng));
+    let mut draft = bare(rng, &Size { events, signals, rules: goal - fixes }, horizon);
+    let long = rng.chance(25);
+    if long {
+        draft.events = long_names(rng, events);
+    }
+    let mut left = BTreeSet::new();
+    while left.len() < 2 * fixes {
+        let mut rule = house_rule(rng, &draft);
+        rule.kind = "fix";
+        if rule.from != rule.to && !left.contains(&place(&rule)) {
+            left.extend([place(&rule), place(&turned(&rule))]);
+            draft.rules.push(rule);
+        }
+    }
+    while left.len() < goal {
+        let mut rule = house_rule(rng, &draft);
+        if long {
+            rule.limit = -rng.between(1_000, 10_080);
+            rule.label = rng.different(signals, signals).into_iter().map(|signal| (signal, rng.chance(10))).collect();
+        }
+        if left.insert(place(&rule)) {
+            rule.kind = if rule.from == rule.to && rng.chance(50) { "fix" } else { "max" };
+            draft.rules.push(rule);
+        }
+    }
+    draft
+}
+
+/// Names of 8 bytes.
+fn long_names(rng: &mut Rng, count: usize) -> Vec<String> {
+    let mut names = BTreeSet::new();
+    while names.len() < count {
+        names.insert(name(rng, 8));
+    }
+    let names: Vec<String> = names.into_iter().collect();
+    rng.different(count, count).into_iter().map(|place| names[place].clone()).collect()
+}
+
+/// A `max` rule from anywhere to anywhere, at times from an event to itself.
+fn house_rule(rng: &mut Rng, draft: &Draft) -> DraftRule {
+    let from = rng.below(draft.events.len());
+    let to = if rng.chance(10) { from } else { rng.below(draft.events.len()) };
+    DraftRule { kind: "max", from, to, limit: house_limit(rng), label: label(rng, draft.signals.len()) }
+}
+
+/// Both ends, around 0, and between.
+fn house_limit(rng: &mut Rng) -> i64 {
+    match rng.below(6) {
+        0 => rng.pick(&[10_080, -10_080, 10_079, -10_079]),
+        1 => 0,
+        2 => rng.between(-2, 2),
+        3 => rng.between(-10_080, 10_080),
+        _ => rng.between(-120, 120),
+    }
+}
+
+/// The ends of a `max` rule and its label in any order: what two rows must share for one of them to go.
+fn place(rule: &DraftRule) -> (usize, usize, BTreeSet<(usize, bool)>) {
+    (rule.from, rule.to, rule.label.iter().copied().collect())
+}
+
+/// The same rule seen from its other end: to - from <= limit says that from - to >= -limit, and an equal difference is one both ways.
+fn turned(rule: &DraftRule) -> DraftRule {
+    let kind = match rule.kind {
+        "max" => "min",
+        "min" => "max",
+        kind => kind,
+    };
+    DraftRule { kind, from: rule.to, to: rule.from, limit: -rule.limit, label: rule.label.clone() }
+}
+
+/// Another typing of the same procedure, for a sheet that was accepted.
+pub fn retyped(rng: &mut Rng, sheet: &[u8], net: &Net) -> Vec<u8> {
+    let name = |event: &std::ops::Range<usize>| String::from_utf8(sheet[event.clone()].to_vec()).expect("a name");
+    let word = |kind: Kind| match kind {
+        Kind::Max => "max",
+        Kind::Min => "min",
+        Kind::Fix => "fix",
+    };
+    let rule = |rule: &model::Rule| {
+        DraftRule { kind: word(rule.kind), from: rule.from, to: rule.to, limit: rule.limit, label: rule.label.clone() }
+    };
+    let mut draft = Draft {
+        horizon: net.horizon,
+        events: net.events.iter().map(name).collect(),
+        signals: net.signals.iter().map(|signal| (signal.letter, signal.event)).collect(),
+        rules: net.rules.iter().map(rule).collect(),
+    };
+    type_anew(rng, &mut draft);
+    draft.paper().bytes()
+}
+
+/// Types the rules of a draft another way; what they ask stays the same.
+fn type_anew(rng: &mut Rng, draft: &mut Draft) {
+    let rules = &mut draft.rules;
+    split_some(rng, rules);
+    join_some(rng, rules);
+    double_some(rng, rules);
+    for rule in rules.iter_mut() {
+        if rng.chance(50) {
+            *rule = turned(rule);
+        }
+        rule.label = rng.different(rule.label.len(), rule.label.len()).into_iter().map(|place| rule.label[place]).collect();
+    }
+    let order = rng.different(rules.len(), rules.len());
+    *rules = order.into_iter().map(|place| rules[place].clone()).collect();
+}
+
+/// `max` and `min` for some of the `fix` rules, as long as there is room.
+fn split_some(rng: &mut Rng, rules: &mut Vec<DraftRule>) {
+    let percent = rng.pick(&[0, 30, 100]);
+    for place in 0..rules.len() {
+        if rules[place].kind == "fix" && rules.len() < RULES_MOST && rng.chance(percent) {
+            rules[place].kind = "max";
+            let min = DraftRule { kind: "min", ..rules[place].clone() };
+            rules.push(min);
+        }
+    }
+}
+
+/// `fix` for some pairs of a `max` and a `min` that ask for one difference.
+fn join_some(rng: &mut Rng, rules: &mut Vec<DraftRule>) {
+    let percent = rng.pick(&[0, 30, 100]);
+    let as_max = |rule: &DraftRule| if rule.kind == "min" { turned(rule) } else { rule.clone() };
+    for one in 0..rules.len() {
+        let partner = |rule: &DraftRule| {
+            let (rule, one) = (as_max(rule), as_max(&rules[one]));
+            rule.kind == "max" && one.kind == "max" && place(&rule) == place(&turned(&one)) && rule.limit == -one.limit
+        };
+        let found = (one + 1..rules.len()).find(|&other| partner(&rules[other]));
+        if let (Some(other), true) = (found, rng.chance(percent)) {
+            rules[one].kind = "fix";
+            rules.remove(other);
+        }
+        if one + 1 >= rules.len() {
+            break;
+        }
+    }
+}
+
+/// Rules a second time, some of them with slack, in the room that there is.
+fn double_some(rng: &mut Rng, rules: &mut Vec<DraftRule>) {
+    if rules.is_empty() || rng.chance(30) {
+        return;
+    }
+    for _ in 0..rng.below(RULES_MOST - rules.len() + 1) {
+        let mut double = rules[rng.below(rules.len())].clone();
+        let slack = rng.pick(&[0, 0, 1, 2, 30, 20_160]);
+        if double.kind == "fix" && rng.chance(70) {
+            double.kind = rng.pick(&["max", "min"]);
+        }
+        double.limit = match double.kind {
+            "max" => (double.limit + slack).min(10_080),
+            "min" => (double.limit - slack).max(-10_080),
+            _ => double.limit,
+        };
+        rules.push(double);
     }
 }
 

@@ -1,9 +1,14 @@
-//! The comparison of `libopening.a` with the model of document 01.
+//! The comparison of `libopening.a`, and of a program that prints house forms, with the model of documents 01 and 02.
 //!
-//! compare [SEED [COUNT]]            generated sheets and tables, every answer and every lent byte compared
-//! compare expected DIR              the answers that document 01 asks for the trial files DIR/001.csv, 002.csv, ..
-//! compare selftest [SEED [COUNT]]   the model's two solvers against each other on tiny sheets
-//! compare faults [SEED [COUNT]]     (standalone builds) that the comparison notices each wrong program of faults.rs
+//! compare [SEED [COUNT]]                  generated sheets and tables, every answer and every lent byte compared
+//! compare house PROGRAM [SEED [COUNT]]    generated sheets, what the program prints for each compared
+//! compare expected DIR                    the answers that the papers ask for the trial files DIR/001.csv, 002.csv, ..
+//! compare selftest [SEED [COUNT]]         the model's two solvers against each other, and forms against sheets, on tiny sheets
+//!
+//! In standalone builds also:
+//! compare faults [SEED [COUNT]]           that the comparison notices each wrong program of faults.rs
+//! compare house-faults [SEED [COUNT]]     that `house` notices each wrong program of faults.rs that prints house forms
+//! compare house-standin [FAULT]           the model as such a program, or one of the wrong ones
 //!
 //! Build: rustc --edition 2021 -O -o compare main.rs -L native=DIR   (DIR has libopening.a)
 //!    or: rustc --edition 2021 -O -o compare main.rs --cfg standalone
@@ -11,6 +16,7 @@
 #[cfg(standalone)]
 mod faults;
 mod gen;
+mod house;
 mod library;
 mod model;
 
@@ -18,21 +24,31 @@ use gen::Rng;
 use library::Library;
 use model::{Net, Refusal, Verdict};
 use std::collections::BTreeMap;
+#[cfg(standalone)]
+use std::io::Read;
 use std::io::Write;
 use std::process::exit;
 
 const SEED: u64 = 1;
 const COUNT: u64 = 20_000;
 const TINY_COUNT: u64 = 5_000;
+const HOUSE_COUNT: u64 = 2_000;
 
 fn main() {
     let arguments: Vec<String> = std::env::args().skip(1).collect();
     let words: Vec<&str> = arguments.iter().map(String::as_str).collect();
     match words[..] {
+        ["house", program, ref numbers @ ..] => house::compare(program, number(numbers, 0, SEED), number(numbers, 1, HOUSE_COUNT)),
         ["expected", directory] => print(&expected(directory)),
         ["selftest", ref numbers @ ..] => selftest(number(numbers, 0, SEED), number(numbers, 1, TINY_COUNT)),
         #[cfg(standalone)]
         ["faults", ref numbers @ ..] => notice_faults(number(numbers, 0, SEED), number(numbers, 1, COUNT)),
+        #[cfg(standalone)]
+        ["house-faults", ref numbers @ ..] => notice_house_faults(number(numbers, 0, SEED), number(numbers, 1, HOUSE_COUNT)),
+        #[cfg(standalone)]
+        ["house-standin"] => house_standin(model::house),
+        #[cfg(standalone)]
+        ["house-standin", name] => house_standin(house_fault(name)),
         ref numbers => compare(number(numbers, 0, SEED), number(numbers, 1, COUNT)),
     }
 }
@@ -41,7 +57,7 @@ fn number(words: &[&str], place: usize, otherwise: u64) -> u64 {
     match words.get(place).map(|word| word.parse()) {
         None => otherwise,
         Some(Ok(number)) if words.len() <= 2 => number,
-        Some(_) => fail(2, "usage: compare [SEED [COUNT]] | expected DIR | selftest [SEED [COUNT]] | faults [SEED [COUNT]]"),
+        Some(_) => fail(2, "usage: compare [SEED [COUNT]] | house PROGRAM [SEED [COUNT]] | expected DIR | selftest [SEED [COUNT]]"),
     }
 }
 
@@ -262,9 +278,13 @@ fn check_memory(which: &str, case: &Case, table: &Lent, right: &Lent, lent: &Len
 
 /// The sheet and the table, so that the call can be made by hand.
 fn scene(case: &Case, table: &Lent) -> String {
-    let lines = case.sheet.slice().split_inclusive(|&byte| byte == b'\n');
-    let text: String = lines.map(|line| format!("  {}\n", line.escape_ascii())).collect();
+    let text = text_of(case.sheet.slice());
     format!("sheet of {} bytes\n{text}table of {} bytes {:?}", case.sheet.length, table.length, table.slice())
+}
+
+/// The lines of some bytes, each with its line feed written out.
+fn text_of(bytes: &[u8]) -> String {
+    bytes.split_inclusive(|&byte| byte == b'\n').map(|line| format!("  {}\n", line.escape_ascii())).collect()
 }
 
 fn reading_kind(reading: &Result<Net, Refusal>) -> String {
@@ -300,7 +320,7 @@ fn judge_kind(outcome: &Result<Verdict, Refusal>) -> String {
 
 // ---------------------------------------------------------------- selftest and faults
 
-/// Raising and searching agree on tiny sheets.
+/// Raising and searching agree on tiny sheets, and so do a sheet and its house form, and its forms and those of another typing.
 fn selftest(seed: u64, cases: u64) {
     let mut counts = Counts::new();
     for seed in seed..seed + cases {
@@ -311,13 +331,33 @@ fn selftest(seed: u64, cases: u64) {
             println!("raised {raised:?}\nfound {found:?}\n{}again: compare selftest {seed} 1", sheet.escape_ascii());
             exit(1);
         }
+        if let Err(words) = selftest_house(&sheet, &net, seed) {
+            println!("{words}\n{}again: compare selftest {seed} 1", text_of(&sheet));
+            exit(1);
+        }
         let kind = raised.map_or("no table".to_string(), |table| format!("a table, {}", alike(&net, &table)));
         count(&mut counts, format!("{} cases, {kind}", net.cases()));
     }
     for (kind, count) in &counts {
         println!("{count:>8}  {kind}");
     }
-    println!("{cases} tiny sheets from seed {seed}: raising and searching agree");
+    println!("{cases} tiny sheets from seed {seed}: raising and searching agree, sheets and house forms too");
+}
+
+/// "The form reads back to the same good tables, and a second pass changes no byte"; points 1 and 2 have all that may differ.
+fn selftest_house(sheet: &[u8], net: &Net, seed: u64) -> Result<(), String> {
+    let form = model::house(sheet).map_err(|refusal| format!("no form: {refusal:?}"))?;
+    let back = model::read(&form).map_err(|refusal| format!("its form is not read: {refusal:?}"))?;
+    let names = |sheet: &[u8], net: &Net| -> Vec<Vec<u8>> { net.events.iter().map(|event| sheet[event.clone()].to_vec()).collect() };
+    let same_head = net.horizon == back.horizon && names(sheet, net) == names(&form, &back) && net.signals == back.signals;
+    if !same_head || !model::same_lawful_rows(net, &back) {
+        return Err("its form has other good tables".to_string());
+    }
+    let retyped = gen::retyped(&mut Rng::new(seed), sheet, net);
+    if [&form, &retyped].iter().any(|other| model::house(other).as_ref() != Ok(&form)) {
+        return Err("its form or another typing has another form".to_string());
+    }
+    Ok(())
 }
 
 /// Each wrong program is noticed within so many cases.
@@ -336,16 +376,59 @@ fn notice_faults(seed: u64, cases: u64) {
     exit(if missed == 0 { 0 } else { 1 });
 }
 
+/// Each wrong program that prints house forms is noticed within so many sheets, and the right one that they are made from is right.
+#[cfg(standalone)]
+fn notice_house_faults(seed: u64, sheets: u64) {
+    let first_difference = |house: faults::House| {
+        let program = |sheet: &[u8]| house::printed(house(sheet));
+        (seed..seed + sheets).position(|seed| house::compare_one(&program, seed, &mut Counts::new()).is_err())
+    };
+    if let Some(place) = first_difference(faults::house_by_sorting) {
+        fail(1, &format!("a form by sorting differs from the model's: house-faults {} 1", seed + place as u64));
+    }
+    let mut missed = 0;
+    for (name, fault) in &faults::HOUSE_FAULTS {
+        let noticed = first_difference(*fault);
+        match noticed {
+            Some(place) => println!("{:>8}  {name}", place + 1),
+            None => println!("  missed  {name}"),
+        }
+        missed += u32::from(noticed.is_none());
+    }
+    println!("{} wrong programs, {missed} missed", faults::HOUSE_FAULTS.len());
+    exit(if missed == 0 { 0 } else { 1 });
+}
+
+#[cfg(standalone)]
+fn house_fault(name: &str) -> faults::House {
+    match faults::HOUSE_FAULTS.iter().find(|fault| fault.0 == name) {
+        Some(fault) => fault.1,
+        None => fail(2, "this is no fault of faults.rs"),
+    }
+}
+
+/// Prints the form of the sheet on standard input.
+#[cfg(standalone)]
+fn house_standin(house: faults::House) {
+    let mut sheet = vec![];
+    std::io::stdin().read_to_end(&mut sheet).unwrap_or_else(|error| fail(2, &error.to_string()));
+    print(&house::printed(house(&sheet)));
+}
+
 // ---------------------------------------------------------------- expected
 
-/// What document 01 asks for the trial files of a directory, up to the first missing number.
+/// What the papers ask for the trial files of a directory, up to the first missing number.
 fn expected(directory: &str) -> Vec<u8> {
     let mut text = vec![];
+    let mut last_form = None;
     for number in 1.. {
         let Ok(sheet) = std::fs::read(format!("{directory}/{number:03}.csv")) else { break };
         let table = std::fs::read(format!("{directory}/{number:03}.tab")).unwrap_or_default();
         text.extend(format!("{number:03} ").into_bytes());
-        text.extend(expected_one(&sheet, &table));
+        let reading = model::read(&sheet);
+        text.extend(reading_line(&reading).into_bytes());
+        text.extend(expected_house(&sheet, &mut last_form));
+        text.extend(expected_tables(&sheet, &reading, &table));
     }
     if text.is_empty() {
         fail(2, &format!("there is no {directory}/001.csv"));
@@ -353,14 +436,34 @@ fn expected(directory: &str) -> Vec<u8> {
     text
 }
 
-fn expected_one(sheet: &[u8], table: &[u8]) -> Vec<u8> {
-    let reading = model::read(sheet);
-    let mut text = reading_line(&reading).into_bytes();
+/// The house form's refusal; or the form, unless the last one before it was the same, whether it is its own form, and what the call says
+/// to a buffer that is one byte too short.
+fn expected_house(sheet: &[u8], last_form: &mut Option<Vec<u8>>) -> Vec<u8> {
+    let form = match model::house(sheet) {
+        Err(refusal) => return refused_line("house ", refusal).into_bytes(),
+        Ok(form) => form,
+    };
+    let mut text = match last_form {
+        Some(last) if *last == form => b"house as before\n".to_vec(),
+        _ => [b"house\n", &form[..]].concat(),
+    };
+    let again = if model::house(&form).as_ref() == Ok(&form) { "same" } else { "other" };
+    let short = match model::house_within(sheet, form.len() - 1) {
+        Ok(form) => form.len().to_string(),
+        Err(refusal) => short_refusal(refusal),
+    };
+    text.extend(format!("again {again} short {short}\n").into_bytes());
+    *last_form = Some(form);
+    text
+}
+
+fn expected_tables(sheet: &[u8], reading: &Result<Net, Refusal>, table: &[u8]) -> Vec<u8> {
+    let mut text = vec![];
     if !table.is_empty() {
-        text.extend(judged_line(&judge_outcome(&reading, table)).into_bytes());
-        text.extend(listed(sheet, &reading, &minutes(table)));
-        text.extend(asked_first(&reading, &minutes(table)).into_bytes());
-    } else if let Ok(net) = &reading {
+        text.extend(judged_line(&judge_outcome(reading, table)).into_bytes());
+        text.extend(listed(sheet, reading, &minutes(table)));
+        text.extend(asked_first(reading, &minutes(table)).into_bytes());
+    } else if let Ok(net) = reading {
         text.extend(match model::solve(net) {
             Some(table) => solved(sheet, net, &table),
             None => refused_line("solved ", of_call(13)).into_bytes(),
@@ -380,7 +483,7 @@ fn solved(sheet: &[u8], net: &Net, table: &[u16]) -> Vec<u8> {
         for list in lists(net) {
             text.extend(match model::due(net, table, minute, &list) {
                 Ok(events) => format!(" {events}").into_bytes(),
-                Err(number) => format!(" r{number}.0").into_bytes(),
+                Err(number) => format!(" {}", short_refusal(of_call(number))).into_bytes(),
             });
         }
         text.push(b'\n');
@@ -394,7 +497,7 @@ fn asked_first(reading: &Result<Net, Refusal>, table: &[u16]) -> String {
     for list in [vec![], vec![(0, false)]] {
         text.push_str(&match due_outcome(reading, table, 0, &list) {
             Ok(events) => format!(" {events}"),
-            Err(refusal) => format!(" r{}.{}", refusal.number, refusal.line),
+            Err(refusal) => format!(" {}", short_refusal(refusal)),
         });
     }
     text.push('\n');
@@ -431,6 +534,10 @@ fn lists(net: &Net) -> Vec<Vec<(u8, bool)>> {
         vec![(255, true)],
         vec![(b'{', false), (b'`', false)],
     ]
+}
+
+fn short_refusal(refusal: Refusal) -> String {
+    format!("r{}.{}", refusal.number, refusal.line)
 }
 
 fn refused_line(before: &str, refusal: Refusal) -> String {

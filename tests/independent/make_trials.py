@@ -1,11 +1,12 @@
 #!/usr/bin/env python3
-"""Writes the trial files of document 01: crates/trials/data/NNN.csv, NNN.tab and TRIALS.md beside this file.
+"""Writes the trial files of document 01 and of point 2 of document 02: crates/trials/data/NNN.csv, NNN.tab and TRIALS.md beside this file.
 
     make_trials.py          writes the files
     make_trials.py check    compares crates/trials/stdout (the output of `compare expected crates/trials/data`) with what is written
-                            here by hand from document 01; a trailing `...` leaves the rest of an answer open
+                            here by hand from the papers; a trailing `...` leaves the rest of an answer open, the lines `played` and
+                            `asked` are left out, and a house form is compared where one is written here
 
-A trial is: what it shows, the sheet, the answer, and for some a table. Nothing here is computed by the model.
+A trial is: what it shows, the sheet, the answer, for some a table, and for some a house form. Nothing here is computed by the model.
 """
 
 import pathlib
@@ -16,11 +17,11 @@ HOME = HERE.parent.parent / "crates" / "trials"
 TRIALS = []
 
 
-def trial(about, sheet, answer, table=None, tail=b""):
-    """`table` is a list of minutes; `tail` are bytes put behind them."""
+def trial(about, sheet, answer, table=None, tail=b"", house=None):
+    """`table` is a list of minutes; `tail` are bytes put behind them; `house` is the house form, its refusal, or `as before`."""
     sheet = sheet if isinstance(sheet, bytes) else sheet.encode("latin-1")
     table = None if table is None else b"".join(minute.to_bytes(2, "little") for minute in table) + tail
-    TRIALS.append((about, sheet, answer, table))
+    TRIALS.append((about, sheet, answer, table, answer if answer.startswith("refused") and house is None else house))
 
 
 def sheet(events, signals=(), rules=(), horizon=60):
@@ -273,19 +274,133 @@ def wrong_lengths():
     trial("a refused sheet: its own refusal, with an odd table too", line(4, "start"), "refused 7 line 4\njudged refused 7 line 4\nlisted refused 7 line 4", [0, 5, 6], b"\0")
 
 
+def house_forms():
+    one_procedure()
+    about_64_rows()
+    limits()
+    rows_and_labels()
+
+
+def zeros(events, signals=0):
+    """The listing of a table with minute 0 throughout."""
+    truths = [f"{case:0{signals}b}"[::-1].replace("0", "F").replace("1", "T") if signals else "-" for case in range(2**signals)]
+    return "\n".join(["", "case," + ",".join(events.split())] + [row + ",0" * len(events.split()) for row in truths])
+
+
+def turned(rule):
+    """A `max` or `min` rule from its other end."""
+    kind, start, end, limit, label = rule.split(",")
+    return ",".join([{"max": "min", "min": "max"}[kind], end, start, str(-int(limit)), label])
+
+
+def one_procedure():
+    events, signals = "start call door vault", ["p,start", "q,call"]
+    table = "case,start,call,door,vault\nFF,0,5,1,4\nTF,0,5,20,1\nFT,0,5,1,4\nTT,0,5,6,1"
+    one = lambda about, rules, house="as before": trial("one procedure, " + about, sheet(events, signals, rules), f"accepted 60 4 2 {len(rules)}\n{table}", house=house)
+    first = ["max,start,call,10,-", "min,start,call,5,-", "min,call,door,15,p!q", "max,start,door,30,-", "fix,door,vault,3,!p", "max,start,vault,50,q!p"]
+    rows = ["max,start,call,10,-", "max,start,door,30,-", "max,start,vault,50,!pq", "max,call,start,-5,-", "max,door,call,-15,p!q", "max,door,vault,3,!p", "max,vault,door,-3,!p"]
+    apart = first[:4] + ["max,door,vault,3,!p", "min,door,vault,3,!p"] + first[5:]
+    slack = ["max,start,call,11,-", "min,start,call,-5,-", "min,call,door,14,p!q", "max,start,door,10080,-", "max,door,vault,4,!p", "min,door,vault,-10080,!p", "max,start,vault,51,q!p"]
+    permuted = first[:2] + ["min,call,door,15,!qp"] + first[3:5] + ["max,start,vault,50,!pq"]
+    one("as its maker typed it", first, sheet(events, signals, rows))
+    one("rows shuffled", [first[place] for place in (4, 0, 5, 3, 1, 2)])
+    one("each row twice", [rule for rule in first for _ in range(2)])
+    one("max and min for fix", apart)
+    one("min for max and max for min", [turned(rule) for rule in apart])
+    one("the fix from its other end", first[:4] + ["fix,vault,door,-3,!p"] + first[5:])
+    one("min rows only", [rule if rule.startswith("min") else turned(rule) for rule in apart])
+    one("labels in another order", permuted)
+    one("doubles with slack behind the rows", apart + slack)
+    one("doubles with slack before the rows, from their other ends", [turned(rule) for rule in slack] + apart)
+    one("all of this", slack[3:] + permuted[:3] + [turned(rule) for rule in slack] + permuted[4:] + apart[::-1] + ["fix,vault,door,-3,!p"] + rows)
+    one("as its house form", rows)
+    one("as its house form from the end", rows[::-1])
+    # q has weight 1 now: cases 1 and 2 change places
+    swapped = "accepted 60 4 2 6\ncase,start,call,door,vault\nFF,0,5,1,4\nTF,0,5,1,4\nFT,0,5,20,1\nTT,0,5,6,1"
+    other = rows[:2] + ["max,start,vault,50,q!p", "max,call,start,-5,-", "max,door,call,-15,!qp"] + rows[5:]
+    trial("its signals the other way round: another form", sheet(events, signals[::-1], first), swapped, house=sheet(events, signals[::-1], other))
+
+
+def about_64_rows():
+    eight, nine, twelve = [" ".join(f"e{i}" for i in range(count)) for count in (8, 9, 12)]
+    count_up = lambda count: "\ncase," + ",".join(f"e{i}" for i in range(count)) + "\n-," + ",".join(map(str, range(count)))
+    full = [f"max,e{i},e{j},{100 * i + j},-" for i in range(8) for j in range(8)]
+    trial("64 `max` rows, from the end: 64 rows left", sheet(eight, rules=full[::-1]), "accepted 60 8 0 64" + zeros(eight), house=sheet(eight, rules=full))
+    own = full[:-1] + ["fix,e7,e7,0,-"]
+    trial("63 `max` rows and a `fix` from an event to itself: 64 rows left", sheet(eight, rules=own), "accepted 60 8 0 64" + zeros(eight), house=sheet(eight, rules=full[:-1] + ["max,e7,e7,0,-"]))
+    # 36 pairs of 9 events, without the two that are 7 apart, the one 8 apart and one more
+    ends = [(i, j) for i in range(9) for j in range(9) if 0 < abs(i - j) < 7 and {i, j} != {0, 1}]
+    fixes = [f"fix,e{i},e{j},{j - i},-" for i, j in ends if i < j]
+    trial("32 `fix` rows: 64 rows left", sheet(nine, rules=fixes), "accepted 60 9 0 32" + count_up(9), house=sheet(nine, rules=[f"max,e{i},e{j},{j - i},-" for i, j in ends]))
+    over = sheet(eight + " x", rules=full[:-1] + ["fix,e7,x,0,-"])
+    trial("63 `max` rows and a `fix`: 65 rows would be left", over, "accepted 60 9 0 64" + zeros(eight + " x"), house="refused 17 line 0")
+    trial("65 rows would be left, and a byte follows: 10", over + "x", "refused 10 line 78")
+    fixes = [f"fix,e{i},e{j},{j - i},-" for i in range(12) for j in range(i + 1, 12)]
+    trial("64 `fix` rows: 128 rows would be left", sheet(twelve, rules=fixes[:64]), "accepted 60 12 0 64" + count_up(12), house="refused 17 line 0")
+    merging = sheet("start door", ["p,start"], [f"fix,start,door,{limit},p" for limit in range(1, 65)])
+    trial("64 `fix` rows: two rows left", merging, "accepted 60 2 1 64" + NO_TABLE, house=sheet("start door", ["p,start"], ["max,start,door,1,p", "max,door,start,-64,p"]))
+
+
+def limits():
+    ends = ["max,start,a,10080,-", "max,start,b,-10080,-", "min,start,c,10080,-", "min,start,d,-10080,-", "fix,start,e,10080,-", "fix,start,f,-10080,-"]
+    rows = ["max,start,a,10080,-", "max,start,b,-10080,-", "max,start,e,10080,-", "max,start,f,-10080,-"]
+    rows += ["max,c,start,-10080,-", "max,d,start,10080,-", "max,e,start,-10080,-", "max,f,start,10080,-"]
+    form = sheet("start a b c d e f", rules=rows, horizon=10080)
+    trial("limits at both ends, of each kind", sheet("start a b c d e f", rules=ends, horizon=10080), "accepted 10080 7 0 6" + NO_TABLE, house=form)
+    events = " ".join("abcdefghijklmnop")
+    near = ["max,a,b,0,-", "min,c,d,0,-", "fix,e,f,0,-", "max,g,h,1,-", "min,g,h,1,-", "fix,i,j,1,-", "max,k,l,-1,-", "min,m,n,-1,-", "fix,o,p,-1,-"]
+    rows = ["max,a,b,0,-", "max,d,c,0,-", "max,e,f,0,-", "max,f,e,0,-", "max,g,h,1,-", "max,h,g,-1,-", "max,i,j,1,-", "max,j,i,-1,-", "max,k,l,-1,-", "max,n,m,1,-", "max,o,p,-1,-", "max,p,o,1,-"]
+    table = "\ncase,a,b,c,d,e,f,g,h,i,j,k,l,m,n,o,p\n-,0,0,0,0,0,0,0,1,0,1,1,0,0,0,1,0"
+    trial("limits 0, 1 and -1, of each kind", sheet(events, rules=near), "accepted 60 16 0 9" + table, house=sheet(events, rules=rows))
+    own = ["fix,f,f,0,-", "max,start,start,5,-", "max,a,a,-5,p", "max,a,a,5,-", "min,b,b,5,-", "min,c,c,-5,-", "fix,d,d,5,-", "fix,e,e,-5,-", "max,g,g,0,-", "min,g,g,0,-"]
+    rows = ["max,start,start,5,-", "max,a,a,5,-", "max,a,a,-5,p", "max,b,b,-5,-", "max,c,c,5,-", "max,d,d,-5,-", "max,e,e,-5,-", "max,f,f,0,-", "max,g,g,0,-"]
+    form = sheet("start a b c d e f g", ["p,start"], rows)
+    trial("rules from an event to itself, of each kind", sheet("start a b c d e f g", ["p,start"], own), "accepted 60 8 1 10" + NO_TABLE, house=form)
+
+
+def rows_and_labels():
+    events, signals = "start b a", ["z,b", "y,a"]
+    ends = [f"max,{start},{end}" for start in events.split() for end in events.split()]
+    # all labels of two signals: no letter true, then z, then y, then both
+    labels = ["-", "!z", "!y", "!z!y", "z", "z!y", "y", "!zy", "zy"]
+    rows = [f"{row},10,-" for row in ends[:5]] + [f"max,b,a,{9 - place},{label}" for place, label in enumerate(labels)] + [f"{row},0,-" for row in ends[6:]]
+    trial("rows ordered by from, to, true letters and false letters", sheet(events, signals, rows[::-1]), "accepted 60 3 2 17" + zeros(events, 2), house=sheet(events, signals, rows))
+    events, signals = "start door", ["p,start", "q,door"]
+    signs = [f"max,start,door,{text}" for text in ("20,!p", "10,p", "40,!q!p", "30,!qp", "25,!pq", "15,qp", "41,!p!q")] + ["min,door,start,-11,p"]
+    rows = [f"max,start,door,{text}" for text in ("20,!p", "40,!p!q", "10,p", "30,p!q", "25,!pq", "15,pq")]
+    trial("labels that differ in a sign only", sheet(events, signals, signs), "accepted 60 2 2 8" + zeros(events, 2), house=sheet(events, signals, rows))
+    stay = [f"max,{text}" for text in ("door,door,5,-", "start,door,30,p", "start,door,30,-", "start,door,10080,!p", "door,start,60,p", "door,start,0,-")]
+    rows = [f"max,{text}" for text in ("start,door,30,-", "start,door,10080,!p", "start,door,30,p", "door,start,0,-", "door,start,60,p", "door,door,5,-")]
+    trial("rows that no table can break, or that others imply, stay", sheet(events, signals, stay), "accepted 60 2 2 6" + zeros(events, 2), house=sheet(events, signals, rows))
+    events, signals = "start a b c", ["s,start", "r,a", "q,b", "p,c"]
+    signed = [[("" if case >> place & 1 else "!") + letter for place, letter in enumerate("srqp")] for case in range(16)]
+    rows = [f"max,start,c,{20 - case},{''.join(label)}" for case, label in enumerate(signed)]
+    typed = [f"max,start,c,{20 - case},{''.join(label[case % 4 :] + label[: case % 4])}" for case, label in enumerate(signed)]
+    typed = [turned(rule) if place % 3 == 0 else rule for place, rule in enumerate(typed[::-1])]
+    trial("labels of four signed letters, in another order than the signals", sheet(events, signals, typed), "accepted 60 4 4 16" + zeros(events, 4), house=sheet(events, signals, rows))
+    events, signals = " ".join(f"event{i:03}" for i in range(16)), [f"{letter},event{i:03}" for i, letter in enumerate("wxyz")]
+    rows = [f"max,event{i:03},event{j:03},-10080,!w!x!y!z" for i in range(12, 16) for j in range(16)]
+    typed = [turned(rule).replace("!w!x!y!z", "!z!x!w!y") if place % 2 else rule for place, rule in enumerate(rows[::-1])]
+    form = sheet(events, signals, rows, horizon=10080)
+    assert len(form) == 2663
+    trial("the longest form there is, 2,663 bytes", sheet(events, signals, typed, horizon=10080), "accepted 10080 16 4 64" + NO_TABLE, house=form)
+    bare = sheet("start door", ["p,door"])
+    trial("a sheet without rules is its own form", bare, "accepted 60 2 1 0" + zeros("start door", 1), house=bare)
+
+
 def write():
     data = HOME / "data"
     data.mkdir(parents=True, exist_ok=True)
     for old in data.glob("[0-9]*"):
         old.unlink()
     index = ["# The trial files", "", "Written by `independent/make_trials.py`. `T`: there is a table.", ""]
-    for number, (about, text, _, table) in enumerate(TRIALS, 1):
+    for number, (about, text, _, table, _) in enumerate(TRIALS, 1):
         (data / f"{number:03}.csv").write_bytes(text)
         if table is not None:
             (data / f"{number:03}.tab").write_bytes(table)
         index.append(f"- {number:03}{'' if table is None else ' T'} {about}")
     (HERE / "TRIALS.md").write_text("\n".join(index) + "\n")
-    print(f"{len(TRIALS)} sheets, {sum(table is not None for *_, table in TRIALS)} tables")
+    print(f"{len(TRIALS)} sheets, {sum(table is not None for *_, table, _ in TRIALS)} tables")
 
 
 def answers():
@@ -301,15 +416,39 @@ def answers():
     return ["\n".join(lines) for lines in found]
 
 
+def without_house(text):
+    """An answer without the lines of the house form, of `played` and of `asked`; and the lines of the house form."""
+    first, *rest = text.split("\n")
+    end = 1 if rest[0].startswith("house refused") else 1 + next(place for place, text in enumerate(rest) if text.startswith("again "))
+    house, kept, played = rest[:end], [first], False
+    for text in rest[end:]:
+        played = text.startswith("played ") or played and not text.startswith("asked ")
+        if not played and not text.startswith("asked "):
+            kept.append(text)
+    return "\n".join(kept), "\n".join(house)
+
+
+def house_lines(house):
+    """What is printed for a house form, its refusal or `as before`."""
+    if house.startswith("refused"):
+        return "house " + house.split("\n")[0]
+    return ("house as before\n" if house == "as before" else "house\n" + house) + "again same short r12.0"
+
+
 def check():
     found = answers()
     wrong = abs(len(found) - len(TRIALS))
-    for number, ((about, _, answer, _), text) in enumerate(zip(TRIALS, found), 1):
+    for number, ((about, _, answer, _, house), text) in enumerate(zip(TRIALS, found), 1):
+        text, lines = without_house(text)
         right = text.startswith(answer[:-3]) if answer.endswith("...") else text == answer
         if not right:
             wrong += 1
             print(f"{number:03} {about}\nby hand:\n{answer}\nprinted:\n{text}\n")
-    print(f"{len(TRIALS)} trials, {wrong} differ from what is written by hand")
+        if house is not None and lines != house_lines(house):
+            wrong += 1
+            print(f"{number:03} {about}\nby hand:\n{house_lines(house)}\nprinted:\n{lines}\n")
+    formed = sum(house is not None for *_, house in TRIALS)
+    print(f"{len(TRIALS)} trials, {formed} of them with the house form or its refusal, {wrong} differ from what is written by hand")
     sys.exit(1 if wrong else 0)
 
 
@@ -327,6 +466,7 @@ endings()
 two_faults()
 full_sheets()
 tables()
+house_forms()
 
 if sys.argv[1:] == ["check"]:
     check()

@@ -1,9 +1,9 @@
-//! Document 01, and point 1 of document 02, in plain Rust, written from the papers alone.
+//! Document 01, and points 1 and 2 of document 02, in plain Rust, written from the papers alone.
 //!
 //! Nothing here is fast or clever on purpose: each function renders one rule of the paper, and its comment says which.
 //! Quoted words are those of the papers. "Readings" means READINGS.md.
 
-use std::collections::VecDeque;
+use std::collections::{BTreeMap, VecDeque};
 use std::ops::Range;
 
 /// Refusal 1: "The sheet is longer than 4,096 bytes."
@@ -654,4 +654,95 @@ pub fn due(net: &Net, table: &[u16], minute: u16, heard: &[(u8, bool)]) -> Resul
         }
     }
     Err(16)
+}
+
+// ---------------------------------------------------------------- The house form
+
+/// A rule of the house form: "All rules become `max` rows". Its label is by signal, so in no order of its own.
+#[derive(Clone, Debug, PartialEq, Eq)]
+pub struct Row {
+    pub from: usize,
+    pub to: usize,
+    pub limit: i64,
+    pub label: BTreeMap<usize, bool>,
+}
+
+/// What the rows are ordered by: "by `from`, then `to`, in event order, then by the sum of the true letters' weights, then of the
+/// false ones'".
+pub type Key = (usize, usize, u32, u32);
+
+/// Document 02, point 2: the house form of a sheet, or its own refusal, or 17.
+pub fn house(sheet: &[u8]) -> Result<Vec<u8>, Refusal> {
+    let net = read(sheet)?;
+    let rows = rows_left(&net);
+    if rows.len() as i64 > RULES_MOST {
+        return Err(Refusal { number: 17, line: 0 });
+    }
+    let mut form = head(sheet, &net);
+    form.extend(format!("rules,{}\n", rows.len()).into_bytes());
+    for row in rows.values() {
+        let (from, to) = (&sheet[net.events[row.from].clone()], &sheet[net.events[row.to].clone()]);
+        let (limit, label) = (row.limit.to_string().into_bytes(), label_text(&net, &row.label));
+        form.extend([&b"max"[..], from, to, &limit, &label].join(&b","[..]));
+        form.push(b'\n');
+    }
+    Ok(form)
+}
+
+/// The same into a lent buffer of so many bytes: 12 where that is "too short for what would be written", after 17.
+pub fn house_within(sheet: &[u8], room: usize) -> Result<Vec<u8>, Refusal> {
+    house(sheet).and_then(|form| if form.len() <= room { Ok(form) } else { Err(Refusal { number: 12, line: 0 }) })
+}
+
+/// "a `min` swaps its ends and negates its limit, and a `fix` becomes both".
+fn max_rows(rule: &Rule) -> Vec<Row> {
+    let label: BTreeMap<usize, bool> = rule.label.iter().copied().collect();
+    let as_max = Row { from: rule.from, to: rule.to, limit: rule.limit, label: label.clone() };
+    let as_min = Row { from: rule.to, to: rule.from, limit: -rule.limit, label };
+    match rule.kind {
+        Kind::Max => vec![as_max],
+        Kind::Min => vec![as_min],
+        Kind::Fix => vec![as_max, as_min],
+    }
+}
+
+/// "Of rows with equal ends and label the least limit stays." Readings: labels are equal when their signed letters are, and a row that
+/// no table can break stays too.
+pub fn rows_left(net: &Net) -> BTreeMap<Key, Row> {
+    let mut left: BTreeMap<Key, Row> = BTreeMap::new();
+    for row in net.rules.iter().flat_map(max_rows) {
+        let key = (row.from, row.to, weights(&row.label, true), weights(&row.label, false));
+        let stays = left.entry(key).or_insert_with(|| row.clone());
+        assert_eq!(stays.label, row.label, "two labels with equal sums");
+        stays.limit = stays.limit.min(row.limit);
+    }
+    left
+}
+
+/// The sum of the weights of the letters with this truth; "The first signal of the sheet has weight 1, the next 2, and so on".
+fn weights(label: &BTreeMap<usize, bool>, truth: bool) -> u32 {
+    label.iter().filter(|letter| *letter.1 == truth).map(|letter| 2u32.pow(*letter.0 as u32)).sum()
+}
+
+/// "Label letters stand in signal order"; `-` for none.
+fn label_text(net: &Net, label: &BTreeMap<usize, bool>) -> Vec<u8> {
+    let mut text = vec![];
+    for (&signal, &truth) in label {
+        if !truth {
+            text.push(b'!');
+        }
+        text.push(net.signals[signal].letter);
+    }
+    if text.is_empty() { b"-".to_vec() } else { text }
+}
+
+/// The lines before the rules as they are: the horizon, and each of two sections with its count.
+fn head(sheet: &[u8], net: &Net) -> Vec<u8> {
+    let lines = 1 + (1 + net.events.len()) + (1 + net.signals.len());
+    sheet.split_inclusive(|&byte| byte == b'\n').take(lines).flatten().copied().collect()
+}
+
+/// Whether two networks with equal events allow a case the same rows by points 1 and 2; for small networks only.
+pub fn same_lawful_rows(one: &Net, other: &Net) -> bool {
+    (0..one.cases()).all(|case| lawful_rows(one, case) == lawful_rows(other, case))
 }

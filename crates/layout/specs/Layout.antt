@@ -102,13 +102,19 @@ lines (l ∷ ls) = l ++ lines ls
 abbrev pub section : String → List (List ℕ) → List ℕ
 section word ls = line (ascii word) (decimal (length ls) ∷ []) ++ lines ls
 
+-- the lines of a signal and of a rule
+abbrev pub signalLine : Signal → List ℕ
+signalLine x = line (x .letter ∷ []) (x .event ∷ [])
+
+abbrev pub ruleLine : Rule → List ℕ
+ruleLine x = line (kindText (x .kind)) (x .from ∷ x .to ∷ signedText (x .limit) ∷ labelText (x .label) ∷ [])
+
 abbrev pub textOf : Contents → List ℕ
 textOf c =
     line (ascii "horizon") (decimal (c .horizon) ∷ [])
     ++ section "events" (map (λ n. line n []) (c .names))
-    ++ section "signals" (map (λ x. line (x .letter ∷ []) (x .event ∷ [])) (c .signals))
-    ++ section "rules"
-    (map (λ x. line (kindText (x .kind)) (x .from ∷ x .to ∷ signedText (x .limit) ∷ labelText (x .label) ∷ [])) (c .rules))
+    ++ section "signals" (map signalLine (c .signals))
+    ++ section "rules" (map ruleLine (c .rules))
 
 -- the sheet is the text of contents that keep the rules, and nothing else
 pub record Layout (sheet : List ℕ) : Type 0 where

@@ -1,5 +1,4 @@
 -- Laws of `specs/`, for the proofs of this crate and of those above. No contract cites them.
 pub mod Truths
-pub mod Names
 pub mod Listed
 pub mod Examples

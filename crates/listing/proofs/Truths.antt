@@ -1,9 +1,7 @@
 -- Laws of a scenario's truths as they are printed. Assumes nothing.
 use mathlib.Core.Path.{_≡_, sym}
 use mathlib.Core.List.{[], _∷_}
-use Prim.Native.Nat.{ℕ, _+_, _/_, _^_, _≤_}
-use native.Mathlib.Nat.{div-div-eq-div-mul, pow-suc, pow-zero, div-one}
-use native.Mathlib.Numerals.{add-one}
+use Prim.Native.Nat.{ℕ, _/_, _^_, _≤_}
 use borrow.Author.Tests.{ne-eqb}
 use lib.Pow.{pow-mono}
 use Rattle.prelude.specs.Bytes.{ascii}
@@ -14,13 +12,6 @@ use Rattle.listing.specs.Listing.{scenarioText}
 use Rattle.listing.specs.Line.{markOf}
 
 module _ (s : ℕ) where
-  -- s halved p times has the truth of p as its last binary digit
-  pub halved-none : s ≡ s / 2 ^ 0
-  halved-none = sym (rw pow-zero (div-one s))
-
-  pub halved-more : (p : ℕ) → s / 2 ^ p / 2 ≡ s / 2 ^ (p + 1)
-  halved-more p = rw (add-one, pow-suc) (div-div-eq-div-mul s (2 ^ p) 2)
-
   -- where there is no signal
   pub scenarioText-none : (k : ℕ) → k ≡ 0 → ascii "-" ≡ scenarioText k s
   scenarioText-none k e = rw e

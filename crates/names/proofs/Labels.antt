@@ -91,7 +91,7 @@ module _ (k : ℕ) (letters : List ℕ) where
     pub truths : (p : ℕ) → p < L.signals → truth (weights k letters v ls) p ≡ asks v p ls
 
   -- a letter that stands nowhere else is asked for nowhere else
-  asks-none : (v : Bool) (b p : ℕ) (ls : List Literal) → getD letters p 0 ≡ b → isIn b (lettersOf ls) ≡ false → asks v p ls ≡ false
+  pub asks-none : (v : Bool) (b p : ℕ) (ls : List Literal) → getD letters p 0 ≡ b → isIn b (lettersOf ls) ≡ false → asks v p ls ≡ false
   asks-none v b p [] h e = refl
   asks-none v b p (l ∷ ls) h e =
       let w = or-false (eqb b (l .letter)) (isIn b (lettersOf ls)) e in

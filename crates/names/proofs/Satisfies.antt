@@ -41,7 +41,7 @@ module _ (k : ℕ) (letters : List ℕ) where
   at-here : (v : Bool) (p : ℕ) (l : Literal) → placeOf k letters (l .letter) ≡ some p → l .value ≡ v → isAt k letters v p l ≡ true
   at-here v p l e h = rw (e, isAt, h) (and-both (Bool·beq v v) (eqb p p) (beq-refl v) (eq-eqb p p refl))
 
-  at-place : (v : Bool) (p : ℕ) (l : Literal) → isAt k letters v p l ≡ true → (placeOf k letters (l .letter) ≡ some p) × (l .value ≡ v)
+  pub at-place : (v : Bool) (p : ℕ) (l : Literal) → isAt k letters v p l ≡ true → (placeOf k letters (l .letter) ≡ some p) × (l .value ≡ v)
   at-place v p l e = by-place (placeOf k letters (l .letter)) refl e
     where
       by-place : (o : Option ℕ) → placeOf k letters (l .letter) ≡ o

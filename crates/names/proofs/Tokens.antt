@@ -10,7 +10,7 @@ use lib.Dec.{eqb, leb}
 use lib.ListN.{length, getD, drop}
 use Rattle.prelude.specs.Search.{answers}
 use Rattle.prelude.specs.Bytes.{every, isIn, distinct}
-use Rattle.prelude.proofs.Tests.{and-true as and-parts, eq-or-ne}
+use Rattle.prelude.proofs.Tests.{and-true as and-parts, clash, lt-or-ge, eq-or-ne}
 use Rattle.text.specs.Number.{isDigit}
 use Rattle.text.proofs.Lines.{drop-here, drop-end}
 use Rattle.names.specs.Names.{isLetter, isName, areLiterals, literals, lettersOf}
@@ -44,6 +44,9 @@ name-empty (b ∷ s) h = absurd (omega arith)
 pub name-long : (f : List ℕ) → 8 < length f → isName f ≡ false
 name-long [] h = refl
 name-long (b ∷ s) h = rw (lt-leb (suc (length s)) 8 h, and-false, and-false)
+
+pub name-short : (f : List ℕ) → isName f ≡ true → length f ≤ 8
+name-short f e = elim (lt-or-ge 8 (length f)) [ inl h ↦ clash (isName f) e (name-long f h) | inr h ↦ h ]
 
 pub name-first : (f : List ℕ) → isLetter (getD f 0 0) ≡ false → isName f ≡ false
 name-first [] h = refl

@@ -1,5 +1,5 @@
 -- The model. Read in this order: the limits, how a network is built, scenarios, constraints, strategies, what makes a strategy a
--- solution, the least one; and what every network that was read keeps.
+-- solution, the least one; what every network that was read keeps; and a limit without its sign.
 pub mod Limits
 pub mod Build
 pub mod Scenario
@@ -8,3 +8,4 @@ pub mod Strategy
 pub mod Solution
 pub mod Least
 pub mod WellFormed
+pub mod Raised

@@ -5,6 +5,8 @@ ghost use Prim.Native.Nat.{_*_, _^_, _≤_, _<_};
 ghost use Rattle.network.specs.Limits as L;
 ghost use Rattle.network.specs.Scenario as S;
 ghost use Rattle.network.specs.Build.{limits, empty, withEvent, withSignal, withRule};
+ghost use Rattle.network.specs.WellFormed.{InLimits};
+ghost use Rattle.network.specs.Raised as R;
 
 // What a rule says of the difference between its two times.
 pub enum Kind {
@@ -164,4 +166,19 @@ pub fn cell_count(events: usize, signals: usize) -> usize
     ensures { λ r. ⌜ r ≡ events * 2 ^ signals ⌝ }
 {
     events * scenario_count(signals)
+}
+
+// A limit without its sign: the limit and 10,080.
+pub fn raised(bound: i32) -> u16
+    requires { ⌜ InLimits bound ⌝ }
+    ensures { λ r. ⌜ r ≡ R.raised bound ⌝ }
+{
+    (bound + 10080) as u16
+}
+
+// The limit that was raised to v.
+pub fn lowered(v: u16) -> i32
+    ensures { λ r. ⌜ r ≡ R.lowered v ⌝ }
+{
+    v as i32 - 10080
 }

@@ -37,9 +37,9 @@ append-copy b at s h = record {
   contents = rw take-length;
 }
 
-module _ {j k l : ℕ} {b m a : List ℕ} {at r e : ℕ} {x y : List ℕ} where
+module _ {j k : ℕ} {b m a : List ℕ} {at r e : ℕ} {x y : List ℕ} where
   -- a text, and one behind it
-  pub append-then : Appended j b at x m r → Appended k m r y a e → j + k ≤ l → Appended l b at (x ++ y) a e
+  pub append-then : {l : ℕ} → Appended j b at x m r → Appended k m r y a e → j + k ≤ l → Appended l b at (x ++ y) a e
   append-then f g h =
       let p = take at b ++ x in
       let head : length p ≡ r = rw length-append (omega (arith, length-take-le at b (omega arith))) in
@@ -54,8 +54,15 @@ module _ {j k l : ℕ} {b m a : List ℕ} {at r e : ℕ} {x y : List ℕ} where
         contents = g .contents ∙ rw (front, back) (ap (λ (t : List ℕ). t ++ drop e b) (append-assoc (take at b) x y));
       }
 
--- the same text said otherwise, and a looser bound
-pub append-as : {j l : ℕ} {b a : List ℕ} {at e : ℕ} {x y : List ℕ}
-    → x ≡ y → Appended j b at x a e → j ≤ l → Appended l b at y a e
-append-as p f h =
-    rw (← p) (record { ends = f .ends; short = omega arith; inside = f .inside; sized = f .sized; contents = f .contents })
+  -- with no bound given: as many bytes as both have at most
+  pub append-both : Appended j b at x m r → Appended k m r y a e → Appended (j + k) b at (x ++ y) a e
+  append-both f g = append-then f g (omega arith)
+
+module _ {j l : ℕ} {b a : List ℕ} {at e : ℕ} {x : List ℕ} where
+  -- any bound that the text itself keeps
+  pub append-within : Appended j b at x a e → length x ≤ l → Appended l b at x a e
+  append-within f h = record { ends = f .ends; short = h; inside = f .inside; sized = f .sized; contents = f .contents }
+
+  -- the same text said otherwise, and a looser bound
+  pub append-as : {y : List ℕ} → x ≡ y → Appended j b at x a e → j ≤ l → Appended l b at y a e
+  append-as p f h = rw (← p) (append-within f (omega arith))

@@ -2,7 +2,11 @@
 pub mod Tests
 pub mod Search
 pub mod Bounded
+pub mod Parts
+pub mod Gather
+pub mod Listed
 pub mod Bytes
 pub mod Lists
+pub mod Mapped
 pub mod Cells
 pub mod Examples

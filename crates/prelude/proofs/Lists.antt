@@ -14,14 +14,11 @@ use Rattle.prelude.specs.Bounded.{tabulate}
 use Rattle.prelude.proofs.Bounded.{length-tabulate, getD-tabulate}
 use Rattle.prelude.specs.Bytes.{isIn, every, distinct}
 use Rattle.prelude.proofs.Tests.{either, clash, and-true, and-both, or-true, lt-or-ge}
+use Rattle.prelude.proofs.Parts.{in-later}
 use Rattle.prelude.specs.Lists.{In, Distinct, Each}
 
 module _ {A : Type 0} (d : A) where
   module _ (xs : List A) (x : A) where
-    -- what stands in a list stands in a longer one
-    getD-first : (ys : List A) (i : ℕ) → i < length xs → getD (xs ++ ys) i d ≡ getD xs i d
-    getD-first ys i h = List·getD-append xs ys d i h
-
     length-snoc : length (xs ++ x ∷ []) ≡ suc (length xs)
     length-snoc = length-append xs (x ∷ []) ∙ omega arith
 
@@ -30,7 +27,7 @@ module _ {A : Type 0} (d : A) where
         → (i : ℕ) → i < length (xs ++ x ∷ []) → P i (getD (xs ++ x ∷ []) i d)
     by-place P f l i h =
         elim (lt-or-ge i (length xs)) [
-          | inl p ↦ rw (getD-first (x ∷ []) i p) (f i p)
+          | inl p ↦ rw (List·getD-append xs (x ∷ []) d i p) (f i p)
           | inr p ↦
               let e : i ≡ length xs = omega (arith, length-snoc) in
               rw (e, getD-append-seam xs x [] d) l
@@ -65,7 +62,7 @@ module _ {A : Type 0} (d : A) where
         let l = length-append xs (x ∷ ys) in
         let h = w .place-lt in
         let e = o .once (w .place) (length xs) (omega arith) (omega arith)
-        (getD-first (x ∷ ys) (w .place) h ∙ w .is ∙ sym (getD-append-seam xs x ys d)) in
+        (List·getD-append xs (x ∷ ys) d (w .place) h ∙ w .is ∙ sym (getD-append-seam xs x ys d)) in
         omega arith
 
 -- a test of each element
@@ -93,7 +90,7 @@ in-of-isIn b [] e = clash false e refl
 in-of-isIn b (c ∷ bs) e =
     elim (or-true (eqb b c) (isIn b bs) e) [
       | inl p ↦ record { place = 0; place-lt = omega arith; is = sym (eqb-true b c p) }
-      | inr p ↦ let w = in-of-isIn b bs p in record { place = suc (w .place); place-lt = omega (arith, w .place-lt); is = w .is }
+      | inr p ↦ in-later (in-of-isIn b bs p)
     ]
 
 isIn-at : (b : ℕ) (bs : List ℕ) (i : ℕ) → i < length bs → getD bs i 0 ≡ b → isIn b bs ≡ true
@@ -134,12 +131,31 @@ test-of-distinct (b ∷ bs) o =
         absurd (omega arith)
     new (inr p) = rw p
 
+-- what stands at a place
+pub in-place : {A : Type 0} {d : A} (xs : List A) (i : ℕ) → i < length xs → In (getD xs i d) xs d
+in-place xs i h = record { place = i; place-lt = h; is = refl }
+
 -- what holds of each holds of what stands there
 pub each-in : {A : Type 0} (P : A → Type 0) {x d : A} {xs : List A} → Each P xs d → In x xs d → P x
 each-in P e w = rw (w .is) at (e .each (w .place) (w .place-lt))
 
--- a list of so many is what stands at its places
+-- a list is what stands at its places
+pub tabulate-is : {A : Type 0} (f : ℕ → A) (d : A) (n : ℕ) (xs : List A) → n ≡ length xs
+    → ((i : ℕ) → i < length xs → f i ≡ getD xs i d) → tabulate n f ≡ xs
+tabulate-is f d n xs e h =
+    let l = length-tabulate f n in
+    ext-getD d (tabulate n f) xs (l ∙ e) (λ i k. getD-tabulate f n i d (omega arith) ∙ h i (omega arith))
+
 pub all-of : {A : Type 0} (d : A) (n : ℕ) (xs : List A) → length xs ≡ n → xs ≡ tabulate n (λ i. getD xs i d)
-all-of d n xs e =
-    ext-getD d xs (tabulate n (λ i. getD xs i d)) (e ∙ sym (length-tabulate (λ i. getD xs i d) n))
-    (λ i h. sym (getD-tabulate (λ i. getD xs i d) n i d (omega arith)))
+all-of d n xs e = sym (tabulate-is (λ i. getD xs i d) d n xs (sym e) (λ i h. refl))
+
+-- what differs from everything behind it stands once
+pub distinct-of-later : {A : Type 0} (d : A) (xs : List A)
+    → ((i j : ℕ) → i < j → j < length xs → getD xs i d ≡ getD xs j d → ⊥) → Distinct xs d
+distinct-of-later d xs f = record {
+  once = λ i j h k e.
+      elim (lt-or-ge i j) [
+        | inl p ↦ absurd (f i j p k e)
+        | inr p ↦ elim (lt-or-ge j i) [ inl q ↦ absurd (f j i q h (sym e)) | inr q ↦ omega arith ]
+      ];
+}

@@ -23,6 +23,8 @@ numberOf C.Inconsistent = 13
 numberOf C.TableFails = 14
 numberOf C.MisnamedSignal = 15
 numberOf C.NeverHeard = 16
+-- "17, more than 64 rows would be left" (02, point 2)
+numberOf C.TooManyRows = 17
 
 -- a refusal with its line
 abbrev pub refusal : Cause → ℕ → Refusal

@@ -34,6 +34,8 @@ pub enum Cause {
     MisnamedSignal,
     // No case has heard exactly this list.
     NeverHeard,
+    // More rows than a sheet may have would be left in its house form.
+    TooManyRows,
 }
 
 // A line is counted from 1; 0 where the refusal concerns no line.
@@ -63,5 +65,6 @@ pub fn number(cause: Cause) -> u8
         Cause::TableFails => 14,
         Cause::MisnamedSignal => 15,
         Cause::NeverHeard => 16,
+        Cause::TooManyRows => 17,
     }
 }

@@ -13,20 +13,20 @@ use network::Kind;
 use network::Label;
 use network::Network;
 
-// The weight that keeps `to` at most the bound after `from`.
+// The weight that keeps `to` at most the bound after `from`: `from` is at least the bound negated after `to`.
 fn upper_weight(bound: i32) -> u16
     requires { ⌜ InLimits bound ⌝ }
     ensures { λ r. ⌜ r ≡ upperWeight bound ⌝ }
 {
-    (10080 - bound) as u16
+    network::raised(-bound)
 }
 
-// The weight that keeps `to` at least the bound after `from`: `from` is at most the bound negated after `to`.
+// The weight that keeps `to` at least the bound after `from`.
 fn lower_weight(bound: i32) -> u16
     requires { ⌜ InLimits bound ⌝ }
     ensures { λ r. ⌜ r ≡ lowerWeight bound ⌝ }
 {
-    upper_weight(-bound)
+    network::raised(bound)
 }
 
 // One more bound in the list of scenario s.

@@ -8,7 +8,7 @@ use borrow.Author.Needs.{needs}
 use Rattle.text.specs.Lines.{comma}
 use Rattle.network.specs.Build.{nameOf}
 use denote.Ref.{now}
-use Rattle.listing.proofs.Names.{part-from, name-short}
+use Rattle.network.proofs.Names.{part-from, name-short}
 use Rattle.page.proofs.Append.{append-then}
 use Rattle.page.proofs.Join.{Joining, join-none, join-next, join-all}
 use Rattle.listing.proofs.push_names.Statement.{statement}

@@ -8,7 +8,8 @@ use borrow.Author.Needs.{needs}
 use Rattle.listing.specs.Line.{markOf}
 use Rattle.page.proofs.Append.{append-as}
 use Rattle.page.proofs.Join.{Joining, join-none, join-next, join-all}
-use Rattle.listing.proofs.Truths.{halved-none, halved-more, scenarioText-none, scenarioText-some}
+use Rattle.network.proofs.Scenario.{halved-none, halved-more}
+use Rattle.listing.proofs.Truths.{scenarioText-none, scenarioText-some}
 use Rattle.listing.proofs.push_truths.Statement.{statement}
 use Rattle.listing.proofs.push_truths.Tie as tie
 

@@ -13,7 +13,7 @@ list-bound-requires c κs =
     let lower-weight = c .before .before .lower-weight in
     let z = c .before .before .before .before .before in
     let k = z .args .c in (
-      rw (lower-read _ (k .bound) (z .pre .0 .bound) (lower-weight .ensures)) (lower-bound (z .args .frame) k (z .pre .0)),
+      rw (lower-read (k .bound) (z .pre .0 .bound) (lower-weight .ensures)) (lower-bound (z .args .frame) k (z .pre .0)),
       z .pre .1,
       z .pre .2,
     )
@@ -22,7 +22,7 @@ returns : tie.Need-returns
 returns c =
     let lower-weight = c .before .before .before .lower-weight in
     let z = c .before .before .before .before .before .before in
-    rw (lower-read _ (z .args .c .bound) (z .pre .0 .bound) (lower-weight .ensures)) at (c .list-bound .ensures)
+    rw (lower-read (z .args .c .bound) (z .pre .0 .bound) (lower-weight .ensures)) at (c .list-bound .ensures)
 
 pub list-lower-spec : {M : Type 1} → statement M
 list-lower-spec = tie.close (tie.spec lower-weight-requires list-bound-requires returns)

@@ -13,7 +13,7 @@ list-bound-requires c κs =
     let upper-weight = c .before .before .upper-weight in
     let z = c .before .before .before .before .before in
     let k = z .args .c in (
-      rw (upper-read _ (k .bound) (z .pre .0 .bound) (upper-weight .ensures)) (upper-bound (z .args .frame) k (z .pre .0)),
+      rw (upper-read (k .bound) (z .pre .0 .bound) (upper-weight .ensures)) (upper-bound (z .args .frame) k (z .pre .0)),
       z .pre .1,
       z .pre .2,
     )
@@ -22,7 +22,7 @@ returns : tie.Need-returns
 returns c =
     let upper-weight = c .before .before .before .upper-weight in
     let z = c .before .before .before .before .before .before in
-    rw (upper-read _ (z .args .c .bound) (z .pre .0 .bound) (upper-weight .ensures)) at (c .list-bound .ensures)
+    rw (upper-read (z .args .c .bound) (z .pre .0 .bound) (upper-weight .ensures)) at (c .list-bound .ensures)
 
 pub list-upper-spec : {M : Type 1} → statement M
 list-upper-spec = tie.close (tie.spec upper-weight-requires list-bound-requires returns)

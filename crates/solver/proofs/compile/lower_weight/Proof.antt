@@ -1,16 +1,14 @@
--- The weight of the limit negated, which is a limit again (`Weights`). Assumes nothing.
-use Rattle.solver.proofs.Weights.{negated-fits, negated-limit, negated-weight}
+-- The limit without its sign; it comes out of the i32 as it went in (`Weights`). Assumes nothing.
+use borrow.Author.Needs.{needs}
+use Rattle.solver.proofs.Weights.{lower-read}
 use Rattle.solver.proofs.compile.lower_weight.Statement.{statement}
 use Rattle.solver.proofs.compile.lower_weight.Tie as tie
 
-sub-upper-weight : tie.Need-sub-upper-weight
-sub-upper-weight c = negated-fits (c .args .bound) (c .pre)
-
-upper-weight-requires : tie.Need-upper-weight-requires
-upper-weight-requires c κs = negated-limit (c .args .bound) (c .pre)
+raised-requires : tie.Need-raised-requires
+raised-requires c κs = search needs
 
 returns : tie.Need-returns
-returns c = negated-weight (c .upper-weight .result) (c .before .args .bound) (c .before .pre) (c .upper-weight .ensures)
+returns c = lower-read (c .before .args .bound) (c .before .pre) (c .raised .ensures)
 
 pub lower-weight-spec : {M : Type 1} → statement M
-lower-weight-spec = tie.close (tie.spec sub-upper-weight upper-weight-requires returns)
+lower-weight-spec = tie.close (tie.spec raised-requires returns)

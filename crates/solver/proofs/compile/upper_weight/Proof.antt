@@ -1,16 +1,18 @@
--- 10,080 less a limit is neither negative nor over 20,160, so it fits and is the weight, for each sign (`Weights`). Assumes nothing.
-use Rattle.solver.proofs.Weights.{difference-fits, difference-cast, difference-value}
+-- The limit negated, which is a limit again (the network's `Signed`), without its sign. Assumes nothing.
+use mathlib.Core.Path.{_∙_, ap}
+use Rattle.network.specs.Raised.{raised}
+use Rattle.network.proofs.Signed.{negated-fits, negated-read, negated-limit}
 use Rattle.solver.proofs.compile.upper_weight.Statement.{statement}
 use Rattle.solver.proofs.compile.upper_weight.Tie as tie
 
-sub-result : tie.Need-sub-result
-sub-result c = difference-fits (c .args .bound) (c .pre)
+sub-raised : tie.Need-sub-raised
+sub-raised c = negated-fits (c .args .bound) (c .pre)
 
-cast-result : tie.Need-cast-result
-cast-result c = difference-cast (c .args .bound) (c .pre)
+raised-requires : tie.Need-raised-requires
+raised-requires c κs = negated-limit (c .args .bound) (c .pre)
 
 returns : tie.Need-returns
-returns c = difference-value (c .args .bound) (c .pre)
+returns c = c .raised .ensures ∙ ap raised (negated-read (c .before .args .bound) (c .before .pre))
 
 pub upper-weight-spec : {M : Type 1} → statement M
-upper-weight-spec = tie.close (tie.spec sub-result cast-result returns)
+upper-weight-spec = tie.close (tie.spec sub-raised raised-requires returns)

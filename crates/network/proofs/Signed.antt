@@ -1,0 +1,107 @@
+-- Limits as the code has them, in an i32: they fit, negated too, and the limit and 10,080 is neither negative nor over 20,160, and
+-- in the order of the limits. For each sign, around zero and at both ends. Assumes nothing.
+use mathlib.Core.Path.{_≡_, _∙_, ap}
+use Prim.Native.Nat.{ℕ, zero, suc, _+_, _-_, _≤_, _<_}
+use native.Mathlib.Omega.{arith}
+use borrow.Author.Tests.{le-ltb, lt-ltb}
+use lib.Dec.{T, ltb, leb→le, le→leb}
+use lib.IntN.{ℤ, pos, negsuc, _+ℤ_, _-ℤ_, negℤ, natAbs, +ℤ-idl}
+use lib.Signed.{nonNeg, _≤ℤ_}
+use mir.Syntax.{w16, w32}
+use mir.Val.{Fits, SFits, toZ, ofZ}
+use mir.Facts.{toZ-pos, toZ-ofZ}
+use Rattle.prelude.proofs.Tests.{by-cond}
+use Rattle.network.specs.WellFormed.{InLimits}
+use Rattle.network.specs.Raised.{raised, lowered}
+
+-- a limit fits an i32, and is read back from it
+pub limit-fits : (w : ℤ) → InLimits w → SFits w32 w
+limit-fits (pos w) h = record { sfits = omega arith }
+limit-fits (negsuc w) h = record { sfits = omega arith }
+
+pub read-back : (w : ℤ) → InLimits w → toZ w32 (ofZ w32 w) ≡ w
+read-back w h = toZ-ofZ (limit-fits w h)
+
+-- so is its negation
+pub neg-limit : (w : ℤ) → InLimits w → InLimits (negℤ w)
+neg-limit (pos zero) h = h
+neg-limit (pos (suc w)) h = h
+neg-limit (negsuc w) h = h
+
+-- 0 - w, as the code negates
+module _ (w : ℤ) (h : InLimits w) where
+  abbrev pub negated : ℤ
+  negated = pos 0 -ℤ toZ w32 (ofZ w32 w)
+
+  negated-is : negated ≡ negℤ w
+  negated-is = rw (read-back w h) (+ℤ-idl (negℤ w))
+
+  pub negated-fits : SFits w32 negated
+  negated-fits = rw negated-is (limit-fits (negℤ w) (neg-limit w h))
+
+  pub negated-read : toZ w32 (ofZ w32 negated) ≡ negℤ w
+  negated-read = toZ-ofZ negated-fits ∙ negated-is
+
+  pub negated-limit : InLimits (toZ w32 (ofZ w32 negated))
+  negated-limit = rw negated-read (neg-limit w h)
+
+pub raised-few : (w : ℤ) → InLimits w → raised w ≤ 20160
+raised-few (pos w) h = omega arith
+raised-few (negsuc w) h = omega arith
+
+sum-is : (w : ℤ) → InLimits w → w +ℤ pos 10080 ≡ pos (raised w)
+sum-is (pos w) h = ap pos (omega arith)
+sum-is (negsuc w) h = rw (le-ltb 10080 (suc w) h)
+
+-- the limit and 10,080, as the code adds them
+module _ (w : ℤ) (h : InLimits w) where
+  abbrev sum : ℤ
+  sum = toZ w32 (ofZ w32 w) +ℤ pos 10080
+
+  total : sum ≡ pos (raised w)
+  total = rw (read-back w h) (sum-is w h)
+
+  pub sum-fits : SFits w32 sum
+  sum-fits = let few = raised-few w h in rw total (record { sfits = omega arith })
+
+  same : toZ w32 (ofZ w32 sum) ≡ pos (raised w)
+  same = toZ-ofZ sum-fits ∙ total
+
+  pub sum-cast : T (nonNeg (toZ w32 (ofZ w32 sum))) × Fits w16 (natAbs (toZ w32 (ofZ w32 sum)))
+  sum-cast = let few = raised-few w h in rw same (tt, record { fits = omega arith })
+
+  pub sum-value : natAbs (toZ w32 (ofZ w32 sum)) ≡ raised w
+  sum-value = rw same
+
+-- 10,080 less, as the code subtracts it from a number of 16 bits
+module _ (v : ℕ) (h : v < 65536) where
+  less-is : toZ w32 v -ℤ pos 10080 ≡ lowered v
+  less-is = ap (λ (z : ℤ). z -ℤ pos 10080) (toZ-pos w32 {n = v} (omega arith))
+
+  pub less-fits : SFits w32 (toZ w32 v -ℤ pos 10080)
+  less-fits =
+      rw less-is
+      (by-cond (SFits w32) (ltb v 10080) (negsuc (10080 - suc v)) (pos (v - 10080))
+      (λ e. record { sfits = omega arith })
+      (λ e. record { sfits = omega arith }))
+
+  pub less-value : toZ w32 (ofZ w32 (toZ w32 v -ℤ pos 10080)) ≡ lowered v
+  less-value = toZ-ofZ less-fits ∙ less-is
+
+-- the raised limits are ordered as the limits
+pub raised-le : (v w : ℤ) → InLimits v → InLimits w → v ≤ℤ w → raised v ≤ raised w
+raised-le (pos v) (pos w) h l k = omega (arith, leb→le v w (k .le))
+raised-le (pos v) (negsuc w) h l k = absurd (k .le)
+raised-le (negsuc v) (pos w) h l k = omega arith
+raised-le (negsuc v) (negsuc w) h l k = omega (arith, leb→le w v (k .le))
+
+pub le-raised : (v w : ℤ) → InLimits v → InLimits w → raised v ≤ raised w → v ≤ℤ w
+le-raised (pos v) (pos w) h l k = record { le = le→leb v w (omega arith) }
+le-raised (pos v) (negsuc w) h l k = absurd (omega arith)
+le-raised (negsuc v) (pos w) h l k = record { le = tt }
+le-raised (negsuc v) (negsuc w) h l k = record { le = le→leb w v (omega arith) }
+
+-- raised and lowered, a limit is as it was
+pub lowered-raised : (w : ℤ) → InLimits w → lowered (raised w) ≡ w
+lowered-raised (pos w) h = rw (le-ltb (10080 + w) 10080 (omega arith)) (ap pos (omega arith))
+lowered-raised (negsuc w) h = rw (lt-ltb (10080 - suc w) 10080 (omega arith)) (ap negsuc (omega arith))

@@ -1,0 +1,18 @@
+-- A number of 16 bits less 10,080 fits 32 bits with its sign (`Signed`). Assumes nothing.
+use native.Mathlib.Omega.{arith}
+use borrow.Author.Needs.{needs}
+use Rattle.network.proofs.Signed.{less-fits, less-value}
+use Rattle.network.proofs.lowered.Statement.{statement}
+use Rattle.network.proofs.lowered.Tie as tie
+
+cast-result : tie.Need-cast-result
+cast-result c = search needs
+
+sub-result : tie.Need-sub-result
+sub-result c = less-fits (c .args .v) (omega arith)
+
+returns : tie.Need-returns
+returns c = less-value (c .args .v) (omega arith)
+
+pub lowered-spec : {M : Type 1} → statement M
+lowered-spec = tie.close (tie.spec cast-result sub-result returns)

@@ -1,0 +1,130 @@
+-- Which tables keep the rows: of networks that agree in all but names, letters and rules, a table that solves the first solves the
+-- second where each row of the second has one as tight among the rows of the first. So they have the same solutions where the same
+-- rows remain. Assumes nothing.
+use mathlib.Core.Path.{_≡_, refl, sym, _∙_, ap}
+use mathlib.Core.Logic.{_↔_}
+use mathlib.Core.Bool.{true}
+use mathlib.Core.List.{List}
+use Prim.Native.Nat.{ℕ, _^_, _<_}
+use native.Mathlib.Omega.{arith}
+use lib.Signed.{_≤ℤ_}
+use Rattle.prelude.specs.Lists.{Each}
+use Rattle.prelude.proofs.Lists.{each-in, each-mono}
+use Rattle.network.specs.Build.{noConstraint, observation, cells, scenarios}
+use Rattle.network.specs.Scenario.{satisfies}
+use Rattle.network.specs.Constraint.{covers}
+use Rattle.network.specs.Strategy.{time, reaction, knownFrom}
+use Rattle.network.specs.Solution.{OnTime, Alike, Solution}
+use Rattle.network.specs.WellFormed.{WellFormed}
+use Rattle.network.proofs.Masks.{covers-satisfies}
+use Rattle.network.proofs.Bounds.{atMost-mono}
+use Rattle.network.specs.declared.Constraint.{Constraint}
+use Rattle.network.specs.declared.Network.{Network}
+use Rattle.tighten.specs.Upper.{rowsOf}
+use Rattle.tighten.specs.Remaining.{keyOf, Stays}
+use Rattle.tighten.specs.Tightest.{remainingOf}
+use Rattle.tighten.proofs.Regular.{rows-regular}
+use Rattle.tighten.proofs.Keys.{key-from, key-to, key-label}
+use Rattle.tighten.proofs.Stays.{among}
+use Rattle.tighten.proofs.Remains.{remaining-is}
+use Rattle.tighten.proofs.Kept.{Admits, Kept, rows-kept, rules-hold}
+
+-- Γ and Δ may differ in names, letters and rules only
+pub record Agree (Γ Δ : Network) : Type 0 where
+  pub horizon : Γ .horizon ≡ Δ .horizon
+  pub events : Γ .events ≡ Δ .events
+  pub signals : Γ .signals ≡ Δ .signals
+  pub observations : (p : ℕ) → p < Γ .signals → observation Γ p ≡ observation Δ p
+
+pub agree-sym : {Γ Δ : Network} → Agree Γ Δ → Agree Δ Γ
+agree-sym a = record {
+  horizon = sym (a .horizon);
+  events = sym (a .events);
+  signals = sym (a .signals);
+  observations = λ p h. sym (a .observations p (omega (arith, a .signals)));
+}
+
+module _ {Γ Δ : Network} (a : Agree Γ Δ) where
+  -- they react alike, and rows of one key cover the same scenarios
+  reaction-agree : (p : ℕ) → reaction Γ p ≡ reaction Δ p
+  unfolding reaction
+  reaction-agree p = refl
+
+  covers-agree : (x y : Constraint) → keyOf x ≡ keyOf y → (s : ℕ) → covers Γ x s ≡ covers Δ y s
+  covers-agree x y e s = covers-satisfies Γ x s ∙ ap (satisfies s) (key-label x y e) ∙ sym (covers-satisfies Δ y s)
+
+  scenarios-agree : scenarios Γ ≡ scenarios Δ
+  scenarios-agree = ap (λ (k : ℕ). 2 ^ k) (a .signals)
+
+  cells-agree : cells Γ ≡ cells Δ
+  cells-agree = rw (a .events, a .signals)
+
+  module _ (σ : List ℕ) where
+    time-agree : (s u : ℕ) → time (Γ .events) σ s u ≡ time (Δ .events) σ s u
+    time-agree s u = ap (λ (n : ℕ). time n σ s u) (a .events)
+
+    knownFrom-agree : (s p : ℕ) → p < Γ .signals → knownFrom Γ σ s p ≡ knownFrom Δ σ s p
+    knownFrom-agree s p h = rw (reaction-agree p, a .events, a .observations p h)
+
+    on-time-agree : (s u : ℕ) → OnTime Γ σ s u → OnTime Δ σ s u
+    on-time-agree s u o = record {
+      in-horizon = omega (arith, o .in-horizon, time-agree s u, a .horizon);
+      origin = λ e. sym (time-agree s u) ∙ o .origin e;
+    }
+
+    alike-agree : (s r u : ℕ) → Alike Γ σ s r u → Alike Δ σ s r u
+    alike-agree s r u w = record {
+      alike = λ i.
+          sym (time-agree s u)
+          ∙ w .alike (record {
+            unknown = λ p h e. rw (knownFrom-agree s p h, time-agree s u) (i .unknown p (omega (arith, a .signals)) e);
+          })
+          ∙ time-agree r u;
+    }
+
+    -- a row holds where one of its key with no greater limit holds
+    kept-agree : (s : ℕ) → Each (Kept Γ σ s) (rowsOf Γ) noConstraint → (y : Constraint) → Stays (rowsOf Γ) y → Kept Δ σ s y
+    kept-agree s k y w = record { kept = λ e. at (w .row) (w .key) (w .limit) (each-in (Kept Γ σ s) k (w .stands)) e }
+      where
+        at : (x : Constraint) → keyOf x ≡ keyOf y → x .bound ≤ℤ y .bound → Kept Γ σ s x → covers Δ y s ≡ true
+            → Admits (time (Δ .events) σ s) y
+        at x p l q e =
+            let h = q .kept (covers-agree x y p s ∙ e) .admitted in
+            record {
+              admitted = rw (← (time-agree s (y .from)), ← (time-agree s (y .to)), ← (key-from x y p), ← (key-to x y p))
+                  (atMost-mono (time (Γ .events) σ s (x .from)) (time (Γ .events) σ s (x .to)) (x .bound) (y .bound) l h);
+            }
+
+  pub solution-by-rows : Each (Stays (rowsOf Γ)) (rowsOf Δ) noConstraint → (σ : List ℕ) → Solution Γ σ → Solution Δ σ
+  solution-by-rows stay σ h = record {
+    sized = h .sized ∙ cells-agree;
+    on-time = λ s u l m. on-time-agree σ s u (h .on-time s u (omega (arith, scenarios-agree)) (omega (arith, a .events)));
+    viable = λ s c l m.
+        rules-hold Δ σ s
+        (each-mono (kept-agree σ s (rows-kept Γ σ s (λ c m. h .viable s c (omega (arith, scenarios-agree)) m))) stay)
+        c
+        m;
+    dynamic = λ s r u l m n.
+        alike-agree σ s r u
+        (h .dynamic s r u (omega (arith, scenarios-agree)) (omega (arith, scenarios-agree)) (omega (arith, a .events)));
+  }
+
+pub same-solutions : {Γ Δ : Network} → Agree Γ Δ → Each (Stays (rowsOf Γ)) (rowsOf Δ) noConstraint
+    → Each (Stays (rowsOf Δ)) (rowsOf Γ) noConstraint → (σ : List ℕ) → Solution Γ σ ↔ Solution Δ σ
+same-solutions a f g σ = (solution-by-rows a f σ, solution-by-rows (agree-sym a) g σ)
+
+-- each row of Δ stays among those of Γ, where the same rows remain
+stays-by-remaining : (Γ Δ : Network) → WellFormed Γ → WellFormed Δ → remainingOf Γ ≡ remainingOf Δ
+    → Each (Stays (rowsOf Γ)) (rowsOf Δ) noConstraint
+stays-by-remaining Γ Δ w v e =
+    each-mono (λ y s. record {
+      row = s .row;
+      stands = among (remaining-is (rows-regular Γ w)) (rw (← e) at (s .stands));
+      key = s .key;
+      limit = s .limit;
+    }) (remaining-is (rows-regular Δ v) .least)
+
+pub solutions-by-remaining : {Γ Δ : Network} → WellFormed Γ → WellFormed Δ → Agree Γ Δ → remainingOf Γ ≡ remainingOf Δ
+    → (σ : List ℕ) → Solution Γ σ ↔ Solution Δ σ
+solutions-by-remaining {Γ} {Δ} w v a e =
+    same-solutions a (stays-by-remaining Γ Δ w v e) (stays-by-remaining Δ Γ v w (sym e))

@@ -1,0 +1,40 @@
+-- The parts of the number are the parts of the row; the limit is in the range of an i32. Assumes nothing.
+use mathlib.Core.Path.{_≡_, _∙_, ap}
+use Prim.Native.Nat.{_/_, _%_}
+use lib.IntN.{ℤ}
+use mir.Syntax.{w32}
+use mir.Val.{toZ, ofZ}
+use borrow.Author.Needs.{needs}
+use Rattle.tighten.specs.Upper.{upper}
+use Rattle.tighten.specs.Numbers.{limits}
+use Rattle.tighten.proofs.row_of.Statement.{statement}
+use Rattle.tighten.proofs.row_of.Tie as tie
+
+cast-t4 : tie.Need-cast-t4
+cast-t4 c = search needs
+
+cast-t7 : tie.Need-cast-t7
+cast-t7 c = search needs
+
+cast-lowered : tie.Need-cast-lowered
+cast-lowered c = search needs
+
+lowered-requires : tie.Need-lowered-requires
+lowered-requires c κs = search needs
+
+cast-t13 : tie.Need-cast-t13
+cast-t13 c = search needs
+
+cast-t16 : tie.Need-cast-t16
+cast-t16 c = search needs
+
+returns : tie.Need-returns
+returns c =
+    let e : toZ w32 (ofZ w32 (c .lowered .result)) ≡ c .lowered .result = search needs in
+    let v = c .before .args .number in
+    ap (λ (w : ℤ). upper (v / 134217728) (v / 8388608 % 16) w (record { positive = v / 524288 % 16; negative = v / limits % 16 }))
+    (e ∙ c .lowered .ensures)
+
+pub row-of-spec : {M : Type 1} → statement M
+row-of-spec =
+    tie.close (tie.spec cast-t4 cast-t7 cast-lowered lowered-requires cast-t13 cast-t16 returns)

@@ -1,0 +1,45 @@
+-- A row as one number, so that a search for the next key and its least limit compares numbers only: its key, and behind it its limit and
+-- 10,080, which is not negative.
+use mathlib.Core.Bool.{cond}
+use Prim.Native.Nat.{ℕ, zero, suc, _+_, _*_, _/_, _%_, _<_, min}
+use lib.IntN.{ℤ}
+use lib.Dec.{leb}
+use Rattle.network.specs.Raised.{raised, lowered}
+use Rattle.network.specs.WellFormed.{InLimits}
+use Rattle.network.specs.declared.Label.{Label}
+use Rattle.network.specs.declared.Constraint.{Constraint}
+use Rattle.tighten.specs.Upper.{upper}
+use Rattle.tighten.specs.Tightest.{rank}
+
+-- how many numbers there are for a key, more than limits
+abbrev pub limits : ℕ
+limits = 32768
+
+abbrev pub numberOf : Constraint → ℕ
+numberOf r = rank r * limits + raised (r .bound)
+
+-- the row that a number stands for
+abbrev pub rowOf : ℕ → Constraint
+rowOf v =
+    upper (v / 134217728) (v / 8388608 % 16) (lowered (v % limits)) (record { positive = v / 524288 % 16; negative = v / limits % 16 })
+
+-- each part of the key is a digit in base 16, and the limit is in range
+pub record Numbered (from to : ℕ) (w : ℤ) (ℓ : Label) : Type 0 where
+  pub from-few : from < 16
+  pub to-few : to < 16
+  pub positive-few : ℓ .positive < 16
+  pub negative-few : ℓ .negative < 16
+  pub bound : InLimits w
+
+-- the least number behind all those with the key of v
+abbrev pub behind : ℕ → ℕ
+behind v = (v / limits + 1) * limits
+
+-- more than the number of any row
+abbrev pub top : ℕ
+top = 2147483648
+
+-- the least of f 0, .., f (n - 1) that is at least lo, or `top` where there is none
+abbrev pub leastBelow : ℕ → (ℕ → ℕ) → ℕ → ℕ
+leastBelow zero f lo = top
+leastBelow (suc n) f lo = cond (leb lo (f n)) (min (leastBelow n f lo) (f n)) (leastBelow n f lo)
