@@ -40,7 +40,7 @@ pub found-not-none : (n k : ℕ) → _≡_ {A = Solved} (Found n) (None k) → �
 found-not-none n k e = let z : _≡_ {A = ℕ} 0 1 = cc in omega arith
 
 -- what was promised of one definition is promised of an equal one
-leaves-as : {l k : Left} {r : _} {m : List ℕ} → l ≡ k → Leaves l r m → Leaves k r m
+pub leaves-as : {l k : Left} {r : _} {m : List ℕ} → l ≡ k → Leaves l r m → Leaves k r m
 leaves-as e h = rw (← e) h
 
 -- a text that there is room for, and one that there is not

@@ -43,10 +43,10 @@ use Rattle.opening.proofs.Calls.{written-room, judged-as, solving-room}
 counted-not-refused {ℓ} : {A : Type ℓ} (n : ℕ) (x : Refusal) → W.Count n ≡ W.Refused x → A
 counted-not-refused n x e = absurd (let z : _≡_ {A = ℕ} 0 1 = cc in omega arith)
 
-kept-keeps : (a : Written) (m : List ℕ) → Keeps (kept a m) m
+pub kept-keeps : (a : Written) (m : List ℕ) → Keeps (kept a m) m
 kept-keeps a m = record { kept = λ x e. refl }
 
-written-keeps : (text m : List ℕ) → Keeps (written text m) m
+pub written-keeps : (text m : List ℕ) → Keeps (written text m) m
 written-keeps text m = by-room (leb (length text) (length m))
   where
     by-room : (b : Bool) → Keeps (elim b as (λ _. Left) [

@@ -1,5 +1,5 @@
 -- What the public calls answer and what they leave in the memory that they are lent (01, Refused sheets and calls, The judge's verdict
--- and The printed listing). A refusal of the sheet itself comes first; then 11, 12 and 13, whose line is 0.
+-- and The printed listing; 02, point 2). A refusal of the sheet itself comes first; then 17, 11, 12 and 13, whose line is 0.
 use mathlib.Core.Path.{_≡_}
 use mathlib.Core.Bool.{Bool, true, false}
 use mathlib.Core.List.{List, _++_}
@@ -8,11 +8,12 @@ use lib.Dec.{eqb, leb}
 use lib.ListN.{length, drop}
 use Rattle.page.specs.declared.Written as PD
 use Rattle.page.specs.declared.Written.the-variants as PW
-use Rattle.refusal.specs.Refusal.{refusal}
+use Rattle.refusal.specs.Refusal.{numberOf, refusal}
 use Rattle.refusal.specs.declared.Cause.{Cause}
 use Rattle.refusal.specs.declared.Refusal.{Refusal}
-use Rattle.refusal.specs.declared.Cause.the-variants.{WrongTableLength, BufferTooShort, Inconsistent}
+use Rattle.refusal.specs.declared.Cause.the-variants.{WrongTableLength, BufferTooShort, Inconsistent, TooManyRows}
 use Rattle.fixpoint.specs.Run.{Run, End, Rests, Passes, Spent}
+use Rattle.network.specs.Limits as N
 use Rattle.network.specs.Build.{cells}
 use Rattle.network.specs.declared.Network.{Network}
 use Rattle.sheet.specs.Reading.{read}
@@ -22,6 +23,8 @@ use Rattle.sheet.specs.declared.Reading.{Reading}
 use Rattle.checker.specs.Verdict.{verdict}
 use Rattle.solver.specs.Solve.{solve}
 use Rattle.listing.specs.Listing.{listing}
+use Rattle.tighten.specs.Tightest.{remainingOf}
+use Rattle.canonical.specs.House.{houseText}
 use Rattle.opening.specs.declared.Counts.{Counts}
 use Rattle.opening.specs.declared.Summary.{Summary}
 use Rattle.opening.specs.declared.Summary.the-variants as S
@@ -61,6 +64,16 @@ judgement sheet t = judgementFor (read sheet .network) (read sheet .outcome) t
 pub record Left : Type 0 where
   pub answer : Written
   pub memory : List ℕ
+
+-- the number, the line and the value of an answer: what was written is counted with 0 and 0, and a refusal's number and line stand with 0
+pub record WrittenValues : Type 0 where
+  pub number : ℕ
+  pub line : ℕ
+  pub count : ℕ
+
+abbrev pub writtenValues : Written → WrittenValues
+writtenValues (W.Count n) = record { number = 0; line = 0; count = n }
+writtenValues (W.Refused r) = record { number = numberOf (r .cause); line = r .line; count = 0 }
 
 -- the promise of a call that writes: its answer, and the lent memory as it returns
 pub record Leaves (l : Left) (r : Written) (m : List ℕ) : Type 0 where
@@ -112,3 +125,15 @@ listingFor sheet Γ (Refused r) t m = kept (W.Refused r) m
 
 abbrev pub listed : List ℕ → List ℕ → List ℕ → Left
 listed sheet t m = listingFor sheet (read sheet .network) (read sheet .outcome) t m
+
+-- writing the house form: "17, more than 64 rows would be left" (02, point 2), before 12
+abbrev pub houseFor : List ℕ → Network → Outcome → List ℕ → Left
+houseFor sheet Γ Accepted m =
+    elim (leb (length (remainingOf Γ)) N.rules) [
+      | true ↦ written (houseText sheet Γ) m
+      | false ↦ kept (W.Refused (withoutLine TooManyRows)) m
+    ]
+houseFor sheet Γ (Refused r) m = kept (W.Refused r) m
+
+abbrev pub housed : List ℕ → List ℕ → Left
+housed sheet m = houseFor sheet (read sheet .network) (read sheet .outcome) m

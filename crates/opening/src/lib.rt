@@ -1,7 +1,7 @@
 // The public calls. None asks anything of its caller: whatever the bytes and the lengths are, the answer is a defined one, and a
 // refusal leaves the lent memory as it was.
 ghost use mathlib.Core.Path.{_≡_};
-ghost use Rattle.opening.specs.Calls.{withoutLine, summary, judgement, solving, listed, Leaves, handedOut};
+ghost use Rattle.opening.specs.Calls.{withoutLine, summary, judgement, solving, listed, housed, Leaves, handedOut};
 ghost use Rattle.opening.specs.Play.{eventsDue, eventsDueOn, answerTo};
 use checker::Verdict;
 use dispatch::Dispatched;
@@ -32,7 +32,7 @@ pub enum Judgement {
     Refused(Refusal),
 }
 
-// What solve_sheet and write_listing answer: how many minutes or bytes were written.
+// What solve_sheet, write_listing and write_house answer: how many minutes or bytes were written.
 pub enum Written {
     Count(usize),
     Refused(Refusal),
@@ -136,6 +136,25 @@ pub fn write_listing(sheet: &[u8], table: &[u16], out: &mut [u8]) -> Written
                 return Written::Refused(without_line(Cause::WrongTableLength));
             }
             handed_out(listing::write(sheet, network, table, out))
+        }
+    }
+}
+
+// The sheet in its house form, into the first bytes of out.
+pub fn write_house(sheet: &[u8], out: &mut [u8]) -> Written
+    ensures { λ r. ⌜ Leaves (housed (now (sheet .entry)) (now (out .entry))) r (now (out .exit)) ⌝ }
+{
+    let reading = sheet::read(sheet);
+    let outcome = reading.outcome;
+    let network = reading.network;
+    match outcome {
+        Outcome::Refused(refusal) => Written::Refused(refusal),
+        Outcome::Accepted => {
+            let rows = tighten::remaining(network);
+            if !rows.fits {
+                return Written::Refused(without_line(Cause::TooManyRows));
+            }
+            handed_out(canonical::write(sheet, network, rows, out))
         }
     }
 }

@@ -1,6 +1,7 @@
 // Runs the trial sheets of data/ and prints what the public calls make of each, then compares the solver with the exhaustive search on
 // the small sheets. What it is to print was written by another program, which shares nothing with this one.
 mod ask;
+mod house;
 mod play;
 mod say;
 mod small;
@@ -32,9 +33,9 @@ fn list(sheet: &[u8], table: &[u16]) {
     match written {
         Written::Refused(refusal) => {
             say::text(b"listed ");
-            say::refused(refusal);
+            report::print_refusal(refusal);
         }
-        Written::Count(n) => say::front(&out, n),
+        Written::Count(n) => report::print_front(&out, n),
     }
 }
 
@@ -70,7 +71,7 @@ fn solve(sheet: &[u8]) {
     match written {
         Written::Refused(refusal) => {
             say::text(b"solved ");
-            say::refused(refusal);
+            report::print_refusal(refusal);
         }
         Written::Count(n) => list_and_play(sheet, &table, n),
     }
@@ -124,7 +125,6 @@ fn is_accepted(sheet: &[u8]) -> bool {
 }
 
 fn trial(sheet: &[u8], bytes: &[u8]) {
-    say::summary(opening::read_sheet(sheet));
     if 0 < bytes.len() {
         handed_in(sheet, bytes);
         return;
@@ -134,17 +134,21 @@ fn trial(sheet: &[u8], bytes: &[u8]) {
     }
 }
 
-// One byte more than a sheet may have, so that a longer one is seen to be longer.
-fn from_files(csv: &[u8], tab: &[u8]) {
+// One byte more than a sheet may have, so that a longer one is seen to be longer. The last form has `count` bytes; answers how many it has
+// now.
+fn from_files(csv: &[u8], tab: &[u8], last: &mut [u8], count: usize) -> usize {
     let mut sheet = [0u8; 4097];
     let mut bytes = [0u8; 1024];
     let n = read_file(csv, &mut sheet);
     let k = read_file(tab, &mut bytes);
+    say::summary(opening::read_sheet(&sheet[..n]));
+    let next = house::tell(&sheet[..n], last, count);
     trial(&sheet[..n], &bytes[..k]);
+    next
 }
 
 // The sheet in data/NNN.csv and the table in data/NNN.tab, where there is one.
-fn numbered(i: u8) {
+fn numbered(i: u8, last: &mut [u8], count: usize) -> usize {
     let hundreds = b'0' + i / 100 % 10;
     let tens = b'0' + i / 10 % 10;
     let ones = b'0' + i % 10;
@@ -152,7 +156,7 @@ fn numbered(i: u8) {
     let csv = [hundreds, tens, ones, b'.', b'c', b's', b'v'];
     let tab = [hundreds, tens, ones, b'.', b't', b'a', b'b'];
     say::text(&name);
-    from_files(&csv, &tab);
+    from_files(&csv, &tab, last, count)
 }
 
 fn small_sheets() {
@@ -162,8 +166,10 @@ fn small_sheets() {
 }
 
 fn main() {
-    for i in 1..=161u8 {
-        numbered(i);
+    let mut last = [0u8; 4096];
+    let mut count = 0;
+    for i in 1..=191u8 {
+        count = numbered(i, &mut last, count);
     }
     small_sheets();
 }

@@ -76,7 +76,7 @@ fn case(sheet: &[u8], network: Network, table: &[u16], played: &mut [u16], s: us
         let answer = opening::events_due_on(sheet, table, minute, said);
         match answer {
             Due::Refused(refusal) => {
-                say::refused(refusal);
+                report::print_refusal(refusal);
                 return;
             }
             Due::Events(due) => {

@@ -10,13 +10,6 @@ pub fn text(s: &[u8]) {
     io::write_all(STDOUT_FILENO, s);
 }
 
-// The first n bytes.
-pub fn front(s: &[u8], n: usize) {
-    if n <= s.len() {
-        text(&s[..n]);
-    }
-}
-
 pub fn number(n: u64) {
     io::print_decimal(STDOUT_FILENO, n);
 }
@@ -25,16 +18,6 @@ pub fn number(n: u64) {
 fn and_number(n: usize) {
     text(b" ");
     number(n as u64);
-}
-
-pub fn refused(refusal: Refusal) {
-    let cause = refusal.cause;
-    let line = refusal.line;
-    text(b"refused");
-    and_number(refusal::number(cause) as usize);
-    text(b" line");
-    and_number(line as usize);
-    text(b"\n");
 }
 
 // A refusal in one word, as r13.0.
@@ -49,7 +32,7 @@ pub fn short(refusal: Refusal) {
 
 pub fn summary(summary: Summary) {
     match summary {
-        Summary::Refused(refusal) => refused(refusal),
+        Summary::Refused(refusal) => report::print_refusal(refusal),
         Summary::Accepted(counts) => {
             text(b"accepted");
             and_number(counts.horizon as usize);
@@ -100,7 +83,7 @@ fn verdict(verdict: Verdict) {
 pub fn judgement(judgement: Judgement) {
     text(b"judged ");
     match judgement {
-        Judgement::Refused(refusal) => refused(refusal),
+        Judgement::Refused(refusal) => report::print_refusal(refusal),
         Judgement::Judged(found) => verdict(found),
     }
 }

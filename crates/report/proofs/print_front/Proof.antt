@@ -3,8 +3,8 @@ use mathlib.Core.Path.{sym}
 use native.Mathlib.Omega.{arith}
 use lib.Seq.{length-take-le}
 use borrow.Author.Needs.{needs}
-use Rattle.table.proofs.print_front.Statement.{statement}
-use Rattle.table.proofs.print_front.Tie as tie
+use Rattle.report.proofs.print_front.Statement.{statement}
+use Rattle.report.proofs.print_front.Tie as tie
 
 slice-aggregate-write-all : tie.Need-slice-aggregate-write-all
 slice-aggregate-write-all c = sym (length-take-le _ _ (omega arith))

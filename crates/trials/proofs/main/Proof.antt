@@ -1,19 +1,24 @@
--- `main` ends and is safe: the numbers go up from 1 to 161, so i stays at most 162, and the measure is what is left to that.
+-- `main` ends and is safe: the numbers go up from 1 to 191, so i stays at most 192, and the measure is what is left to that.
 -- Assumes nothing.
+use mathlib.Core.Path.{_≡_}
 use Prim.Native.Nat.{_-_, _≤_}
 use native.Mathlib.Omega.{arith}
+use lib.ListN.{length}
 use borrow.Author.Needs.{needs}
 use Rattle.trials.proofs.main.Statement.{statement}
 use Rattle.trials.proofs.main.Tie as tie
 
 abbrev Inv-loop : tie.InvT-loop
-Inv-loop i₀ i = i ≤ 162
+Inv-loop last₀ count₀ i₀ last count i = (i ≤ 192) × (length last ≡ 4096)
 
 abbrev μ-loop : tie.MeasureT-loop
-μ-loop i₀ i = 162 - i
+μ-loop last₀ count₀ i₀ last count i = 192 - i
 
 loop-holds : tie.Need-loop-holds Inv-loop μ-loop
 loop-holds c = search needs
+
+slice-aggregate-numbered : tie.Need-slice-aggregate-numbered Inv-loop μ-loop
+slice-aggregate-numbered c = search needs
 
 numbered-requires : tie.Need-numbered-requires Inv-loop μ-loop
 numbered-requires c κs = search needs
@@ -40,6 +45,7 @@ main-spec =
     Inv-loop
     μ-loop
     loop-holds
+    slice-aggregate-numbered
     numbered-requires
     add-i
     loop-less

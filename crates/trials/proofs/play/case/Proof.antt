@@ -22,8 +22,8 @@ events-due-on-requires c κs = search needs
 enum-known-answer : tie.Need-enum-known-answer Inv-loop μ-loop
 enum-known-answer c = search needs
 
-refused-requires : tie.Need-refused-requires Inv-loop μ-loop
-refused-requires c κs = search needs
+print-refusal-requires : tie.Need-print-refusal-requires Inv-loop μ-loop
+print-refusal-requires c κs = search needs
 
 same-length : tie.Need-same-length Inv-loop μ-loop
 same-length c = search needs
@@ -76,7 +76,7 @@ case-spec =
     loop-holds
     events-due-on-requires
     enum-known-answer
-    refused-requires
+    print-refusal-requires
     same-length
     returns
     enum-known-answer-2

@@ -1,0 +1,58 @@
+-- Sheets with equal horizons, event lists, signal lists and remaining rows have forms that contain the same: a row says its ends by names
+-- and its label by letters, which stand in those lists. Assumes nothing.
+use mathlib.Core.Path.{_≡_, _∙_, ap}
+use mathlib.Core.List.{List, map}
+use Prim.Native.Nat.{ℕ, _<_}
+use native.Mathlib.Omega.{arith}
+use Rattle.prelude.specs.Gather.{gather}
+use Rattle.prelude.proofs.Lists.{each-mono}
+use Rattle.prelude.proofs.Gather.{gather-same}
+use Rattle.prelude.proofs.Mapped.{map-same, tabulate-count, tabulate-value}
+use Rattle.network.specs.Build.{nameOf, letter, noConstraint}
+use Rattle.network.specs.Scenario.{truth}
+use Rattle.network.specs.declared.Kind.the-variants.{Max}
+use Rattle.network.specs.declared.Label.{Label}
+use Rattle.network.specs.declared.Constraint.{Constraint}
+use Rattle.network.specs.declared.Network.{Network}
+use Rattle.layout.specs.Layout.{Signal, textOf}
+use Rattle.tighten.specs.Tightest.{remainingOf}
+use Rattle.canonical.specs.House.{literalAt, literalsOf, signalAt, ruleOf, houseOf, houseText}
+use Rattle.canonical.specs.Same.{Same}
+use Rattle.canonical.proofs.Signs.{literalBy}
+use Rattle.canonical.proofs.Faithful.{Faithful}
+use Rattle.canonical.proofs.Keeping.{Row, remaining-rows}
+
+module _ {sheet : List ℕ} {Γ : Network} {other : List ℕ} {Δ : Network} (s : Same sheet Γ other Δ) where
+  name-same : (u : ℕ) → u < Γ .events → nameOf Γ sheet u ≡ nameOf Δ other u
+  name-same u h = tabulate-value (nameOf Γ sheet) (nameOf Δ other) (Γ .events) (Δ .events) (s .events) u h
+
+  letter-same : (p : ℕ) → p < Γ .signals → letter Γ p ≡ letter Δ p
+  letter-same p h = ap (λ (x : Signal). x .letter)
+      (tabulate-value (signalAt sheet Γ) (signalAt other Δ) (Γ .signals) (Δ .signals) (s .signals) p h)
+
+  literal-same : (ℓ : Label) (p : ℕ) → p < Γ .signals → literalAt Γ ℓ p ≡ literalAt Δ ℓ p
+  literal-same ℓ p h = ap (λ (b : ℕ). literalBy b (truth (ℓ .positive) p) (truth (ℓ .negative) p)) (letter-same p h)
+
+  literals-same : (ℓ : Label) → literalsOf Γ ℓ ≡ literalsOf Δ ℓ
+  literals-same ℓ =
+      gather-same (literalAt Γ ℓ) (literalAt Δ ℓ) 0 (Γ .signals) (λ p l h. literal-same ℓ p (omega arith))
+      ∙ ap (λ (k : ℕ). gather k (literalAt Δ ℓ))
+      (tabulate-count (signalAt sheet Γ) (signalAt other Δ) (Γ .signals) (Δ .signals) (s .signals))
+
+  rule-same : (r : Constraint) → Row Γ r → ruleOf sheet Γ r ≡ ruleOf other Δ r
+  rule-same r w =
+      let from = name-same (r .from) (w .proper .from) in
+      let to = name-same (r .to) (w .proper .to) in
+      let label = literals-same (r .label) in
+      λ i. record { kind = Max; from = from i; to = to i; limit = r .bound; label = label i }
+
+  pub house-same : Faithful sheet Γ → houseOf sheet Γ ≡ houseOf other Δ
+  house-same t =
+      let rules : map (ruleOf sheet Γ) (remainingOf Γ) ≡ map (ruleOf other Δ) (remainingOf Δ) =
+      map-same (ruleOf sheet Γ) (ruleOf other Δ) noConstraint (remainingOf Γ) (each-mono rule-same (remaining-rows t))
+      ∙ ap (map (ruleOf other Δ)) (s .rows) in
+      λ i. record { horizon = s .horizons i; names = s .events i; signals = s .signals i; rules = rules i }
+
+  pub text-same : Faithful sheet Γ → houseText sheet Γ ≡ houseText other Δ
+  unfolding houseText
+  text-same t = ap textOf (house-same t)

@@ -1,0 +1,132 @@
+-- How long a form is at most: part by part what `specs/Most.antt` says, which is less than a sheet may have. Assumes nothing.
+use mathlib.Core.Path.{_≡_}
+use mathlib.Core.Bool.{Bool, true, false}
+use mathlib.Core.List.{List, [], _∷_, _++_, map}
+use Prim.Native.Nat.{ℕ, suc, _+_, _*_, _≤_}
+use Prim.Native.String.{String}
+use native.Mathlib.Nat.{mul-suc, mul-le-mul-left}
+use native.Mathlib.Omega.{arith}
+use lib.IntN.{ℤ, pos, negsuc}
+use lib.ListN.{length, getD, length-append, length-map}
+use Rattle.prelude.specs.Bytes.{ascii}
+use Rattle.prelude.specs.Lists.{Each}
+use Rattle.prelude.proofs.Lists.{each-mono, each-in}
+use Rattle.prelude.proofs.Mapped.{each-map}
+use Rattle.text.specs.Lines.{comma, lineFeed}
+use Rattle.text.specs.Decimal.{decimal}
+use Rattle.text.proofs.Decimal.{length-decimal-16}
+use Rattle.network.specs.Limits as L
+use Rattle.network.specs.WellFormed.{InLimits}
+use Rattle.network.specs.declared.Kind.{Kind}
+use Rattle.network.specs.declared.Kind.the-variants.{Max, Min, Fix}
+use Rattle.names.specs.Names.{isName, Literal}
+use Rattle.names.proofs.Tokens.{name-short}
+use Rattle.layout.specs.Layout.{Signal, Rule, Contents, KeepsSignal, KeepsRule, Keeps, noSignal, noRule, signedText, signText}
+use Rattle.layout.specs.Layout.{literalsText, labelText, kindText, line, lines, section, signalLine, ruleLine, textOf}
+use Rattle.canonical.specs.Most.{mostCount, mostEvents, mostSignals, mostLabel, mostRule, mostRules, mostForm}
+
+-- a field and what is behind it
+length-line : (f : List ℕ) → length (line f []) ≡ length f + 1
+length-line f = length-append f (lineFeed ∷ [])
+
+length-field : (f g : List ℕ) (gs : List (List ℕ)) → length (line f (g ∷ gs)) ≡ length f + suc (length (line g gs))
+length-field f g gs = length-append f (comma ∷ line g gs)
+
+length-count : (word : List ℕ) (v : ℕ) → v ≤ 65535 → length (line word (decimal v ∷ [])) ≤ mostCount (length word)
+length-count word v h = omega (arith, length-field word (decimal v) [], length-line (decimal v), length-decimal-16 v h)
+
+-- lines of at most m bytes
+length-lines : (m : ℕ) (ls : List (List ℕ)) → Each (λ l. length l ≤ m) ls [] → length (lines ls) ≤ m * length ls
+length-lines m [] e = omega arith
+length-lines m (l ∷ ls) e =
+    let rest = length-lines m ls (record { each = λ i h. e .each (suc i) (omega arith) }) in
+    omega (arith, length-append l (lines ls), mul-suc m (length ls), e .each 0 (omega arith), rest)
+
+length-section : (word : String) (m n : ℕ) (ls : List (List ℕ)) → length ls ≤ n → n ≤ 65535 → Each (λ l. length l ≤ m) ls []
+    → length (section word ls) ≤ mostCount (length (ascii word)) + m * n
+length-section word m n ls few h e =
+    let count = line (ascii word) (decimal (length ls) ∷ []) in
+    omega (
+      arith,
+      length-append count (lines ls),
+      length-count (ascii word) (length ls) (omega arith),
+      length-lines m ls e,
+      mul-le-mul-left m few,
+    )
+
+-- a limit, a label and a kind
+length-signed : (z : ℤ) → InLimits z → length (signedText z) ≤ 6
+length-signed (pos n) h = omega (arith, length-decimal-16 n (omega arith))
+length-signed (negsuc n) h = omega (arith, length-decimal-16 (suc n) (omega arith))
+
+length-sign : (v : Bool) → length (signText v) ≤ 1
+length-sign true = omega arith
+length-sign false = omega arith
+
+length-literals : (ls : List Literal) → length (literalsText ls) ≤ 2 * length ls
+length-literals [] = omega arith
+length-literals (l ∷ ls) =
+    omega (arith, length-append (signText (l .value)) (l .letter ∷ literalsText ls), length-sign (l .value), length-literals ls)
+
+length-label : (ls : List Literal) → length ls ≤ L.signals → length (labelText ls) ≤ mostLabel
+length-label [] h = omega arith
+length-label (l ∷ ls) h = omega (arith, length-literals (l ∷ ls))
+
+length-kind : (k : Kind) → length (kindText k) ≤ 3
+length-kind Max = omega arith
+length-kind Min = omega arith
+length-kind Fix = omega arith
+
+-- four parts one behind the other
+length-parts : (h e s r : List ℕ) → length h ≤ mostCount 7 → length e ≤ mostEvents → length s ≤ mostSignals → length r ≤ mostRules
+    → length (h ++ e ++ s ++ r) ≤ mostForm
+length-parts h e s r a b c d =
+    omega (arith, length-append (h ++ e ++ s) r, length-append (h ++ e) s, length-append h e)
+
+module _ (c : Contents) (k : Keeps c) where
+  length-events : Each (λ l. length l ≤ 9) (map (λ n. line n []) (c .names)) []
+  length-events =
+      each-map (λ n. line n []) (λ l. length l ≤ 9) [] [] (c .names)
+      (each-mono (λ n e. omega (arith, length-line n, name-short n e)) (k .names))
+
+  length-signal : (x : Signal) → KeepsSignal (c .names) x → length (signalLine x) ≤ 11
+  length-signal x e =
+      let name = name-short (x .event) (each-in (λ n. isName n ≡ true) (k .names) (e .event)) in
+      omega (arith, length-line (x .event))
+
+  abbrev Few : Rule → Type 0
+  Few x = length (x .label) ≤ L.signals
+
+  length-rule : (x : Rule) → KeepsRule (c .names) (map (λ s. s .letter) (c .signals)) x → Few x → length (ruleLine x) ≤ mostRule
+  length-rule x e few =
+      let from = name-short (x .from) (each-in (λ n. isName n ≡ true) (k .names) (e .from)) in
+      let to = name-short (x .to) (each-in (λ n. isName n ≡ true) (k .names) (e .to)) in
+      let limit = signedText (x .limit) in
+      let label = labelText (x .label) in
+      omega (
+        arith,
+        length-field (kindText (x .kind)) (x .from) (x .to ∷ limit ∷ label ∷ []),
+        length-kind (x .kind),
+        length-field (x .from) (x .to) (limit ∷ label ∷ []),
+        length-field (x .to) limit (label ∷ []),
+        length-field limit label [],
+        length-line label,
+        length-signed (x .limit) (e .limit),
+        length-label (x .label) few,
+      )
+
+  pub length-text : Each Few (c .rules) noRule → length (textOf c) ≤ mostForm
+  length-text few =
+      let names = map (λ n. line n []) (c .names) in
+      let signals = map signalLine (c .signals) in
+      let rules = map ruleLine (c .rules) in
+      length-parts (line (ascii "horizon") (decimal (c .horizon) ∷ [])) (section "events" names) (section "signals" signals)
+      (section "rules" rules)
+      (length-count (ascii "horizon") (c .horizon) (omega (arith, k .horizon)))
+      (length-section "events" 9 L.events names (omega (arith, k .events, length-map (c .names) (λ n. line n []))) (omega arith)
+      length-events)
+      (length-section "signals" 11 L.signals signals (omega (arith, k .few-signals, length-map (c .signals) signalLine)) (omega arith)
+      (each-map signalLine (λ l. length l ≤ 11) noSignal [] (c .signals) (each-mono length-signal (k .signals))))
+      (length-section "rules" mostRule L.rules rules (omega (arith, k .few-rules, length-map (c .rules) ruleLine)) (omega arith)
+      (each-map ruleLine (λ l. length l ≤ mostRule) noRule [] (c .rules)
+      (record { each = λ i h. length-rule (getD (c .rules) i noRule) (k .rules .each i h) (few .each i h) })))

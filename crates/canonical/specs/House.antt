@@ -1,0 +1,69 @@
+-- A sheet in its house form (02, point 2): "horizon, events and signals as they are", the rows that remain, "Label letters stand in signal
+-- order". What the form contains is said as the layout says what any sheet contains, and it is written as any sheet is.
+use mathlib.Core.Bool.{Bool, true, false}
+use mathlib.Core.Option.{Option, some}
+use mathlib.Core.List.{List, map}
+use Prim.Native.Nat.{ℕ}
+use Rattle.prelude.specs.Bounded.{tabulate}
+use Rattle.prelude.specs.Search.{when}
+use Rattle.prelude.specs.Gather.{gather}
+use Rattle.network.specs.Build.{nameOf, letter, observation}
+use Rattle.network.specs.Scenario.{truth}
+use Rattle.network.specs.declared.Kind.the-variants.{Max}
+use Rattle.network.specs.declared.Label.{Label}
+use Rattle.network.specs.declared.Constraint.{Constraint}
+use Rattle.network.specs.declared.Network.{Network}
+use Rattle.names.specs.Names.{Literal}
+use Rattle.layout.specs.Layout.{Signal, Rule, Contents, textOf}
+use Rattle.tighten.specs.Tightest.{remainingOf}
+
+-- a letter, with the truth that a label asks of it
+abbrev pub literal : ℕ → Bool → Literal
+literal b v = record { letter = b; value = v }
+
+module _ (Γ : Network) (ℓ : Label) where
+  -- what the label asks of signal p, if it does
+  abbrev pub literalAt : ℕ → Option Literal
+  literalAt p =
+      elim (truth (ℓ .positive) p) [
+        | true ↦ some (literal (letter Γ p) true)
+        | false ↦ when (truth (ℓ .negative) p) (literal (letter Γ p) false)
+      ]
+
+  -- its letters in signal order
+  abbrev pub literalsOf : List Literal
+  literalsOf = gather (Γ .signals) literalAt
+
+module _ (sheet : List ℕ) (Γ : Network) where
+  -- the event list
+  abbrev pub namesOf : List (List ℕ)
+  namesOf = tabulate (Γ .events) (nameOf Γ sheet)
+
+  -- the signal list
+  abbrev pub signalAt : ℕ → Signal
+  signalAt p = record { letter = letter Γ p; event = nameOf Γ sheet (observation Γ p) }
+
+  abbrev pub signalsOf : List Signal
+  signalsOf = tabulate (Γ .signals) signalAt
+
+  -- a row that remains
+  abbrev pub ruleOf : Constraint → Rule
+  ruleOf r = record {
+    kind = Max;
+    from = nameOf Γ sheet (r .from);
+    to = nameOf Γ sheet (r .to);
+    limit = r .bound;
+    label = literalsOf Γ (r .label);
+  }
+
+  abbrev pub houseOf : Contents
+  houseOf = record {
+    horizon = Γ .horizon;
+    names = namesOf;
+    signals = signalsOf;
+    rules = map ruleOf (remainingOf Γ);
+  }
+
+  -- the form's bytes
+  unfoldable pub houseText : List ℕ
+  houseText = textOf houseOf

@@ -1,0 +1,5 @@
+-- Read in this order: the form; when two are the same; a part of it; how long each part is at most.
+pub mod House
+pub mod Same
+pub mod Parts
+pub mod Most

@@ -1,0 +1,14 @@
+-- What two sheets have in common whose forms are the same bytes (02, point 2): "their horizons, event lists, signal lists and remaining rows
+-- are equal". A row names its events by their places, which are the same events where the event lists are equal.
+use mathlib.Core.Path.{_≡_}
+use mathlib.Core.List.{List}
+use Prim.Native.Nat.{ℕ}
+use Rattle.network.specs.declared.Network.{Network}
+use Rattle.tighten.specs.Tightest.{remainingOf}
+use Rattle.canonical.specs.House.{namesOf, signalsOf}
+
+pub record Same (sheet : List ℕ) (Γ : Network) (other : List ℕ) (Δ : Network) : Type 0 where
+  pub horizons : Γ .horizon ≡ Δ .horizon
+  pub events : namesOf sheet Γ ≡ namesOf other Δ
+  pub signals : signalsOf sheet Γ ≡ signalsOf other Δ
+  pub rows : remainingOf Γ ≡ remainingOf Δ

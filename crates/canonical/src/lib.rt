@@ -1,0 +1,176 @@
+// A sheet in its house form. Each function that writes a part of it takes the place where the part begins and answers the place where it
+// ends; each section has its own.
+ghost use mathlib.Core.Path.{_≡_};
+ghost use mathlib.Core.Bool.{Bool, true, false};
+ghost use mathlib.Core.List.{[], _∷_, map};
+ghost use Prim.Native.Nat.{ℕ, _+_, _≤_, _<_};
+ghost use lib.ListN.{length, take};
+ghost use Rattle.prelude.specs.Bytes.{ascii};
+ghost use Rattle.text.specs.Lines.{comma};
+ghost use Rattle.text.specs.Decimal.{decimal};
+ghost use Rattle.page.specs.Appended.{Appended};
+ghost use Rattle.page.specs.Written.{WrittenIs};
+ghost use Rattle.network.specs.Limits as L;
+ghost use Rattle.network.specs.Build.{nameOf};
+ghost use Rattle.network.specs.WellFormed.{InLimits, Proper, WellFormed, Named};
+ghost use Rattle.layout.specs.Layout.{line, section, signalLine, ruleLine, signedText, labelText};
+ghost use Rattle.tighten.specs.Tightest.{remainingOf};
+ghost use Rattle.tighten.specs.Held.{RowsAre};
+ghost use Rattle.canonical.specs.House.{literalsOf, namesOf, signalsOf, ruleOf, houseText};
+ghost use Rattle.canonical.specs.Parts.{literalText};
+ghost use Rattle.canonical.specs.Most.{mostCount, mostEvents, mostSignals, mostLabel, mostRule, mostRules};
+use network::Constraint;
+use network::Label;
+use network::Network;
+use page::Written;
+use tighten::Rows;
+
+// The name of event u, as a part of the sheet.
+fn name_of(sheet: &[u8], network: Network, u: usize) -> &[u8]
+    requires { ⌜ WellFormed network × Named (now sheet) network × (u < network .events) ⌝ }
+    ensures { λ r. ⌜ (now r ≡ nameOf network (now (sheet .entry)) u) × (length (now r) ≤ 8) ⌝ }
+{
+    let start = network.starts[u];
+    let end = start + network.lengths[u];
+    &sheet[start..end]
+}
+
+// The line `word,count`.
+fn push_count(page: &mut [u8], at: usize, word: &[u8], count: u16) -> usize
+    requires { ⌜ at + mostCount (length (now word)) ≤ length (now page) ⌝ }
+    ensures { λ r. ⌜ Appended (mostCount (length (now (word .entry)))) (now (page .entry)) at
+        (line (now (word .entry)) (decimal count ∷ [])) (now (page .exit)) r ⌝ }
+{
+    let mut next = page::push_all(page, at, word);
+    next = page::push(page, next, b',');
+    next = page::push_number(page, next, count);
+    page::push(page, next, b'\n')
+}
+
+// The events: a name a line.
+fn push_events(page: &mut [u8], at: usize, sheet: &[u8], network: Network) -> usize
+    requires { ⌜ WellFormed network × Named (now sheet) network × (at + mostEvents ≤ length (now page)) ⌝ }
+    ensures { λ r. ⌜ Appended mostEvents (now (page .entry)) at
+        (section "events" (map (λ n. line n []) (namesOf (now (sheet .entry)) network))) (now (page .exit)) r ⌝ }
+{
+    let mut next = push_count(page, at, b"events", network.events as u16);
+    for u in 0..network.events {
+        next = page::push_all(page, next, name_of(sheet, network, u));
+        next = page::push(page, next, b'\n');
+    }
+    next
+}
+
+// The signals: a letter and its event's name a line.
+fn push_signals(page: &mut [u8], at: usize, sheet: &[u8], network: Network) -> usize
+    requires { ⌜ WellFormed network × Named (now sheet) network × (at + mostSignals ≤ length (now page)) ⌝ }
+    ensures { λ r. ⌜ Appended mostSignals (now (page .entry)) at
+        (section "signals" (map signalLine (signalsOf (now (sheet .entry)) network)))
+        (now (page .exit)) r ⌝ }
+{
+    let mut next = push_count(page, at, b"signals", network.signals as u16);
+    for p in 0..network.signals {
+        next = page::push(page, next, network.letters[p]);
+        next = page::push_field(page, next, name_of(sheet, network, network.observations[p]));
+        next = page::push(page, next, b'\n');
+    }
+    next
+}
+
+// A limit with its sign, behind its comma.
+fn push_limit(page: &mut [u8], at: usize, bound: i32) -> usize
+    requires { ⌜ InLimits bound × (at + 7 ≤ length (now page)) ⌝ }
+    ensures { λ r. ⌜ Appended 7 (now (page .entry)) at (comma ∷ signedText bound) (now (page .exit)) r ⌝ }
+{
+    let next = page::push(page, at, b',');
+    if bound < 0 {
+        let after = page::push(page, next, b'-');
+        return page::push_number(page, after, (-bound) as u16);
+    }
+    page::push_number(page, next, bound as u16)
+}
+
+// What a label asks of one letter, if it does.
+fn push_literal(page: &mut [u8], at: usize, letter: u8, positive: bool, negative: bool) -> usize
+    requires { ⌜ at + 2 ≤ length (now page) ⌝ }
+    ensures { λ r. ⌜ Appended 2 (now (page .entry)) at (literalText letter positive negative) (now (page .exit)) r ⌝ }
+{
+    if positive {
+        return page::push(page, at, letter);
+    }
+    if negative {
+        let next = page::push(page, at, b'!');
+        return page::push(page, next, letter);
+    }
+    at
+}
+
+// A label, its letters in signal order; its two sums are halved from one signal to the next.
+fn push_label(page: &mut [u8], at: usize, network: Network, label: Label) -> usize
+    requires { ⌜ WellFormed network × (at + mostLabel ≤ length (now page)) ⌝ }
+    ensures { λ r. ⌜ Appended mostLabel (now (page .entry)) at (labelText (literalsOf network label)) (now (page .exit)) r ⌝ }
+{
+    let mut next = at;
+    let mut positive = label.positive;
+    let mut negative = label.negative;
+    for p in 0..network.signals {
+        next = push_literal(
+            page,
+            next,
+            network.letters[p],
+            positive % 2 == 1,
+            negative % 2 == 1,
+        );
+        positive = positive / 2;
+        negative = negative / 2;
+    }
+    if next == at {
+        return page::push(page, at, b'-');
+    }
+    next
+}
+
+// One row.
+fn push_rule(page: &mut [u8], at: usize, sheet: &[u8], network: Network, row: Constraint) -> usize
+    requires { ⌜ WellFormed network × Named (now sheet) network × Proper network row × (at + mostRule ≤ length (now page)) ⌝ }
+    ensures { λ r. ⌜ Appended mostRule (now (page .entry)) at (ruleLine (ruleOf (now (sheet .entry)) network row)) (now (page .exit)) r ⌝ }
+{
+    let label = row.label;
+    let mut next = page::push_all(page, at, b"max");
+    next = page::push_field(page, next, name_of(sheet, network, row.from));
+    next = page::push_field(page, next, name_of(sheet, network, row.to));
+    next = push_limit(page, next, row.bound);
+    next = page::push(page, next, b',');
+    next = push_label(page, next, network, label);
+    page::push(page, next, b'\n')
+}
+
+// The rows that remain.
+fn push_rules(page: &mut [u8], at: usize, sheet: &[u8], network: Network, rows: Rows) -> usize
+    requires { ⌜ WellFormed network × Named (now sheet) network × RowsAre (remainingOf network) rows × (rows .fits ≡ true) ×
+        (at + mostRules ≤ length (now page)) ⌝ }
+    ensures { λ r. ⌜ Appended mostRules (now (page .entry)) at
+        (section "rules" (map ruleLine (map (ruleOf (now (sheet .entry)) network) (remainingOf network)))) (now (page .exit)) r ⌝ }
+{
+    let mut next = push_count(page, at, b"rules", rows.count as u16);
+    for i in 0..rows.count {
+        next = push_rule(page, next, sheet, network, rows.rows[i]);
+    }
+    next
+}
+
+// The longest form.
+const LONGEST: usize = 2673;
+
+// The form into out, where the rows that remain fit a sheet: how many bytes were written, or that out is too short for them.
+pub fn write(sheet: &[u8], network: Network, rows: Rows, out: &mut [u8]) -> Written
+    requires { ⌜ WellFormed network × Named (now sheet) network × RowsAre (remainingOf network) rows × (rows .fits ≡ true) ⌝ }
+    ensures { λ r. ⌜ WrittenIs (houseText (now (sheet .entry)) network) (now (out .entry)) (now (out .exit)) r ⌝ }
+{
+    let mut page = [0u8; LONGEST];
+    let events = push_count(&mut page, 0, b"horizon", network.horizon);
+    let signals = push_events(&mut page, events, sheet, network);
+    let rules = push_signals(&mut page, signals, sheet, network);
+    let end = push_rules(&mut page, rules, sheet, network, rows);
+    page::hand_out(&page[..end], out)
+}

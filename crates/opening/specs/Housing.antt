@@ -1,0 +1,65 @@
+-- What holds of the call that writes a sheet in its house form (02, point 2), for every sheet and lent buffer.
+use mathlib.Core.Path.{_≡_}
+use mathlib.Core.Logic.{_↔_}
+use mathlib.Core.List.{List, _++_}
+use Prim.Native.Nat.{ℕ, _≤_, _<_}
+use lib.ListN.{length, drop}
+use Rattle.refusal.specs.declared.Refusal.{Refusal}
+use Rattle.network.specs.Limits as L
+use Rattle.network.specs.Solution.{Solution}
+use Rattle.network.specs.Least.{Least, Inconsistent}
+use Rattle.network.specs.declared.Constraint.{Constraint}
+use Rattle.network.specs.declared.Network.{Network}
+use Rattle.sheet.specs.Reading.{read}
+use Rattle.sheet.specs.declared.Outcome.the-variants as O
+use Rattle.sheet.specs.declared.Reading.{Reading}
+use Rattle.tighten.specs.Upper.{rowsOf}
+use Rattle.tighten.specs.Remaining.{Remaining}
+use Rattle.tighten.specs.Tightest.{remainingOf}
+use Rattle.canonical.specs.House.{houseText}
+use Rattle.canonical.specs.Same.{Same}
+use Rattle.opening.specs.Calls.{WrittenValues, writtenValues, Left, housed}
+use Rattle.opening.specs.Demands.{Reads, Keeps}
+use Rattle.opening.specs.declared.Written.the-variants as W
+
+-- the sheet's network is Γ, no more rows remain of it than a sheet may have, and f is its form
+pub record Form (sheet : List ℕ) (Γ : Network) (f : List ℕ) : Type 0 where
+  pub reads : Reads sheet Γ
+  pub few : length (remainingOf Γ) ≤ L.rules
+  pub form : f ≡ houseText sheet Γ
+
+-- the answer's values, in a lent buffer m
+abbrev pub answer : List ℕ → List ℕ → WrittenValues
+answer sheet m = writtenValues (housed sheet m .answer)
+
+abbrev pub refusedAs : ℕ → WrittenValues
+refusedAs n = record { number = n; line = 0; count = 0 }
+
+abbrev pub wrote : ℕ → WrittenValues
+wrote n = record { number = 0; line = 0; count = n }
+
+-- two networks have the same good tables: the same least one, or none
+pub record SameTables (Γ Δ : Network) : Type 0 where
+  pub good : (σ : List ℕ) → Solution Γ σ ↔ Solution Δ σ
+  pub least : (σ : List ℕ) → Least Γ σ ↔ Least Δ σ
+  pub none : Inconsistent Γ ↔ Inconsistent Δ
+
+pub record Housing : Type 0 where
+  -- "Refusal alters nothing", and the sheet's own comes first
+  pub keeps : (sheet m : List ℕ) → Keeps (housed sheet m) m
+  pub refused : (sheet m : List ℕ) (r : Refusal) → read sheet .outcome ≡ O.Refused r → housed sheet m .answer ≡ W.Refused r
+  -- 17 exactly where "more than 64 rows would be left"; then 12 exactly where the buffer is too short
+  pub too-many : (sheet m : List ℕ) (Γ : Network) → Reads sheet Γ → (answer sheet m ≡ refusedAs 17) ↔ (L.rules < length (remainingOf Γ))
+  pub too-short : (sheet m f : List ℕ) (Γ : Network) → Form sheet Γ f → (answer sheet m ≡ refusedAs 12) ↔ (length m < length f)
+  -- otherwise the form is written, and everything behind it is unaltered
+  pub written : (sheet m f : List ℕ) (Γ : Network) → Form sheet Γ f → length f ≤ length m
+      → (answer sheet m ≡ wrote (length f)) × (housed sheet m .memory ≡ f ++ drop (length f) m)
+  -- the rows in it are those that remain of the sheet's, in document 02's words, and no other list is
+  pub rows : (sheet : List ℕ) (Γ : Network) → Reads sheet Γ → Remaining (rowsOf Γ) (remainingOf Γ)
+  pub rows-alone : (sheet : List ℕ) (Γ : Network) (rs : List Constraint) → Reads sheet Γ → Remaining (rowsOf Γ) rs → rs ≡ remainingOf Γ
+  -- "a second pass changes no byte": the form is a sheet that is accepted, and it is its own form
+  pub again : (sheet f : List ℕ) (Γ : Network) → Form sheet Γ f → (Δ : Network) × Form f Δ f
+  -- "The form reads back to the same good tables"
+  pub tables : (sheet f : List ℕ) (Γ Δ : Network) → Form sheet Γ f → Reads f Δ → SameTables Γ Δ
+  -- "Two sheets give equal bytes if and only if their horizons, event lists, signal lists and remaining rows are equal"
+  pub equal : (sheet other f g : List ℕ) (Γ Δ : Network) → Form sheet Γ f → Form other Δ g → (f ≡ g) ↔ Same sheet Γ other Δ
