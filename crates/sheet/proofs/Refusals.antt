@@ -31,10 +31,11 @@ use Rattle.names.specs.Found.{foundOf, isFound}
 use Rattle.names.specs.declared.Found.{Found}
 use Rattle.names.proofs.Finds.{found-answers}
 use Rattle.sheet.specs.Rows.{eventOf, eventRefusal, signalRefusal, isObservation, kindOf, ruleRefusal, ruleOf}
-use Rattle.sheet.specs.Answers.{givesFound, checkOf, kindFound, limitOf, wordRefusal, ruleAnswer, endsAnswer}
+use Rattle.sheet.specs.Answers.{givesFound, checkOf, kindFound, limitOf, wordRefusal, rowAnswer, endsRefusal, endsAnswer}
 use Rattle.sheet.specs.declared.Check.the-variants as K
 use Rattle.sheet.specs.declared.KindField.the-variants as F
 use Rattle.sheet.specs.declared.Limit.the-variants as M
+use Rattle.sheet.specs.declared.row.Entry.the-variants as E
 use Rattle.sheet.proofs.Checks.{all-hold, three-same}
 use Rattle.sheet.proofs.Numbers.{countTests, value-fits}
 
@@ -138,16 +139,7 @@ module _ (sheet : List ℕ) (Γ : Network) (fs : List (List ℕ)) where
     rule-beyond h b = rw (eq-eqb (length fs) 5 n, e, h, b)
 
     pub rule-tests : isNumber (field 3 fs) ≡ true → leb (magnitude (field 3 fs)) L.horizon ≡ true
-        → ruleRefusal sheet Γ fs
-        ≡ firstFailing
-        ((isName (field 1 fs) && (isName (field 2 fs) && isLabel (field 4 fs)), C.IllFormedName)
-        ∷ (
-          answers (eventOf sheet Γ (field 1 fs)) && (answers (eventOf sheet Γ (field 2 fs))
-              && allDefined (Γ .signals) (Γ .letters) (lettersOf (labelOf (field 4 fs)))),
-          C.Undefined,
-        )
-        ∷ (distinct (lettersOf (labelOf (field 4 fs))), C.RepeatedLetter)
-        ∷ [])
+        → ruleRefusal sheet Γ fs ≡ endsRefusal sheet Γ (field 1 fs) (field 2 fs) (field 4 fs)
     unfolding ruleRefusal
     rule-tests h b = rw (eq-eqb (length fs) 5 n, e, h, b)
 
@@ -198,22 +190,14 @@ module _ (f : List ℕ) where
   limit-none e = by-ill (isNumber f) (leb (magnitude f) L.horizon) (valueOf f) e
 
 -- the ends and the label of a rule: the tests by what was found out, and what they say of the label where they pass
-module _ (sheet : List ℕ) (Γ : Network) (from to label t : List ℕ) {a b : Found} {named defined unlike : Bool}
-    (is : literals false t ≡ labelOf label) (first : a ≡ foundOf (eventOf sheet Γ from)) (second : b ≡ foundOf (eventOf sheet Γ to))
-    (e-named : named ≡ isName from && (isName to && isLabel label))
-    (e-defined : defined ≡ isFound a && (isFound b && allDefined (Γ .signals) (Γ .letters) (lettersOf (literals false t))))
-    (e-unlike : unlike ≡ distinct (lettersOf (literals false t))) where
-  pub ends-tests : firstFailing ((named, C.IllFormedName) ∷ (defined, C.Undefined) ∷ (unlike, C.RepeatedLetter) ∷ [])
-      ≡ firstFailing
-      ((isName from && (isName to && isLabel label), C.IllFormedName)
-      ∷ (
-        answers (eventOf sheet Γ from) && (answers (eventOf sheet Γ to)
-            && allDefined (Γ .signals) (Γ .letters) (lettersOf (labelOf label))),
-        C.Undefined,
-      )
-      ∷ (distinct (lettersOf (labelOf label)), C.RepeatedLetter)
-      ∷ [])
-  ends-tests =
+module _ (sheet : List ℕ) (Γ : Network) (from to label t : List ℕ) (is : literals false t ≡ labelOf label) where
+  pub ends-tests : {a b : Found} {named defined unlike : Bool} → a ≡ foundOf (eventOf sheet Γ from) → b ≡ foundOf (eventOf sheet Γ to)
+      → named ≡ isName from && (isName to && isLabel label)
+      → defined ≡ isFound a && (isFound b && allDefined (Γ .signals) (Γ .letters) (lettersOf (literals false t)))
+      → unlike ≡ distinct (lettersOf (literals false t))
+      → firstFailing ((named, C.IllFormedName) ∷ (defined, C.Undefined) ∷ (unlike, C.RepeatedLetter) ∷ [])
+      ≡ endsRefusal sheet Γ from to label
+  ends-tests {a} {b} {named} {defined} {unlike} first second e-named e-defined e-unlike =
       three-same named defined unlike (isName from && (isName to && isLabel label))
       (answers (eventOf sheet Γ from) && (answers (eventOf sheet Γ to) && allDefined (Γ .signals) (Γ .letters)
       (lettersOf (labelOf label))))
@@ -225,17 +209,21 @@ module _ (sheet : List ℕ) (Γ : Network) (from to label t : List ℕ) {a b : F
     pub all-known : allDefined (Γ .signals) (Γ .letters) (lettersOf (literals false t)) ≡ true
     pub all-unlike : distinct (lettersOf (literals false t)) ≡ true
 
-  pub ends-pass : firstFailing ((named, C.IllFormedName) ∷ (defined, C.Undefined) ∷ (unlike, C.RepeatedLetter) ∷ []) ≡ none → EndsPass
+  pub ends-pass : endsRefusal sheet Γ from to label ≡ none → EndsPass
   ends-pass e =
-      let holds = all-hold ((named, C.IllFormedName) ∷ (defined, C.Undefined) ∷ (unlike, C.RepeatedLetter) ∷ []) e in
-      let d = allDefined (Γ .signals) (Γ .letters) (lettersOf (literals false t)) in
-      let w = both (isFound a) (isFound b && d) (sym e-defined ∙ holds 1) in
-      record { all-known = both (isFound b) d (w .1) .1; all-unlike = sym e-unlike ∙ holds 2 }
+      let d = allDefined (Γ .signals) (Γ .letters) (lettersOf (labelOf label)) in
+      let tests : List (Bool × Cause) = (isName from && (isName to && isLabel label), C.IllFormedName)
+      ∷ (answers (eventOf sheet Γ from) && (answers (eventOf sheet Γ to) && d), C.Undefined)
+      ∷ (distinct (lettersOf (labelOf label)), C.RepeatedLetter) ∷ [] in
+      let holds = all-hold tests e in
+      let w = both (answers (eventOf sheet Γ from)) (answers (eventOf sheet Γ to) && d) (holds 1) in
+      record { all-known = rw is (both (answers (eventOf sheet Γ to)) d (w .1) .1); all-unlike = rw is (holds 2) }
 
 -- a rule whose kind and limit have passed, by its ends and its label
 pub ends-row : (sheet : List ℕ) (Γ : Network) (fs : List (List ℕ)) (k : Kind) (z : ℤ) (n : ℕ) → length fs ≡ 5
     → kindOf (field 0 fs) ≡ some k → LimitIs (field 3 fs) z
-    → endsAnswer sheet Γ (field 1 fs) (field 2 fs) (field 4 fs) k z n ≡ ruleAnswer (ruleRefusal sheet Γ fs) (ruleOf sheet Γ fs) n
+    → endsAnswer sheet Γ (field 1 fs) (field 2 fs) (field 4 fs) k z n
+    ≡ rowAnswer (ruleRefusal sheet Γ fs) (E.Rule (ruleOf sheet Γ fs)) n
 ends-row sheet Γ fs k z n five e w =
     let value = w .value in
     let kind : Option·getD (kindOf (field 0 fs)) Max ≡ k = ap (λ (o : Option Kind). Option·getD o Max) e in

@@ -22,7 +22,8 @@ use Rattle.names.specs.Defined.{allDefined}
 use Rattle.names.proofs.Finds.{finds-answer}
 use Rattle.names.proofs.Labels.{sum-is}
 use Rattle.sheet.specs.Rows.{eventOf, ruleRefusal, ruleOf, ruleRow}
-use Rattle.sheet.specs.Stage.{Stage}
+use Rattle.sheet.specs.Stage.{toCome, Stage}
+use Rattle.sheet.specs.declared.section.Section.the-variants.{Rules}
 use Rattle.sheet.proofs.Checks.{all-hold}
 use Rattle.sheet.proofs.Places.{line-inside}
 use Rattle.sheet.proofs.Rows.{Passes}
@@ -37,10 +38,10 @@ limits-of : (f : List ℕ) → magnitude f ≤ L.horizon → InLimits (valueOf f
 limits-of f h =
     by-cond InLimits (isNegative f) (negℤ (pos (magnitude f))) (pos (magnitude f)) (λ e. neg-limits (magnitude f) h) (λ e. h)
 
-module _ (sheet : List ℕ) {e s r : ℕ} {Γ : Network} {at k : ℕ} where
+module _ (sheet : List ℕ) {m : ℕ} {Γ : Network} {at k : ℕ} where
   -- a rule
-  pub stage-rule : Stage sheet e s (suc r) Γ at k → Passes sheet at k (ruleRefusal sheet Γ)
-      → Stage sheet e s r (ruleRow sheet .add Γ at (fields (lineAt sheet at))) (afterLine sheet at) (suc k)
+  pub stage-rule : Stage sheet (toCome Rules (suc m)) Γ at k → Passes sheet at k (ruleRefusal sheet Γ)
+      → Stage sheet (toCome Rules m) (ruleRow sheet .add Γ at (fields (lineAt sheet at))) (afterLine sheet at) (suc k)
   unfolding ruleRefusal
   stage-rule g p =
       let fs = fields (lineAt sheet at) in

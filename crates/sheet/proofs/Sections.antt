@@ -11,25 +11,25 @@ use borrow.Author.Tests.{lt-leb, le-leb}
 use lib.Dec.{leb}
 use lib.ListN.{length, drop}
 use Rattle.prelude.specs.Bytes.{ascii}
-use Rattle.text.specs.Lines.{lineFeed, upTo, fields, lineAt, afterLine}
+use Rattle.text.specs.Lines.{fields, lineAt, endsAt, afterLine}
 use Rattle.refusal.specs.Refusal.{refusal}
 use Rattle.refusal.specs.declared.Cause.{Cause}
 use Rattle.refusal.specs.declared.Cause.the-variants as C
 use Rattle.network.specs.Limits as L
 use Rattle.network.specs.Build.{empty}
 use Rattle.network.specs.declared.Network.{Network}
-use Rattle.sheet.specs.Rows.{sectionRefusal, sectionCount, Row}
-use Rattle.sheet.specs.Reading.{Progress, Stop, Go, andThen, readLine, readRows, readSection, readHorizon}
+use Rattle.sheet.specs.Rows.{sectionRefusal, sectionCount}
+use Rattle.sheet.specs.Reading.{Progress, Stop, Go, andThen, readLine, readRows, readHorizon}
 use Rattle.sheet.specs.Reading.{readEvents, readSignals, readRules, readEnd, longest, progress, answered, read}
-use Rattle.sheet.specs.Stage.{Stage}
-use Rattle.sheet.specs.Answers.{lineRefusal, wordRefusal, sectionAnswer, sectionOf}
-use Rattle.sheet.specs.Reached.{Ready}
-use Rattle.sheet.specs.declared.SectionRow.{SectionRow}
+use Rattle.sheet.specs.Sections.{Heading, headingOf, rowsOf, readOf}
+use Rattle.sheet.specs.Stage.{toCome, whole, Stage}
+use Rattle.sheet.specs.Answers.{wordRefusal, sectionAnswer, sectionAt, headingAt}
+use Rattle.sheet.specs.declared.section.Section.{Section}
 use Rattle.sheet.specs.declared.SectionRow.the-variants as S
 use Rattle.sheet.proofs.Places.{line-inside}
-use Rattle.sheet.proofs.Rows.{refusalAt, passes, readLine-stop, readLine-on, came}
-use Rattle.sheet.proofs.Stages.{stage-next}
-use Rattle.sheet.proofs.WellFormed.{counted, horizon-stage, events-stage, signals-stage, rules-stage}
+use Rattle.sheet.proofs.Rows.{refusalAt, passes, readLine-stop, readLine-on}
+use Rattle.sheet.proofs.Stages.{stage-section}
+use Rattle.sheet.proofs.WellFormed.{counted, sections}
 
 section-answer-refused : (o : Option Cause) (m n : ℕ) (c : Cause) → sectionAnswer o m n ≡ S.Refused c → o ≡ some c
 section-answer-refused none m n c e = absurd (let z : _≡_ {A = ℕ} 0 1 = cc in omega arith)
@@ -41,17 +41,15 @@ section-answer (some d) m n a b e = absurd (let z : _≡_ {A = ℕ} 0 1 = cc in 
 
 -- the line at a place of the sheet, whose remaining part is given
 module _ (sheet : List ℕ) (at k : ℕ) (word : String) (lo hi : ℕ) (rest : List ℕ) (is : rest ≡ drop at sheet) where
-  abbrev answer : SectionRow
-  answer = sectionOf (lineRefusal rest) (upTo lineFeed rest) (ascii word) lo hi
-
-  section-at : answer
+  section-at : sectionAt rest (ascii word) lo hi
       ≡ sectionAnswer (refusalAt sheet at k (sectionRefusal word lo hi)) (sectionCount (fields (lineAt sheet at)))
       (length (lineAt sheet at))
   unfolding sectionRefusal wordRefusal
-  section-at = ap (λ (l : List ℕ). sectionOf (lineRefusal l) (upTo lineFeed l) (ascii word) lo hi) is
+  section-at = ap (λ (l : List ℕ). sectionAt l (ascii word) lo hi) is
 
   module _ (next : List (List ℕ) → Progress) where
-    pub section-stop : (c : Cause) → answer ≡ S.Refused c → Stop (refusal c k) ≡ readLine sheet at k (sectionRefusal word lo hi) next
+    pub section-stop : (c : Cause) → sectionAt rest (ascii word) lo hi ≡ S.Refused c
+        → Stop (refusal c k) ≡ readLine sheet at k (sectionRefusal word lo hi) next
     section-stop c e =
         sym (readLine-stop sheet at k (sectionRefusal word lo hi) next c
         (section-answer-refused (refusalAt sheet at k (sectionRefusal word lo hi)) (sectionCount (fields (lineAt sheet at)))
@@ -59,15 +57,15 @@ module _ (sheet : List ℕ) (at k : ℕ) (word : String) (lo hi : ℕ) (rest : L
 
     -- the line passes, with count m and of length n
     pub record SectionRead (m n : ℕ) : Type 0 where
+      pub ends : endsAt sheet at ≡ true
       pub least : lo ≤ m
       pub most : m ≤ hi
       pub inside : at + n + 1 ≤ length sheet
       pub count : sectionCount (fields (lineAt sheet at)) ≡ m
       pub after : afterLine sheet at ≡ at + n + 1
       pub goes-on : readLine sheet at k (sectionRefusal word lo hi) next ≡ next (fields (lineAt sheet at))
-      pub stage : (e s r : ℕ) (Γ : Network) → Stage sheet e s r Γ at k → Stage sheet e s r Γ (at + n + 1) (k + 1)
 
-    pub section-read : (m n : ℕ) → answer ≡ S.Count m n → SectionRead m n
+    pub section-read : (m n : ℕ) → sectionAt rest (ascii word) lo hi ≡ S.Count m n → SectionRead m n
     section-read m n e =
         let w = section-answer (refusalAt sheet at k (sectionRefusal word lo hi)) (sectionCount (fields (lineAt sheet at)))
         (length (lineAt sheet at)) m n (sym section-at ∙ e) in
@@ -77,38 +75,46 @@ module _ (sheet : List ℕ) (at k : ℕ) (word : String) (lo hi : ℕ) (rest : L
         let size = w .2 in
         let after : afterLine sheet at ≡ at + n + 1 = omega arith in
         record {
+          ends = pass .ends;
           least = omega (arith, c .least);
           most = omega (arith, c .most);
           inside = omega (arith, line-inside sheet at (pass .ends));
           count = count;
           after = after;
           goes-on = readLine-on sheet at k (sectionRefusal word lo hi) next (w .0);
-          stage = λ e s r Γ g. rw (← after, add-one k) (stage-next sheet (pass .ends) g);
         }
 
-  -- a section of so many lines
-  module _ (row : Row) (Γ : Network) where
-    abbrev lines : List (List ℕ) → Progress
-    lines fs = readRows sheet row (sectionCount fs) Γ (afterLine sheet at) (suc k)
+-- a section, from its line on
+module _ (sheet : List ℕ) (s : Section) (at k : ℕ) (rest : List ℕ) (is : rest ≡ drop at sheet) (Γ : Network) where
+  abbrev head : Heading
+  head = headingOf s
 
-    pub section-stops : (c : Cause) → answer ≡ S.Refused c → Stop (refusal c k) ≡ readSection sheet word lo hi row Γ at k
-    section-stops c e = section-stop lines c e
+  abbrev lines : List (List ℕ) → Progress
+  lines fs = readRows sheet (rowsOf sheet s) (sectionCount fs) Γ (afterLine sheet at) (suc k)
 
-    -- its line passes, with count m and of length n, and then m lines are read
-    pub record SectionGoes (m n : ℕ) : Type 0 where
-      pub line-read : SectionRead lines m n
-      pub goes : readRows sheet row m Γ (at + n + 1) (k + 1) ≡ readSection sheet word lo hi row Γ at k
+  pub section-stops : (c : Cause) → headingAt rest s ≡ S.Refused c → Stop (refusal c k) ≡ readOf sheet s Γ at k
+  section-stops c e = section-stop sheet at k (head .word) (head .least) (head .most) rest is lines c e
 
-    pub section-goes : (m n : ℕ) → answer ≡ S.Count m n → SectionGoes m n
-    section-goes m n e =
-        let w = section-read lines m n e in
-        let count = w .count in
-        let after = w .after in
-        record { line-read = w; goes = rw (← count, ← after, add-one k) (sym (w .goes-on)) }
+  -- its line passes, with count m and of length n, and then m lines are read
+  pub record SectionGoes (m n : ℕ) : Type 0 where
+    pub inside : at + n + 1 ≤ length sheet
+    pub goes : readRows sheet (rowsOf sheet s) m Γ (at + n + 1) (k + 1) ≡ readOf sheet s Γ at k
+    pub stage : Stage sheet (whole s) Γ at k → Stage sheet (toCome s m) Γ (at + n + 1) (k + 1)
+
+  pub section-goes : (m n : ℕ) → headingAt rest s ≡ S.Count m n → SectionGoes m n
+  section-goes m n e =
+      let w = section-read sheet at k (head .word) (head .least) (head .most) rest is lines m n e in
+      let count = w .count in
+      let after = w .after in
+      record {
+        inside = w .inside;
+        goes = rw (← count, ← after, add-one k) (sym (w .goes-on));
+        stage = λ g. rw (← after, add-one k) (stage-section sheet s m (w .ends) (w .least) (w .most) g);
+      }
 
 -- the first line
 module _ (sheet : List ℕ) where
-  pub horizon-stops : (c : Cause) → sectionOf (lineRefusal sheet) (upTo lineFeed sheet) (ascii "horizon") 0 L.horizon ≡ S.Refused c
+  pub horizon-stops : (c : Cause) → sectionAt sheet (ascii "horizon") 0 L.horizon ≡ S.Refused c
       → Stop (refusal c 1) ≡ readHorizon sheet
   horizon-stops c e =
       section-stop sheet 0 1 "horizon" 0 L.horizon sheet refl (λ fs. Go (empty (sectionCount fs)) (afterLine sheet 0) 2) c e
@@ -118,7 +124,7 @@ module _ (sheet : List ℕ) where
     pub inside : n + 1 ≤ length sheet
     pub goes : Go (empty m) (n + 1) 2 ≡ readHorizon sheet
 
-  pub horizon-goes : (m n : ℕ) → sectionOf (lineRefusal sheet) (upTo lineFeed sheet) (ascii "horizon") 0 L.horizon ≡ S.Count m n
+  pub horizon-goes : (m n : ℕ) → sectionAt sheet (ascii "horizon") 0 L.horizon ≡ S.Count m n
       → HorizonGoes m n
   horizon-goes m n e =
       let w = section-read sheet 0 1 "horizon" 0 L.horizon sheet refl (λ fs. Go (empty (sectionCount fs)) (afterLine sheet 0) 2) m n e in
@@ -131,52 +137,27 @@ module _ (sheet : List ℕ) where
             ∙ ap (λ (b : ℕ). Go (empty (sectionCount (fields (lineAt sheet 0)))) b 2) after ∙ sym (w .goes-on);
       }
 
--- where a section goes on, the sheet is ready for the next
-module _ (sheet : List ℕ) where
-  pub horizon-ready : Ready sheet L.events L.signals L.rules (readHorizon sheet)
-  horizon-ready Γ at k e = horizon-stage sheet Γ at k e
-
-  module _ (p : Progress) where
-    pub events-ready : Ready sheet L.events L.signals L.rules p → Ready sheet 0 L.signals L.rules (andThen p (readEvents sheet))
-    events-ready h Γ at k e =
-        let w = came p (readEvents sheet) Γ at k e in
-        events-stage sheet (w .network) (w .at) (w .line) Γ at k (h (w .network) (w .at) (w .line) (w .first)) (w .then)
-
-    pub signals-ready : Ready sheet 0 L.signals L.rules p → Ready sheet 0 0 L.rules (andThen p (readSignals sheet))
-    signals-ready h Γ at k e =
-        let w = came p (readSignals sheet) Γ at k e in
-        signals-stage sheet (w .network) (w .at) (w .line) Γ at k (h (w .network) (w .at) (w .line) (w .first)) (w .then)
-
-    pub rules-ready : Ready sheet 0 0 L.rules p → Ready sheet 0 0 0 (andThen p (readRules sheet))
-    rules-ready h Γ at k e =
-        let w = came p (readRules sheet) Γ at k e in
-        rules-stage sheet (w .network) (w .at) (w .line) Γ at k (h (w .network) (w .at) (w .line) (w .first)) (w .then)
-
-pub ready-by : {sheet : List ℕ} {e s r : ℕ} (p q : Progress) → p ≡ q → Ready sheet e s r q → Ready sheet e s r p
-ready-by p q i h Γ at k g = h Γ at k (sym i ∙ g)
-
 -- the whole sheet
 module _ (sheet : List ℕ) where
   by-length : (t b : Bool) (p q : Progress) → t ≡ b → elim t [ false ↦ q | true ↦ p ] ≡ cond b p q
   by-length true b p q e = rw (← e)
   by-length false b p q e = rw (← e)
 
-  sections : Progress
-  sections = andThen (andThen (andThen (andThen (readHorizon sheet) (readEvents sheet)) (readSignals sheet)) (readRules sheet))
-      (readEnd sheet)
+  all : Progress
+  all = andThen (sections sheet) (readEnd sheet)
 
   too-long : longest < length sheet → progress sheet ≡ Stop (refusal C.TooLong 0)
-  unfolding progress sections
-  too-long h = by-length (leb (length sheet) longest) false sections (Stop (refusal C.TooLong 0)) (lt-leb (length sheet) longest h)
+  unfolding progress all
+  too-long h = by-length (leb (length sheet) longest) false all (Stop (refusal C.TooLong 0)) (lt-leb (length sheet) longest h)
 
-  in-length : length sheet ≤ longest → progress sheet ≡ sections
-  unfolding progress sections
-  in-length h = by-length (leb (length sheet) longest) true sections (Stop (refusal C.TooLong 0)) (le-leb (length sheet) longest h)
+  in-length : length sheet ≤ longest → progress sheet ≡ all
+  unfolding progress all
+  in-length h = by-length (leb (length sheet) longest) true all (Stop (refusal C.TooLong 0)) (le-leb (length sheet) longest h)
 
   pub read-too-long : longest < length sheet → answered (Stop (refusal C.TooLong 0)) ≡ read sheet
   read-too-long h = ap answered (sym (too-long h))
 
   pub read-whole : (a b c d : Progress) → length sheet ≤ longest → a ≡ readHorizon sheet → b ≡ andThen a (readEvents sheet)
       → c ≡ andThen b (readSignals sheet) → d ≡ andThen c (readRules sheet) → answered (andThen d (readEnd sheet)) ≡ read sheet
-  unfolding sections
+  unfolding all
   read-whole a b c d h i j k l = rw (in-length h, l, k, j, i)

@@ -17,16 +17,17 @@ use Rattle.network.specs.Build.{observation}
 use Rattle.network.specs.declared.Network.{Network}
 use Rattle.names.proofs.Finds.{finds-answer}
 use Rattle.sheet.specs.Rows.{eventOf, signalRefusal, signalRow}
-use Rattle.sheet.specs.Stage.{Stage}
+use Rattle.sheet.specs.Stage.{toCome, Stage}
+use Rattle.sheet.specs.declared.section.Section.the-variants.{Signals}
 use Rattle.sheet.proofs.Checks.{all-hold}
 use Rattle.sheet.proofs.Places.{line-inside}
 use Rattle.sheet.proofs.Rows.{Passes}
 use Rattle.sheet.proofs.RowTests.{isNamed, signalTests, new-signal}
 
-module _ (sheet : List ℕ) {e s r : ℕ} {Γ : Network} {at k : ℕ} where
+module _ (sheet : List ℕ) {m : ℕ} {Γ : Network} {at k : ℕ} where
   -- a signal
-  pub stage-signal : Stage sheet e (suc s) r Γ at k → Passes sheet at k (signalRefusal sheet Γ)
-      → Stage sheet e s r (signalRow sheet .add Γ at (fields (lineAt sheet at))) (afterLine sheet at) (suc k)
+  pub stage-signal : Stage sheet (toCome Signals (suc m)) Γ at k → Passes sheet at k (signalRefusal sheet Γ)
+      → Stage sheet (toCome Signals m) (signalRow sheet .add Γ at (fields (lineAt sheet at))) (afterLine sheet at) (suc k)
   unfolding signalRefusal
   stage-signal g p =
       let fs = fields (lineAt sheet at) in

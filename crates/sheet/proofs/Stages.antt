@@ -1,39 +1,34 @@
--- What each line keeps: the stage of the sheet before a line that passes gives the stage behind it. Here: fewer lines to come, the
--- next line, and an event. Assumes nothing.
+-- What each line keeps: the stage of the sheet before a line that passes gives the stage behind it. Here: a section's line, and an
+-- event. Assumes nothing.
 use mathlib.Core.Path.{_≡_, _∙_}
 use mathlib.Core.Logic.{inl, inr}
-use mathlib.Core.Bool.{true, _&&_, _||_}
-use mathlib.Core.List.{List, [], _∷_}
+use mathlib.Core.Bool.{true}
+use mathlib.Core.List.{List}
 use Prim.Native.Nat.{ℕ, suc, _+_, _≤_}
 use native.Mathlib.Omega.{arith}
-use borrow.Author.Tests.{leb-true}
-use lib.Dec.{leb}
 use lib.ListN.{length, length-set}
 use lib.Seq.{getD-set-same, getD-set-other}
-use Rattle.prelude.specs.Bytes.{every}
-use Rattle.prelude.proofs.Tests.{eq-or-ne, and-true}
+use Rattle.prelude.proofs.Tests.{eq-or-ne}
 use Rattle.text.specs.Lines.{lineAt, endsAt, afterLine, fields, field}
-use Rattle.text.specs.Number.{isDigit}
 use Rattle.network.specs.Build.{withEvent}
 use Rattle.network.specs.declared.Network.{Network}
-use Rattle.names.specs.Names.{isName, isLetter}
+use Rattle.names.specs.Names.{isName}
 use Rattle.sheet.specs.Rows.{eventRefusal}
-use Rattle.sheet.specs.Stage.{Stage}
+use Rattle.sheet.specs.Sections.{headingOf}
+use Rattle.sheet.specs.Stage.{ToCome, toCome, whole, Stage}
+use Rattle.sheet.specs.declared.section.Section.{Section}
+use Rattle.sheet.specs.declared.section.Section.the-variants.{Events, Signals, Rules}
 use Rattle.sheet.proofs.Checks.{all-hold}
 use Rattle.sheet.proofs.Places.{first-field, line-inside}
 use Rattle.sheet.proofs.Rows.{Passes}
+use Rattle.names.proofs.Tokens.{name-short}
 use Rattle.sheet.proofs.RowTests.{eventTests}
 
-name-short : (f : List ℕ) → isName f ≡ true → length f ≤ 8
-name-short [] e = omega arith
-name-short (b ∷ s) e =
-    let w = and-true (isLetter b) (every (λ c. isLetter c || isDigit c) s && leb (length (b ∷ s)) 8) e in
-    leb-true (length (b ∷ s)) 8 (and-true (every (λ c. isLetter c || isDigit c) s) (leb (length (b ∷ s)) 8) (w .1) .1)
-
-module _ (sheet : List ℕ) {e s r : ℕ} {Γ : Network} {at k : ℕ} where
-  -- fewer are to come
-  pub stage-fewer : (d t q : ℕ) → d ≤ e → t ≤ s → q ≤ r → 1 ≤ Γ .events + d → Stage sheet e s r Γ at k → Stage sheet d t q Γ at k
-  stage-fewer d t q dh th qh h g = record {
+module _ (sheet : List ℕ) {Γ : Network} {at k : ℕ} where
+  -- further on, with fewer lines to come
+  stage-on : {t u : ToCome} {b j : ℕ} → u .events ≤ t .events → u .signals ≤ t .signals → u .rules ≤ t .rules
+      → 1 ≤ Γ .events + u .events → b ≤ length sheet → j ≤ suc b → Stage sheet t Γ at k → Stage sheet u Γ b j
+  stage-on e s r h i l g = record {
     horizon = g .horizon;
     some-event = h;
     events = omega (arith, g .events);
@@ -44,30 +39,27 @@ module _ (sheet : List ℕ) {e s r : ℕ} {Γ : Network} {at k : ℕ} where
     one-signal = g .one-signal;
     proper = g .proper;
     named = g .named;
-    inside = g .inside;
-    line = g .line;
+    inside = i;
+    line = l;
   }
 
-  -- the next line
-  pub stage-next : endsAt sheet at ≡ true → Stage sheet e s r Γ at k → Stage sheet e s r Γ (afterLine sheet at) (suc k)
-  stage-next p g = record {
-    horizon = g .horizon;
-    some-event = g .some-event;
-    events = g .events;
-    signals = g .signals;
-    rules = g .rules;
-    arrays = g .arrays;
-    observed = g .observed;
-    one-signal = g .one-signal;
-    proper = g .proper;
-    named = g .named;
-    inside = line-inside sheet at p;
-    line = omega (arith, g .line);
-  }
+  -- a section's line, which says that m lines follow
+  pub stage-section : (s : Section) (m : ℕ) → endsAt sheet at ≡ true → headingOf s .least ≤ m → m ≤ headingOf s .most
+      → Stage sheet (whole s) Γ at k → Stage sheet (toCome s m) Γ (afterLine sheet at) (suc k)
+  stage-section s m p lo hi g = by-section s lo hi g
+    where
+      on : suc k ≤ suc (afterLine sheet at)
+      on = omega (arith, g .line)
+
+      by-section : (s : Section) → headingOf s .least ≤ m → m ≤ headingOf s .most → Stage sheet (whole s) Γ at k
+          → Stage sheet (toCome s m) Γ (afterLine sheet at) (suc k)
+      by-section Events lo hi g = stage-on hi (omega arith) (omega arith) (omega arith) (line-inside sheet at p) on g
+      by-section Signals lo hi g = stage-on (omega arith) hi (omega arith) (g .some-event) (line-inside sheet at p) on g
+      by-section Rules lo hi g = stage-on (omega arith) (omega arith) hi (g .some-event) (line-inside sheet at p) on g
 
   -- an event
-  pub stage-event : Stage sheet (suc e) s r Γ at k → Passes sheet at k (eventRefusal sheet Γ)
-      → Stage sheet e s r (withEvent Γ at (length (field 0 (fields (lineAt sheet at))))) (afterLine sheet at) (suc k)
+  pub stage-event : {m : ℕ} → Stage sheet (toCome Events (suc m)) Γ at k → Passes sheet at k (eventRefusal sheet Γ)
+      → Stage sheet (toCome Events m) (withEvent Γ at (length (field 0 (fields (lineAt sheet at))))) (afterLine sheet at) (suc k)
   unfolding eventRefusal
   stage-event g p =
       let f = field 0 (fields (lineAt sheet at)) in

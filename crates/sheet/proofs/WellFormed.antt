@@ -1,6 +1,6 @@
 -- A sheet that was read gives a well-formed network: each line keeps the stage (Stages), the lines of a section are read one by one
 -- (Rows), and the sections one behind the other. Assumes nothing.
-use mathlib.Core.Path.{_≡_, refl}
+use mathlib.Core.Path.{_≡_, refl, sym, _∙_}
 use mathlib.Core.Bool.{Bool, true, false, _&&_, not}
 use mathlib.Core.Option.{none}
 use mathlib.Core.List.{List, [], _∷_}
@@ -21,17 +21,20 @@ use Rattle.network.specs.Limits as L
 use Rattle.network.specs.Build.{empty, noConstraint}
 use Rattle.network.specs.WellFormed.{WellFormed, Named}
 use Rattle.network.specs.declared.Network.{Network}
-use Rattle.sheet.specs.Rows.{sectionRefusal, sectionCount, eventRow, signalRow, ruleRow}
+use Rattle.sheet.specs.Rows.{sectionRefusal, sectionCount}
 use Rattle.sheet.specs.Reading.{longest, Progress, Stop, Go, andThen, readRows, readHorizon}
 use Rattle.sheet.specs.Reading.{readEvents, readSignals, readRules, readEnd, progress, read, answered}
-use Rattle.sheet.specs.Stage.{Stage}
+use Rattle.sheet.specs.Sections.{headingOf, rowsOf, readOf}
+use Rattle.sheet.specs.Stage.{toCome, whole, Stage}
+use Rattle.sheet.specs.Reached.{Ready}
 use Rattle.sheet.specs.declared.Outcome.the-variants.{Accepted}
+use Rattle.sheet.specs.declared.section.Section.{Section}
+use Rattle.sheet.specs.declared.section.Section.the-variants.{Events, Signals, Rules}
 use Rattle.sheet.proofs.Checks.{all-hold}
 use Rattle.sheet.proofs.Places.{line-inside}
 use Rattle.sheet.proofs.Rows.{stop-not-go, came, went, rows-keep}
-use Rattle.sheet.proofs.Stages.{stage-fewer, stage-next, stage-event}
-use Rattle.sheet.proofs.SignalStage.{stage-signal}
-use Rattle.sheet.proofs.RuleStage.{stage-rule}
+use Rattle.sheet.proofs.Stages.{stage-section}
+use Rattle.sheet.proofs.Turns.{Before, stage-keeps}
 
 -- a count that passed is in its range
 pub record Counted (lo hi : ℕ) (fs : List (List ℕ)) : Type 0 where
@@ -50,7 +53,7 @@ counted word lo hi fs e =
     record { least = leb-true lo (magnitude f) (ends .0); most = leb-true (magnitude f) hi (ends .1) }
 
 module _ (sheet : List ℕ) where
-  pub stage-empty : (h at k : ℕ) → h ≤ L.horizon → at ≤ length sheet → k ≤ suc at → Stage sheet L.events L.signals L.rules (empty h) at k
+  pub stage-empty : (h at k : ℕ) → h ≤ L.horizon → at ≤ length sheet → k ≤ suc at → Stage sheet (whole Events) (empty h) at k
   stage-empty h at k b i l = record {
     horizon = b;
     some-event = omega arith;
@@ -72,10 +75,11 @@ module _ (sheet : List ℕ) where
     line = l;
   }
 
-  -- each section, from its first line to its last
-  pub horizon-stage : (Γ : Network) (at k : ℕ) → readHorizon sheet ≡ Go Γ at k → Stage sheet L.events L.signals L.rules Γ at k
-  horizon-stage Γ at k e =
-      let w = went sheet 0 1 (sectionRefusal "horizon" 0 L.horizon) (λ fs. Go (empty (sectionCount fs)) (afterLine sheet 0) 2) Γ at k e in
+  -- the sheet is ready for the events behind the horizon, and behind each section for the next
+  pub horizon-ready : (p : Progress) → p ≡ readHorizon sheet → Ready sheet (whole Events) p
+  horizon-ready p i Γ at k e =
+      let w = went sheet 0 1 (sectionRefusal "horizon" 0 L.horizon) (λ fs. Go (empty (sectionCount fs)) (afterLine sheet 0) 2)
+      Γ at k (sym i ∙ e) in
       let fs = fields (lineAt sheet 0) in
       let c = counted "horizon" 0 L.horizon fs (w .passed .accepted) in
       let network : empty (sectionCount fs) ≡ Γ = by-go (w .then) .0 in
@@ -87,40 +91,21 @@ module _ (sheet : List ℕ) where
       by-go : {Γ Δ : Network} {a b j k : ℕ} → Go Γ a j ≡ Go Δ b k → (Γ ≡ Δ) × (a ≡ b) × (j ≡ k)
       by-go e = (cc, cc, cc)
 
-  module _ (Γ : Network) (at k : ℕ) (Δ : Network) (b j : ℕ) where
-    pub events-stage : Stage sheet L.events L.signals L.rules Γ at k → readEvents sheet Γ at k ≡ Go Δ b j
-        → Stage sheet 0 L.signals L.rules Δ b j
-    events-stage g e =
-        let fs = fields (lineAt sheet at) in
-        let w = went sheet at k (sectionRefusal "events" 1 L.events)
-        (λ fs. readRows sheet (eventRow sheet) (sectionCount fs) Γ (afterLine sheet at) (suc k)) Δ b j e in
-        let c = counted "events" 1 L.events fs (w .passed .accepted) in
-        rows-keep sheet (eventRow sheet) (λ m Γ at k. Stage sheet m L.signals L.rules Γ at k)
-        (λ m Γ at k h p. stage-event sheet h p) (sectionCount fs) Γ Δ (afterLine sheet at) (suc k) b j
-        (stage-fewer sheet (sectionCount fs) L.signals L.rules (c .most) (omega arith) (omega arith) (omega (arith, c .least))
-        (stage-next sheet (w .passed .ends) g)) (w .then)
-
-    pub signals-stage : Stage sheet 0 L.signals L.rules Γ at k → readSignals sheet Γ at k ≡ Go Δ b j → Stage sheet 0 0 L.rules Δ b j
-    signals-stage g e =
-        let fs = fields (lineAt sheet at) in
-        let w = went sheet at k (sectionRefusal "signals" 0 L.signals)
-        (λ fs. readRows sheet (signalRow sheet) (sectionCount fs) Γ (afterLine sheet at) (suc k)) Δ b j e in
-        let c = counted "signals" 0 L.signals fs (w .passed .accepted) in
-        rows-keep sheet (signalRow sheet) (λ m Γ at k. Stage sheet 0 m L.rules Γ at k)
-        (λ m Γ at k h p. stage-signal sheet h p) (sectionCount fs) Γ Δ (afterLine sheet at) (suc k) b j
-        (stage-fewer sheet 0 (sectionCount fs) L.rules (omega arith) (c .most) (omega arith) (g .some-event)
-        (stage-next sheet (w .passed .ends) g)) (w .then)
-
-    pub rules-stage : Stage sheet 0 0 L.rules Γ at k → readRules sheet Γ at k ≡ Go Δ b j → Stage sheet 0 0 0 Δ b j
-    rules-stage g e =
-        let fs = fields (lineAt sheet at) in
-        let w = went sheet at k (sectionRefusal "rules" 0 L.rules)
-        (λ fs. readRows sheet (ruleRow sheet) (sectionCount fs) Γ (afterLine sheet at) (suc k)) Δ b j e in
-        let c = counted "rules" 0 L.rules fs (w .passed .accepted) in
-        rows-keep sheet (ruleRow sheet) (λ m Γ at k. Stage sheet 0 0 m Γ at k)
-        (λ m Γ at k h p. stage-rule sheet h p) (sectionCount fs) Γ Δ (afterLine sheet at) (suc k) b j
-        (stage-fewer sheet 0 0 (sectionCount fs) (omega arith) (omega arith) (c .most) (g .some-event)
-        (stage-next sheet (w .passed .ends) g)) (w .then)
+  pub section-ready : (s : Section) (p q : Progress) → q ≡ andThen p (readOf sheet s) → Ready sheet (whole s) p
+      → Ready sheet (toCome s 0) q
+  section-ready s p q i h Δ b j e =
+      let head = headingOf s in
+      let row = rowsOf sheet s in
+      let c = came p (readOf sheet s) Δ b j (sym i ∙ e) in
+      let Γ = c .network in
+      let at = c .at in
+      let k = c .line in
+      let fs = fields (lineAt sheet at) in
+      let w = went sheet at k (sectionRefusal (head .word) (head .least) (head .most))
+      (λ fs. readRows sheet row (sectionCount fs) Γ (afterLine sheet at) (suc k)) Δ b j (c .then) in
+      let n = counted (head .word) (head .least) (head .most) fs (w .passed .accepted) in
+      rows-keep sheet row (Before sheet s) (stage-keeps sheet s) (sectionCount fs) Γ Δ (afterLine sheet at) (suc k) b j
+      (stage-section sheet s (sectionCount fs) (w .passed .ends) (n .least) (n .most) (h Γ at k (c .first))) (w .then)
 
   -- what is left at the end
   ended : (Γ Δ : Network) (at k b j : ℕ) → readEnd sheet Γ at k ≡ Go Δ b j → Γ ≡ Δ
@@ -130,34 +115,31 @@ module _ (sheet : List ℕ) where
       by-bytes true e = stop-not-go (refusal C.TrailingBytes k) Δ b j e
       by-bytes false e = cc
 
-  within-length : (Γ : Network) (at k : ℕ) → progress sheet ≡ Go Γ at k
-      → andThen (andThen (andThen (andThen (readHorizon sheet) (readEvents sheet)) (readSignals sheet)) (readRules sheet))
-      (readEnd sheet) ≡ Go Γ at k
+  -- the sections one behind the other
+  abbrev pub sections : Progress
+  sections = andThen (andThen (andThen (readHorizon sheet) (readEvents sheet)) (readSignals sheet)) (readRules sheet)
+
+  sections-ready : Ready sheet (toCome Rules 0) sections
+  sections-ready =
+      let events = andThen (readHorizon sheet) (readEvents sheet) in
+      let signals = andThen events (readSignals sheet) in
+      section-ready Rules signals sections refl
+      (section-ready Signals events signals refl
+      (section-ready Events (readHorizon sheet) events refl (horizon-ready (readHorizon sheet) refl)))
+
+  within-length : (Γ : Network) (at k : ℕ) → progress sheet ≡ Go Γ at k → andThen sections (readEnd sheet) ≡ Go Γ at k
   unfolding progress
-  within-length Γ at k e =
-      by-length (leb (length sheet) longest)
-      (andThen (andThen (andThen (andThen (readHorizon sheet) (readEvents sheet)) (readSignals sheet)) (readRules sheet))
-      (readEnd sheet)) e
+  within-length Γ at k e = by-length (leb (length sheet) longest) (andThen sections (readEnd sheet)) e
     where
       by-length : (t : Bool) (p : Progress) → elim t [ false ↦ Stop (refusal C.TooLong 0) | true ↦ p ] ≡ Go Γ at k → p ≡ Go Γ at k
       by-length true p e = e
       by-length false p e = stop-not-go (refusal C.TooLong 0) Γ at k e
 
-  pub read-stage : (Γ : Network) (at k : ℕ) → progress sheet ≡ Go Γ at k → (b : ℕ) × (j : ℕ) × Stage sheet 0 0 0 Γ b j
+  read-stage : (Γ : Network) (at k : ℕ) → progress sheet ≡ Go Γ at k → (b : ℕ) × (j : ℕ) × Stage sheet (toCome Rules 0) Γ b j
   read-stage Γ at k e =
-      let four = came (andThen (andThen (andThen (readHorizon sheet) (readEvents sheet)) (readSignals sheet)) (readRules sheet))
-      (readEnd sheet) Γ at k (within-length Γ at k e) in
-      let three = came (andThen (andThen (readHorizon sheet) (readEvents sheet)) (readSignals sheet)) (readRules sheet)
-      (four .network) (four .at) (four .line) (four .first) in
-      let two = came (andThen (readHorizon sheet) (readEvents sheet)) (readSignals sheet)
-      (three .network) (three .at) (three .line) (three .first) in
-      let one = came (readHorizon sheet) (readEvents sheet) (two .network) (two .at) (two .line) (two .first) in
-      let h = horizon-stage (one .network) (one .at) (one .line) (one .first) in
-      let v = events-stage (one .network) (one .at) (one .line) (two .network) (two .at) (two .line) h (one .then) in
-      let s = signals-stage (two .network) (two .at) (two .line) (three .network) (three .at) (three .line) v (two .then) in
-      let r = rules-stage (three .network) (three .at) (three .line) (four .network) (four .at) (four .line) s (three .then) in
-      let same = ended (four .network) Γ (four .at) (four .line) at k (four .then) in
-      (four .at, four .line, rw same at r)
+      let w = came sections (readEnd sheet) Γ at k (within-length Γ at k e) in
+      let same = ended (w .network) Γ (w .at) (w .line) at k (w .then) in
+      (w .at, w .line, rw same at (sections-ready (w .network) (w .at) (w .line) (w .first)))
 
 pub read-well-formed : (sheet : List ℕ) (Γ : Network) (at k : ℕ) → progress sheet ≡ Go Γ at k → WellFormed Γ × Named sheet Γ
 read-well-formed sheet Γ at k e =

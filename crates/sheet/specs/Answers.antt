@@ -7,22 +7,23 @@ use lib.IntN.{ℤ}
 use lib.Dec.{eqb, leb}
 use lib.ListN.{length, getD}
 use Rattle.prelude.specs.Search.{answers}
-use Rattle.prelude.specs.Bytes.{isIn, same, distinct}
+use Rattle.prelude.specs.Bytes.{ascii, isIn, same, distinct}
 use Rattle.prelude.specs.Checks.{firstFailing}
 use Rattle.text.specs.Lines.{lineFeed, upTo, fields, field}
 use Rattle.text.specs.Number.{isNumber, inRange, magnitude, valueOf}
 use Rattle.refusal.specs.declared.Cause.{Cause}
 use Rattle.refusal.specs.declared.Cause.the-variants as C
 use Rattle.network.specs.Limits as L
+use Rattle.network.specs.Build.{withEvent, withSignal, withRule}
 use Rattle.network.specs.declared.Kind.{Kind}
-use Rattle.network.specs.declared.Constraint.{Constraint}
 use Rattle.network.specs.declared.Network.{Network}
 use Rattle.names.specs.Names.{isName, isLabel, labelOf, lettersOf}
 use Rattle.names.specs.Defined.{allDefined, maskOf}
 use Rattle.names.specs.Defined.{givesSignal}
 use Rattle.names.specs.declared.Found.{Found}
 use Rattle.names.specs.declared.Found.the-variants.{At, Nothing}
-use Rattle.sheet.specs.Rows.{sectionCount, eventOf, eventRefusal, signalRefusal, ruleRefusal, ruleOf}
+use Rattle.sheet.specs.Rows.{sectionCount, eventOf, ruleOf}
+use Rattle.sheet.specs.Sections.{headingOf, rowsOf}
 use Rattle.sheet.specs.declared.Check.{Check}
 use Rattle.sheet.specs.declared.Check.the-variants as K
 use Rattle.sheet.specs.declared.KindField.{KindField}
@@ -31,12 +32,12 @@ use Rattle.sheet.specs.declared.Limit.{Limit}
 use Rattle.sheet.specs.declared.Limit.the-variants as M
 use Rattle.sheet.specs.declared.SectionRow.{SectionRow}
 use Rattle.sheet.specs.declared.SectionRow.the-variants as S
-use Rattle.sheet.specs.declared.EventRow.{EventRow}
-use Rattle.sheet.specs.declared.EventRow.the-variants as E
-use Rattle.sheet.specs.declared.SignalRow.{SignalRow}
-use Rattle.sheet.specs.declared.SignalRow.the-variants as G
-use Rattle.sheet.specs.declared.RuleRow.{RuleRow}
-use Rattle.sheet.specs.declared.RuleRow.the-variants as R
+use Rattle.sheet.specs.declared.section.Section.{Section}
+use Rattle.sheet.specs.declared.section.Section.the-variants.{Events, Signals, Rules}
+use Rattle.sheet.specs.declared.row.Entry.{Entry}
+use Rattle.sheet.specs.declared.row.Entry.the-variants as E
+use Rattle.sheet.specs.declared.row.Row.{Row}
+use Rattle.sheet.specs.declared.row.Row.the-variants as R
 
 -- why a line is refused: it has no end, or its fields do not pass
 abbrev pub endsOr : Bool → Option Cause → Option Cause
@@ -94,23 +95,26 @@ abbrev pub sectionAnswer : Option Cause → ℕ → ℕ → SectionRow
 sectionAnswer (some c) m n = S.Refused c
 sectionAnswer none m n = S.Count m n
 
-abbrev pub eventAnswer : Option Cause → ℕ → EventRow
-eventAnswer (some c) n = E.Refused c
-eventAnswer none n = E.Event n
+abbrev pub rowAnswer : Option Cause → Entry → ℕ → Row
+rowAnswer (some c) x n = R.Refused c
+rowAnswer none x n = R.Holds x n
 
-abbrev pub signalAnswer : Option Cause → ℕ → ℕ → ℕ → SignalRow
-signalAnswer (some c) b u n = G.Refused c
-signalAnswer none b u n = G.Signal b u n
+-- what a line of each section holds, by its fields
+abbrev pub entryOf : List ℕ → Network → Section → List (List ℕ) → Entry
+entryOf sheet Γ Events fs = E.Event
+entryOf sheet Γ Signals fs = E.Signal (getD (field 0 fs) 0 0) (Option·getD (eventOf sheet Γ (field 1 fs)) 0)
+entryOf sheet Γ Rules fs = E.Rule (ruleOf sheet Γ fs)
 
-abbrev pub ruleAnswer : Option Cause → Constraint → ℕ → RuleRow
-ruleAnswer (some c) x n = R.Refused c
-ruleAnswer none x n = R.Rule x n
+-- what that adds to the network, where the line begins at the given place and has n bytes
+abbrev pub added : Entry → Network → ℕ → ℕ → Network
+added E.Event Γ at n = withEvent Γ at n
+added (E.Signal b u) Γ at n = withSignal Γ b u
+added (E.Rule c) Γ at n = withRule Γ c
 
--- the ends and the label of a rule, whose kind and limit have passed
-abbrev pub endsAnswer : List ℕ → Network → List ℕ → List ℕ → List ℕ → Kind → ℤ → ℕ → RuleRow
-endsAnswer sheet Γ from to label kind bound n =
-    ruleAnswer
-    (firstFailing
+-- the ends and the label of a rule, whose kind and limit have passed: the last tests of its line
+abbrev pub endsRefusal : List ℕ → Network → List ℕ → List ℕ → List ℕ → Option Cause
+endsRefusal sheet Γ from to label =
+    firstFailing
     ((isName from && (isName to && isLabel label), C.IllFormedName)
     ∷ (
       answers (eventOf sheet Γ from) && (answers (eventOf sheet Γ to)
@@ -118,14 +122,18 @@ endsAnswer sheet Γ from to label kind bound n =
       C.Undefined,
     )
     ∷ (distinct (lettersOf (labelOf label)), C.RepeatedLetter)
-    ∷ []))
-    (record {
+    ∷ [])
+
+abbrev pub endsAnswer : List ℕ → Network → List ℕ → List ℕ → List ℕ → Kind → ℤ → ℕ → Row
+endsAnswer sheet Γ from to label kind bound n =
+    rowAnswer (endsRefusal sheet Γ from to label)
+    (E.Rule (record {
       kind = kind;
       from = Option·getD (eventOf sheet Γ from) 0;
       to = Option·getD (eventOf sheet Γ to) 0;
       bound = bound;
       label = maskOf (Γ .signals) (Γ .letters) (labelOf label);
-    })
+    }))
     n
 
 -- of a line without its line feed, which may be refused before its fields are looked at
@@ -133,17 +141,9 @@ module _ (before : Option Cause → Option Cause) (line : List ℕ) where
   abbrev pub sectionOf : List ℕ → ℕ → ℕ → SectionRow
   sectionOf word lo hi = sectionAnswer (before (wordRefusal word lo hi (fields line))) (sectionCount (fields line)) (length line)
 
-  module _ (sheet : List ℕ) (Γ : Network) where
-    abbrev pub eventRowOf : EventRow
-    eventRowOf = eventAnswer (before (eventRefusal sheet Γ (fields line))) (length line)
-
-    abbrev pub signalRowOf : SignalRow
-    signalRowOf =
-        signalAnswer (before (signalRefusal sheet Γ (fields line))) (getD (field 0 (fields line)) 0 0)
-        (Option·getD (eventOf sheet Γ (field 1 (fields line))) 0) (length line)
-
-    abbrev pub ruleRowOf : RuleRow
-    ruleRowOf = ruleAnswer (before (ruleRefusal sheet Γ (fields line))) (ruleOf sheet Γ (fields line)) (length line)
+  abbrev pub rowOf : Section → List ℕ → Network → Row
+  rowOf s sheet Γ =
+      rowAnswer (before (rowsOf sheet s .refusal Γ (fields line))) (entryOf sheet Γ s (fields line)) (length line)
 
 -- of a line by its fields alone
 abbrev pub byFields : Option Cause → Option Cause
@@ -154,11 +154,8 @@ module _ (rest : List ℕ) where
   abbrev pub sectionAt : List ℕ → ℕ → ℕ → SectionRow
   sectionAt = sectionOf (lineRefusal rest) (upTo lineFeed rest)
 
-  abbrev pub eventRowAt : List ℕ → Network → EventRow
-  eventRowAt = eventRowOf (lineRefusal rest) (upTo lineFeed rest)
+  abbrev pub headingAt : Section → SectionRow
+  headingAt s = sectionAt (ascii (headingOf s .word)) (headingOf s .least) (headingOf s .most)
 
-  abbrev pub signalRowAt : List ℕ → Network → SignalRow
-  signalRowAt = signalRowOf (lineRefusal rest) (upTo lineFeed rest)
-
-  abbrev pub ruleRowAt : List ℕ → Network → RuleRow
-  ruleRowAt = ruleRowOf (lineRefusal rest) (upTo lineFeed rest)
+  abbrev pub rowAt : Section → List ℕ → Network → Row
+  rowAt = rowOf (lineRefusal rest) (upTo lineFeed rest)

@@ -4,7 +4,7 @@ use mathlib.Core.List.{List}
 use Prim.Native.Nat.{ℕ}
 use Rattle.network.specs.declared.Network.{Network}
 use Rattle.sheet.specs.Reading.{Progress, Stop, Go}
-use Rattle.sheet.specs.Stage.{Stage}
+use Rattle.sheet.specs.Stage.{ToCome, Stage}
 use Rattle.sheet.specs.declared.Step.{Step}
 use Rattle.sheet.specs.declared.Step.the-variants.{Refused, Next}
 use Rattle.sheet.specs.declared.Reached.{Reached}
@@ -17,5 +17,5 @@ abbrev pub progressOf : Reached → Progress
 progressOf r = stepOf (r .step) (r .network)
 
 -- where a section may go on, the sheet is at this stage
-abbrev pub Ready : List ℕ → ℕ → ℕ → ℕ → Progress → Type 0
-Ready sheet e s r p = (Γ : Network) (at k : ℕ) → p ≡ Go Γ at k → Stage sheet e s r Γ at k
+abbrev pub Ready : List ℕ → ToCome → Progress → Type 0
+Ready sheet t p = (Γ : Network) (at k : ℕ) → p ≡ Go Γ at k → Stage sheet t Γ at k

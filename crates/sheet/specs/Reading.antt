@@ -1,5 +1,5 @@
 -- The whole sheet: its sections in order, and the first line at fault (01, The sheet and Refused sheets).
-use mathlib.Core.Bool.{Bool, true, false}
+use mathlib.Core.Bool.{true, false}
 use mathlib.Core.Option.{Option, none, some}
 use mathlib.Core.List.{List}
 use Prim.Native.Nat.{ℕ, zero, suc}

@@ -7,14 +7,33 @@ use Rattle.network.specs.Limits as L
 use Rattle.network.specs.Build.{observation, constraint}
 use Rattle.network.specs.WellFormed.{Proper, Arrays, Named}
 use Rattle.network.specs.declared.Network.{Network}
+use Rattle.sheet.specs.Sections.{headingOf}
+use Rattle.sheet.specs.declared.section.Section.{Section}
+use Rattle.sheet.specs.declared.section.Section.the-variants.{Events, Signals, Rules}
 
--- the next line is line k and begins at this place of the sheet; at most e events, s signals and r rules are still to come
-pub record Stage (sheet : List ℕ) (e s r : ℕ) (Γ : Network) (at k : ℕ) : Type 0 where
+-- how many lines of each section are still to come, at most
+pub record ToCome : Type 0 where
+  pub events : ℕ
+  pub signals : ℕ
+  pub rules : ℕ
+
+-- m lines of this section, and all that stand behind it
+abbrev pub toCome : Section → ℕ → ToCome
+toCome Events m = record { events = m; signals = L.signals; rules = L.rules }
+toCome Signals m = record { events = 0; signals = m; rules = L.rules }
+toCome Rules m = record { events = 0; signals = 0; rules = m }
+
+-- the whole section
+abbrev pub whole : Section → ToCome
+whole s = toCome s (headingOf s .most)
+
+-- the next line is line k and begins at this place of the sheet
+pub record Stage (sheet : List ℕ) (t : ToCome) (Γ : Network) (at k : ℕ) : Type 0 where
   pub horizon : Γ .horizon ≤ L.horizon
-  pub some-event : 1 ≤ Γ .events + e
-  pub events : Γ .events + e ≤ L.events
-  pub signals : Γ .signals + s ≤ L.signals
-  pub rules : Γ .rules + r ≤ L.rules
+  pub some-event : 1 ≤ Γ .events + t .events
+  pub events : Γ .events + t .events ≤ L.events
+  pub signals : Γ .signals + t .signals ≤ L.signals
+  pub rules : Γ .rules + t .rules ≤ L.rules
   pub arrays : Arrays Γ
   pub observed : (p : ℕ) → p < Γ .signals → observation Γ p < Γ .events
   pub one-signal : (p q : ℕ) → p < Γ .signals → q < Γ .signals → observation Γ p ≡ observation Γ q → p ≡ q

@@ -6,11 +6,11 @@ mod field;
 mod row;
 mod section;
 
-use network::Constraint;
 use network::Kind;
 use network::Network;
 use refusal::Cause;
 use refusal::Refusal;
+use section::Section;
 
 // The most bytes of a sheet.
 const LONGEST: usize = 4096;
@@ -50,32 +50,10 @@ enum Limit {
     Minutes(i32),
 }
 
-// A line of each section: why it is refused, or what it holds, and how long it is without its line feed.
+// The line that a section begins with: why it is refused, or its count, and how long it is without its line feed.
 enum SectionRow {
     Refused(Cause),
     Count { count: u32, length: usize },
-}
-
-enum EventRow {
-    Refused(Cause),
-    Event(usize),
-}
-
-enum SignalRow {
-    Refused(Cause),
-    Signal {
-        letter: u8,
-        observation: usize,
-        length: usize,
-    },
-}
-
-enum RuleRow {
-    Refused(Cause),
-    Rule {
-        constraint: Constraint,
-        length: usize,
-    },
 }
 
 // How far the reader has come: refused, or the place of the next line and its number, with the network so far.
@@ -100,8 +78,8 @@ pub fn read(sheet: &[u8]) -> Reading
         });
     }
     let horizon = section::read_horizon(sheet);
-    let events = section::events_after(sheet, horizon);
-    let signals = section::signals_after(sheet, events);
-    let rules = section::rules_after(sheet, signals);
+    let events = section::read_after(Section::Events, sheet, horizon);
+    let signals = section::read_after(Section::Signals, sheet, events);
+    let rules = section::read_after(Section::Rules, sheet, signals);
     section::end_of(sheet, rules)
 }

@@ -4,18 +4,15 @@ ghost use mathlib.Core.List.{[]};
 ghost use Prim.Native.Nat.{_≤_};
 ghost use Rattle.network.specs.Limits as L;
 ghost use Rattle.names.specs.Found.{NamesIn};
-ghost use Rattle.sheet.specs.Answers.{byFields, partsOf, endsAnswer};
-ghost use Rattle.sheet.specs.Answers.{sectionOf, eventRowOf, signalRowOf, ruleRowOf};
-ghost use Rattle.sheet.specs.Answers.{sectionAt, eventRowAt, signalRowAt, ruleRowAt};
+ghost use Rattle.sheet.specs.Answers.{byFields, partsOf, endsAnswer, sectionOf, sectionAt, headingAt, rowOf, rowAt};
+ghost use Rattle.sheet.specs.declared.section.Section.the-variants.{Events, Signals, Rules};
 use super::Check;
-use super::EventRow;
 use super::KindField;
 use super::Limit;
-use super::RuleRow;
 use super::SectionRow;
-use super::SignalRow;
 use super::Test;
 use crate::field;
+use crate::section::Section;
 use names::label;
 use names::lookup;
 use names::token;
@@ -23,6 +20,19 @@ use network::Constraint;
 use network::Kind;
 use network::Network;
 use refusal::Cause;
+
+// What a line of a section adds to the network.
+pub(crate) enum Entry {
+    Event,
+    Signal { letter: u8, observation: usize },
+    Rule(Constraint),
+}
+
+// A line behind a section's: why it is refused, or what it holds, and how long it is without its line feed.
+pub(crate) enum Row {
+    Refused(Cause),
+    Holds { entry: Entry, length: usize },
+}
 
 // A section's line: its word, and its count from lo to hi.
 fn section_fields(line: &[u8], word: &[u8], lo: u32, hi: u32) -> SectionRow
@@ -50,6 +60,17 @@ pub(crate) fn section_row(rest: &[u8], word: &[u8], lo: u32, hi: u32) -> Section
     section_fields(&rest[..e], word, lo, hi)
 }
 
+// The line that a section begins with.
+pub(crate) fn heading(section: Section, rest: &[u8]) -> SectionRow
+    ensures { λ r. ⌜ r ≡ headingAt (now (rest .entry)) section ⌝ }
+{
+    match section {
+        Section::Events => section_row(rest, b"events", 1, Network::EVENTS as u32),
+        Section::Signals => section_row(rest, b"signals", 0, Network::SIGNALS as u32),
+        Section::Rules => section_row(rest, b"rules", 0, Network::RULES as u32),
+    }
+}
+
 // An event's name.
 fn event_fields<'a>(
     sheet: &[u8],
@@ -57,41 +78,26 @@ fn event_fields<'a>(
     n: usize,
     starts: &'a [usize; Network::EVENTS],
     lengths: &'a [usize; Network::EVENTS],
-) -> EventRow
+) -> Row
     requires { ⌜ NamesIn (now sheet) n (now starts) (now lengths) ⌝ }
-    ensures { λ r. ⌜ r ≡ eventRowOf byFields (now (line .entry)) (now (sheet .entry))
+    ensures { λ r. ⌜ r ≡ rowOf byFields (now (line .entry)) Events (now (sheet .entry))
         (partsOf n (now (starts .entry)) (now (lengths .entry)) 0 [] []) ⌝ }
 {
     let cuts = text::cut(line);
     if cuts.count != 1 {
-        return EventRow::Refused(Cause::WrongFields);
+        return Row::Refused(Cause::WrongFields);
     }
     let name = text::field(line, cuts, 0);
     if !token::is_name(name) {
-        return EventRow::Refused(Cause::IllFormedName);
+        return Row::Refused(Cause::IllFormedName);
     }
     if lookup::is_found(lookup::event_named(sheet, n, starts, lengths, name)) {
-        return EventRow::Refused(Cause::Duplicate);
+        return Row::Refused(Cause::Duplicate);
     }
-    EventRow::Event(line.len())
-}
-
-pub(crate) fn event_row<'a>(
-    sheet: &[u8],
-    rest: &[u8],
-    n: usize,
-    starts: &'a [usize; Network::EVENTS],
-    lengths: &'a [usize; Network::EVENTS],
-) -> EventRow
-    requires { ⌜ NamesIn (now sheet) n (now starts) (now lengths) ⌝ }
-    ensures { λ r. ⌜ r ≡ eventRowAt (now (rest .entry)) (now (sheet .entry))
-        (partsOf n (now (starts .entry)) (now (lengths .entry)) 0 [] []) ⌝ }
-{
-    let e = text::until(rest, b'\n');
-    if e == rest.len() {
-        return EventRow::Refused(Cause::MissingLine);
+    Row::Holds {
+        entry: Entry::Event,
+        length: line.len(),
     }
-    event_fields(sheet, &rest[..e], n, starts, lengths)
 }
 
 // `letter,event`.
@@ -104,15 +110,15 @@ fn signal_fields<'a>(
     k: usize,
     letters: &'a [u8; Network::SIGNALS],
     observations: &'a [usize; Network::SIGNALS],
-) -> SignalRow
+) -> Row
     requires { ⌜ NamesIn (now sheet) n (now starts) (now lengths) × (k ≤ L.signals) ⌝ }
-    ensures { λ r. ⌜ r ≡ signalRowOf byFields (now (line .entry)) (now (sheet .entry))
+    ensures { λ r. ⌜ r ≡ rowOf byFields (now (line .entry)) Signals (now (sheet .entry))
         (partsOf n (now (starts .entry)) (now (lengths .entry)) k (now (letters .entry)) (now (observations .entry)))
         ⌝ }
 {
     let cuts = text::cut(line);
     if cuts.count != 2 {
-        return SignalRow::Refused(Cause::WrongFields);
+        return Row::Refused(Cause::WrongFields);
     }
     let f = text::field(line, cuts, 0);
     let name = text::field(line, cuts, 1);
@@ -132,44 +138,15 @@ fn signal_fields<'a>(
     };
     let check = field::first_failing(named, fresh, defined);
     match check {
-        Check::Refused(cause) => SignalRow::Refused(cause),
-        Check::Passed => SignalRow::Signal {
-            letter,
-            observation: lookup::place_or(event),
+        Check::Refused(cause) => Row::Refused(cause),
+        Check::Passed => Row::Holds {
+            entry: Entry::Signal {
+                letter,
+                observation: lookup::place_or(event),
+            },
             length: line.len(),
         },
     }
-}
-
-pub(crate) fn signal_row<'a>(
-    sheet: &[u8],
-    rest: &[u8],
-    n: usize,
-    starts: &'a [usize; Network::EVENTS],
-    lengths: &'a [usize; Network::EVENTS],
-    k: usize,
-    letters: &'a [u8; Network::SIGNALS],
-    observations: &'a [usize; Network::SIGNALS],
-) -> SignalRow
-    requires { ⌜ NamesIn (now sheet) n (now starts) (now lengths) × (k ≤ L.signals) ⌝ }
-    ensures { λ r. ⌜ r ≡ signalRowAt (now (rest .entry)) (now (sheet .entry))
-        (partsOf n (now (starts .entry)) (now (lengths .entry)) k (now (letters .entry)) (now (observations .entry)))
-        ⌝ }
-{
-    let e = text::until(rest, b'\n');
-    if e == rest.len() {
-        return SignalRow::Refused(Cause::MissingLine);
-    }
-    signal_fields(
-        sheet,
-        &rest[..e],
-        n,
-        starts,
-        lengths,
-        k,
-        letters,
-        observations,
-    )
 }
 
 // The ends and the label of a rule, and the rule.
@@ -186,7 +163,7 @@ fn rule_ends<'a>(
     kind: Kind,
     bound: i32,
     length: usize,
-) -> RuleRow
+) -> Row
     requires { ⌜ NamesIn (now sheet) n (now starts) (now lengths) × (k ≤ L.signals) ⌝ }
     ensures { λ r. ⌜ r ≡ endsAnswer (now (sheet .entry)) (partsOf n (now (starts .entry)) (now (lengths .entry)) k
         (now (letters .entry)) []) (now (from .entry)) (now (to .entry)) (now (label .entry)) kind bound length ⌝ }
@@ -208,15 +185,15 @@ fn rule_ends<'a>(
     };
     let check = field::first_failing(formed, known, unlike);
     match check {
-        Check::Refused(cause) => RuleRow::Refused(cause),
-        Check::Passed => RuleRow::Rule {
-            constraint: Constraint {
+        Check::Refused(cause) => Row::Refused(cause),
+        Check::Passed => Row::Holds {
+            entry: Entry::Rule(Constraint {
                 kind,
                 from: lookup::place_or(a),
                 to: lookup::place_or(b),
                 bound,
                 label: label::mask_of(k, letters, t),
-            },
+            }),
             length,
         },
     }
@@ -231,23 +208,23 @@ fn rule_fields<'a>(
     lengths: &'a [usize; Network::EVENTS],
     k: usize,
     letters: &'a [u8; Network::SIGNALS],
-) -> RuleRow
+) -> Row
     requires { ⌜ NamesIn (now sheet) n (now starts) (now lengths) × (k ≤ L.signals) ⌝ }
-    ensures { λ r. ⌜ r ≡ ruleRowOf byFields (now (line .entry)) (now (sheet .entry))
+    ensures { λ r. ⌜ r ≡ rowOf byFields (now (line .entry)) Rules (now (sheet .entry))
         (partsOf n (now (starts .entry)) (now (lengths .entry)) k (now (letters .entry)) []) ⌝ }
 {
     let cuts = text::cut(line);
     if cuts.count != 5 {
-        return RuleRow::Refused(Cause::WrongFields);
+        return Row::Refused(Cause::WrongFields);
     }
     let found = field::kind_of(text::field(line, cuts, 0));
     let KindField::Is(kind) = found else {
-        return RuleRow::Refused(Cause::WrongFields);
+        return Row::Refused(Cause::WrongFields);
     };
     let limit = field::limit_of(text::field(line, cuts, 3));
     match limit {
-        Limit::IllFormed => RuleRow::Refused(Cause::IllFormedNumber),
-        Limit::Beyond => RuleRow::Refused(Cause::OutOfRange),
+        Limit::IllFormed => Row::Refused(Cause::IllFormedNumber),
+        Limit::Beyond => Row::Refused(Cause::OutOfRange),
         Limit::Minutes(bound) => rule_ends(
             sheet,
             text::field(line, cuts, 1),
@@ -265,7 +242,9 @@ fn rule_fields<'a>(
     }
 }
 
-pub(crate) fn rule_row<'a>(
+// A line of a section.
+pub(crate) fn row_at<'a>(
+    section: Section,
     sheet: &[u8],
     rest: &[u8],
     n: usize,
@@ -273,14 +252,30 @@ pub(crate) fn rule_row<'a>(
     lengths: &'a [usize; Network::EVENTS],
     k: usize,
     letters: &'a [u8; Network::SIGNALS],
-) -> RuleRow
+    observations: &'a [usize; Network::SIGNALS],
+) -> Row
     requires { ⌜ NamesIn (now sheet) n (now starts) (now lengths) × (k ≤ L.signals) ⌝ }
-    ensures { λ r. ⌜ r ≡ ruleRowAt (now (rest .entry)) (now (sheet .entry))
-        (partsOf n (now (starts .entry)) (now (lengths .entry)) k (now (letters .entry)) []) ⌝ }
+    ensures { λ r. ⌜ r ≡ rowAt (now (rest .entry)) section (now (sheet .entry))
+        (partsOf n (now (starts .entry)) (now (lengths .entry)) k (now (letters .entry)) (now (observations .entry)))
+        ⌝ }
 {
     let e = text::until(rest, b'\n');
     if e == rest.len() {
-        return RuleRow::Refused(Cause::MissingLine);
+        return Row::Refused(Cause::MissingLine);
     }
-    rule_fields(sheet, &rest[..e], n, starts, lengths, k, letters)
+    let line = &rest[..e];
+    match section {
+        Section::Events => event_fields(sheet, line, n, starts, lengths),
+        Section::Signals => signal_fields(
+            sheet,
+            line,
+            n,
+            starts,
+            lengths,
+            k,
+            letters,
+            observations,
+        ),
+        Section::Rules => rule_fields(sheet, line, n, starts, lengths, k, letters),
+    }
 }

@@ -1,11 +1,39 @@
--- The sections one behind the other, each at the stage that the one before it leaves (Sections). Assumes nothing.
+-- The sections one behind the other, each at the stage that the one before it leaves. Assumes nothing.
 use borrow.Author.Needs.{needs}
 use mathlib.Core.Path.{_∙_}
-use Rattle.sheet.specs.Reading.{andThen, readHorizon, readEvents, readSignals}
-use Rattle.sheet.specs.Reached.{progressOf}
-use Rattle.sheet.proofs.Sections.{ready-by, read-too-long, read-whole, horizon-ready, events-ready, signals-ready}
+use mathlib.Core.List.{List}
+use Prim.Native.Nat.{ℕ}
+use Rattle.sheet.specs.Stage.{whole}
+use Rattle.sheet.specs.Reached.{progressOf, Ready}
+use Rattle.sheet.specs.declared.section.Section.the-variants.{Events, Signals, Rules}
+use Rattle.sheet.proofs.WellFormed.{horizon-ready, section-ready}
+use Rattle.sheet.proofs.Sections.{read-too-long, read-whole}
 use Rattle.sheet.proofs.read.Statement.{statement}
 use Rattle.sheet.proofs.read.Tie as tie
+
+-- the sheet, seen from behind each section
+abbrev sheet-1 : tie.After-read-horizon → List ℕ
+sheet-1 d = d .before .before .before .args .sheet .now
+
+abbrev sheet-2 : tie.After-read-after → List ℕ
+sheet-2 d = sheet-1 (d .before)
+
+abbrev sheet-3 : tie.After-read-after2 → List ℕ
+sheet-3 d = sheet-2 (d .before)
+
+-- it is ready for the next
+at-events : (d : tie.After-read-horizon) → Ready (sheet-1 d) (whole Events) (progressOf (d .read-horizon .result))
+at-events d = horizon-ready (sheet-1 d) (progressOf (d .read-horizon .result)) (d .read-horizon .ensures)
+
+at-signals : (d : tie.After-read-after) → Ready (sheet-2 d) (whole Signals) (progressOf (d .read-after .result))
+at-signals d =
+    section-ready (sheet-2 d) Events (progressOf (d .before .read-horizon .result)) (progressOf (d .read-after .result))
+    (d .read-after .ensures) (at-events (d .before))
+
+at-rules : (d : tie.After-read-after2) → Ready (sheet-3 d) (whole Rules) (progressOf (d .read-after2 .result))
+at-rules d =
+    section-ready (sheet-3 d) Signals (progressOf (d .before .read-after .result)) (progressOf (d .read-after2 .result))
+    (d .read-after2 .ensures) (at-signals (d .before))
 
 rejected-requires : tie.Need-rejected-requires
 rejected-requires c κs = search needs
@@ -16,40 +44,14 @@ returns c = c .rejected .ensures ∙ read-too-long (c .before .before .before .a
 read-horizon-requires : tie.Need-read-horizon-requires
 read-horizon-requires c κs = search needs
 
-events-after-requires : tie.Need-events-after-requires
-events-after-requires c κs =
-    let sheet = c .before .before .before .args .sheet .now in (
-      c .before .if1 .left,
-      ready-by (progressOf (c .read-horizon .result)) (readHorizon sheet)
-          (c .read-horizon .ensures) (horizon-ready sheet),
-    )
+read-after-requires : tie.Need-read-after-requires
+read-after-requires c κs = (c .before .if1 .left, at-events c)
 
-signals-after-requires : tie.Need-signals-after-requires
-signals-after-requires c κs =
-    let args = c .before .before .before .before .args in
-    let read-horizon = c .before .read-horizon in
-    let sheet = args .sheet .now in
-    let a = progressOf (read-horizon .result) in
-    let first = ready-by a (readHorizon sheet) (read-horizon .ensures) (horizon-ready sheet) in (
-      c .before .before .if1 .left,
-      ready-by (progressOf (c .events-after .result)) (andThen a (readEvents sheet))
-          (c .events-after .ensures) (events-ready sheet a first),
-    )
+read-after-requires-2 : tie.Need-read-after-requires-2
+read-after-requires-2 c κs = (c .before .before .if1 .left, at-signals c)
 
-rules-after-requires : tie.Need-rules-after-requires
-rules-after-requires c κs =
-    let args = c .before .before .before .before .before .args in
-    let read-horizon = c .before .before .read-horizon in
-    let events-after = c .before .events-after in
-    let sheet = args .sheet .now in
-    let a = progressOf (read-horizon .result) in
-    let b = progressOf (events-after .result) in
-    let first = ready-by a (readHorizon sheet) (read-horizon .ensures) (horizon-ready sheet) in
-    let second = ready-by b (andThen a (readEvents sheet)) (events-after .ensures) (events-ready sheet a first) in (
-      c .before .before .before .if1 .left,
-      ready-by (progressOf (c .signals-after .result))
-          (andThen b (readSignals sheet)) (c .signals-after .ensures) (signals-ready sheet b second),
-    )
+read-after-requires-3 : tie.Need-read-after-requires-3
+read-after-requires-3 c κs = (c .before .before .before .if1 .left, at-rules c)
 
 end-of-requires : tie.Need-end-of-requires
 end-of-requires c κs = search needs
@@ -58,14 +60,13 @@ returns-2 : tie.Need-returns-2
 returns-2 c =
     let args = c .before .before .before .before .before .before .before .args in
     let if1 = c .before .before .before .before .before .if1 in
-    let read-horizon = c .before .before .before .before .read-horizon in
-    let events-after = c .before .before .before .events-after in
-    let signals-after = c .before .before .signals-after in
-    let rules-after = c .before .rules-after in
-    let sheet = args .sheet .now in
-    c .end-of .ensures ∙ read-whole sheet (progressOf (read-horizon .result)) (progressOf (events-after .result))
-    (progressOf (signals-after .result)) (progressOf (rules-after .result))
-    (if1 .left) (read-horizon .ensures) (events-after .ensures) (signals-after .ensures) (rules-after .ensures)
+    let horizon = c .before .before .before .before .read-horizon in
+    let events = c .before .before .before .read-after in
+    let signals = c .before .before .read-after2 in
+    let rules = c .before .read-after3 in
+    c .end-of .ensures ∙ read-whole (args .sheet .now) (progressOf (horizon .result)) (progressOf (events .result))
+    (progressOf (signals .result)) (progressOf (rules .result))
+    (if1 .left) (horizon .ensures) (events .ensures) (signals .ensures) (rules .ensures)
 
 pub read-spec : {M : Type 1} → statement M
 read-spec =
@@ -74,8 +75,8 @@ read-spec =
     rejected-requires
     returns
     read-horizon-requires
-    events-after-requires
-    signals-after-requires
-    rules-after-requires
+    read-after-requires
+    read-after-requires-2
+    read-after-requires-3
     end-of-requires
     returns-2)

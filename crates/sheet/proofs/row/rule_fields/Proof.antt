@@ -1,11 +1,13 @@
 -- Count, kind and limit are tested in the order of `ruleRefusal`; the ends and the label follow. Assumes nothing.
 use borrow.Author.Needs.{needs}
-use mathlib.Core.Path.{sym, _∙_, ap}
+use mathlib.Core.Path.{_≡_, sym, _∙_, ap}
+use mathlib.Core.Option.{some}
 use mathlib.Core.List.{List, []}
 use Prim.Native.Nat.{ℕ}
 use lib.IntN.{ℤ}
 use lib.ListN.{length}
 use Rattle.text.specs.Lines.{fields, field}
+use Rattle.network.specs.declared.Network.{Network}
 use Rattle.sheet.specs.Answers.{endsAnswer, partsOf, kindFound, limitOf}
 use Rattle.sheet.specs.Rows.{kindOf}
 use Rattle.sheet.proofs.Refusals.{limit-fits, ends-row, rule-count, rule-other, rule-ill}
@@ -13,14 +15,20 @@ use Rattle.sheet.proofs.Refusals.{rule-beyond, kind-some, kind-none, li
 use Rattle.sheet.proofs.row.rule_fields.Statement.{statement}
 use Rattle.sheet.proofs.row.rule_fields.Tie as tie
 
+-- the network by its parts
+abbrev parts : tie.Start → Network
+parts d = partsOf (d .args .n) (d .args .starts .now) (d .args .lengths .now) (d .args .k) (d .args .letters .now) []
+
+abbrev parted : tie.Start → List (List ℕ)
+parted d = fields (d .args .line .now)
+
 cut-requires : tie.Need-cut-requires
 cut-requires c κs = search needs
 
 returns : tie.Need-returns
 returns c =
-    let args = c .before .before .before .before .before .args in
-    let Γ = partsOf (args .n) (args .starts .now) (args .lengths .now) (args .k) (args .letters .now) [] in
-    sym (rw (rule-count (args .sheet .now) Γ (fields (args .line .now))
+    let d = c .before .before .before .before .before in
+    sym (rw (rule-count (d .args .sheet .now) (parts d) (parted d)
     (λ h. c .if1 .taken (c .before .before .cut .ensures .counted ∙ h))))
 
 field-requires : tie.Need-field-requires
@@ -35,15 +43,34 @@ enum-known-found c = search needs
 enum-told : tie.Need-enum-told
 enum-told c = search needs
 
+-- where the function begins, seen from where the kind is known
+abbrev start : tie.After-kind-of → tie.Start
+start d = d .before .before .before .before .before .before .before
+
+-- the kind that was found is that of the first field, and the line has five
+kind-is : (d : tie.After-kind-of) → kindFound (kindOf (field 0 (parted (start d)))) ≡ d .kind-of .result
+kind-is d =
+    ap (λ (f : List ℕ). kindFound (kindOf f)) (sym (d .before .field .ensures .text)) ∙ sym (d .kind-of .ensures)
+
+abbrev kind-at : tie.After-known-told → tie.After-kind-of
+kind-at d = d .before .before .before
+
+kind : (d : tie.After-known-told) → kindOf (field 0 (parted (start (kind-at d)))) ≡ some (d .before .found .given .0 .0)
+kind d =
+    let found = d .before .found in
+    kind-some (kindOf (field 0 (parted (start (kind-at d))))) (found .given .0 .0) (kind-is (kind-at d) ∙ found .given .1)
+
+five : (d : tie.After-known-told) → length (parted (start (kind-at d))) ≡ 5
+five d =
+    sym (d .before .before .before .before .before .before .before .cut .ensures .counted)
+    ∙ d .before .before .before .before .before .if1 .left
+
 returns-2 : tie.Need-returns-2
 returns-2 c =
-    let args = c .before .before .before .before .before .before .before .before .before .args in
-    let Γ = partsOf (args .n) (args .starts .now) (args .lengths .now) (args .k) (args .letters .now) [] in
-    let fs = fields (args .line .now) in
-    let other = kind-none (kindOf (field 0 fs)) (ap (λ (f : List ℕ). kindFound (kindOf f))
-    (sym (c .before .before .before .field .ensures .text)) ∙
-    (sym (c .before .before .kind-of .ensures) ∙ c .enum-told .given .1)) in
-    sym (rw (rule-other (args .sheet .now) Γ fs other))
+    let d = c .before .before in
+    let fs = parted (start d) in
+    let other = kind-none (kindOf (field 0 fs)) (kind-is d ∙ c .enum-told .given .1) in
+    sym (rw (rule-other (start d .args .sheet .now) (parts (start d)) fs other))
 
 field-requires-2 : tie.Need-field-requires-2
 field-requires-2 c κs = search needs
@@ -72,73 +99,49 @@ field-requires-5 c κs = search needs
 rule-ends-requires : tie.Need-rule-ends-requires
 rule-ends-requires c κs = search needs
 
+-- where the kind is known, seen from where the limit is
+abbrev told-at : tie.After-limit-of → tie.After-known-told
+told-at d = d .before .before
+
+abbrev begun : tie.After-limit-of → tie.Start
+begun d = start (kind-at (told-at d))
+
+limit-is : (d : tie.After-limit-of) → limitOf (field 3 (parted (begun d))) ≡ d .limit-of .result
+limit-is d = ap limitOf (sym (d .before .field2 .ensures .text)) ∙ sym (d .limit-of .ensures)
+
 returns-3 : tie.Need-returns-3
 returns-3 c =
-    let args = c .before .before .before .before .before .before .before .before .before .before
-    .before .before .before .before .args in
-    let cut = c .before .before .before .before .before .before .before .before .before .before .before .cut in
-    let if1 = c .before .before .before .before .before .before .before .before .before .if1 in
-    let was-field = c .before .before .before .before .before .before .before .before .field in
-    let kind-of = c .before .before .before .before .before .before .before .kind-of in
-    let found = c .before .before .before .before .before .found in
-    let Γ = partsOf (args .n) (args .starts .now) (args .lengths .now) (args .k) (args .letters .now) [] in
-    let fs = fields (args .line .now) in
-    let kind = kind-some (kindOf (field 0 fs)) (found .given .0 .0)
-    (ap (λ (f : List ℕ). kindFound (kindOf f)) (sym (was-field .ensures .text)) ∙
-    (sym (kind-of .ensures) ∙ found .given .1)) in
-    let ill = limit-none (field 3 fs) (ap limitOf (sym (c .before .before .before .field2 .ensures .text)) ∙
-    (sym (c .before .before .limit-of .ensures) ∙ c .enum-told2 .given .1)) in
-    sym (rw (rule-ill (args .sheet .now) Γ fs (found .given .0 .0) (sym (cut .ensures .counted) ∙ if1 .left) kind
-    ill))
+    let d = c .before .before in
+    let fs = parted (begun d) in
+    let told = told-at d in
+    let ill = limit-none (field 3 fs) (limit-is d ∙ c .enum-told2 .given .1) in
+    sym (rw (rule-ill (begun d .args .sheet .now) (parts (begun d)) fs (told .before .found .given .0 .0) (five told)
+    (kind told) ill))
 
 returns-4 : tie.Need-returns-4
 returns-4 c =
-    let args = c .before .before .before .before .before .before .before .before .before .before
-    .before .before .before .before .args in
-    let cut = c .before .before .before .before .before .before .before .before .before .before .before .cut in
-    let if1 = c .before .before .before .before .before .before .before .before .before .if1 in
-    let was-field = c .before .before .before .before .before .before .before .before .field in
-    let kind-of = c .before .before .before .before .before .before .before .kind-of in
-    let found = c .before .before .before .before .before .found in
-    let Γ = partsOf (args .n) (args .starts .now) (args .lengths .now) (args .k) (args .letters .now) [] in
-    let fs = fields (args .line .now) in
-    let kind = kind-some (kindOf (field 0 fs)) (found .given .0 .0)
-    (ap (λ (f : List ℕ). kindFound (kindOf f)) (sym (was-field .ensures .text)) ∙
-    (sym (kind-of .ensures) ∙ found .given .1)) in
-    let over = limit-over (field 3 fs) (ap limitOf (sym (c .before .before .before .field2 .ensures .text)) ∙
-    (sym (c .before .before .limit-of .ensures) ∙ c .enum-told3 .given .1)) in
-    sym (rw (rule-beyond (args .sheet .now) Γ fs (found .given .0 .0) (sym (cut .ensures .counted) ∙ if1 .left)
-    kind (over .0) (over .1)))
+    let d = c .before .before in
+    let fs = parted (begun d) in
+    let told = told-at d in
+    let over = limit-over (field 3 fs) (limit-is d ∙ c .enum-told3 .given .1) in
+    sym (rw (rule-beyond (begun d .args .sheet .now) (parts (begun d)) fs (told .before .found .given .0 .0) (five told)
+    (kind told) (over .0) (over .1)))
 
 returns-5 : tie.Need-returns-5
 returns-5 c =
-    let args = c .before .before .before .before .before .before .before .before .before .before
-    .before .before .before .before .before .before .before .before .before .args in
-    let cut = c .before .before .before .before .before .before .before .before .before .before
-    .before .before .before .before .before .before .cut in
-    let if1 = c .before .before .before .before .before .before .before .before .before .before
-    .before .before .before .before .if1 in
-    let was-field = c .before .before .before .before .before .before .before .before .before .before
-    .before .before .before .field in
-    let kind-of = c .before .before .before .before .before .before .before .before .before .before .before .before .kind-of in
-    let found = c .before .before .before .before .before .before .before .before .before .before .found in
-    let field2 = c .before .before .before .before .before .before .before .before .field2 in
-    let limit-of = c .before .before .before .before .before .before .before .limit-of in
-    let was-limit = c .before .before .before .before .before .limit in
+    let d = c .before .before .before .before .before .before .before in
+    let told = told-at d in
     let field3 = c .before .before .before .field3 in
     let field4 = c .before .before .field4 in
     let field5 = c .before .field5 in
-    let sheet = args .sheet .now in
-    let Γ = partsOf (args .n) (args .starts .now) (args .lengths .now) (args .k) (args .letters .now) [] in
-    let fs = fields (args .line .now) in
-    let k = found .given .0 .0 in
+    let was-limit = c .before .before .before .before .before .limit in
+    let sheet = begun d .args .sheet .now in
+    let Γ = parts (begun d) in
+    let fs = parted (begun d) in
+    let k = told .before .found .given .0 .0 in
     let z = was-limit .given .0 .0 in
-    let n = length (args .line .now) in
-    let kind = kind-some (kindOf (field 0 fs)) k
-    (ap (λ (f : List ℕ). kindFound (kindOf f)) (sym (was-field .ensures .text)) ∙ sym (kind-of .ensures) ∙
-    found .given .1) in
-    let limit = limit-minutes (field 3 fs) z (ap limitOf (sym (field2 .ensures .text)) ∙ sym (limit-of .ensures) ∙
-    was-limit .given .1) in
+    let n = length (begun d .args .line .now) in
+    let limit = limit-minutes (field 3 fs) z (limit-is d ∙ was-limit .given .1) in
     c .rule-ends .ensures
     ∙ ap (λ (y : ℤ). endsAnswer sheet Γ (field3 .result .now) (field4 .result .now) (field5 .result .now) k y n)
     (limit-fits (field 3 fs) z limit)
@@ -146,7 +149,7 @@ returns-5 c =
     (field3 .ensures .text)
     ∙ ap (λ (f : List ℕ). endsAnswer sheet Γ (field 1 fs) f (field5 .result .now) k z n) (field4 .ensures .text)
     ∙ ap (λ (f : List ℕ). endsAnswer sheet Γ (field 1 fs) (field 2 fs) f k z n) (field5 .ensures .text)
-    ∙ ends-row sheet Γ fs k z n (sym (cut .ensures .counted) ∙ if1 .left) kind limit
+    ∙ ends-row sheet Γ fs k z n (five told) (kind told) limit
 
 pub rule-fields-spec : {M : Type 1} → statement M
 rule-fields-spec =

@@ -1,25 +1,33 @@
 -- The count is tested first; the other three tests are `signalRefusal`'s, in its order. Assumes nothing.
 use borrow.Author.Needs.{needs}
-use mathlib.Core.Path.{refl, sym, _∙_}
-use mathlib.Core.List.{[], _∷_}
-use Rattle.prelude.specs.Checks.{firstFailing}
+use mathlib.Core.Path.{_≡_, refl, sym, _∙_, ap}
+use mathlib.Core.Option.{Option}
 use Rattle.text.specs.Lines.{fields, field}
-use Rattle.refusal.specs.declared.Cause.the-variants as C
+use Rattle.refusal.specs.declared.Cause.{Cause}
+use Rattle.network.specs.declared.Network.{Network}
 use Rattle.names.proofs.Finds.{event-is, event-answers, event-place}
-use Rattle.sheet.specs.Rows.{eventOf}
-use Rattle.sheet.specs.Answers.{partsOf}
+use Rattle.sheet.specs.Rows.{eventOf, signalRefusal}
+use Rattle.sheet.specs.Answers.{partsOf, checkOf}
 use Rattle.sheet.proofs.Refusals.{signal-count, gives-found, signal-tests, check-refused, check-passed}
 use Rattle.sheet.proofs.row.signal_fields.Statement.{statement}
 use Rattle.sheet.proofs.row.signal_fields.Tie as tie
+
+-- the network by its parts, and the refusal of the line
+abbrev parts : tie.Start → Network
+parts d =
+    partsOf (d .args .n) (d .args .starts .now) (d .args .lengths .now) (d .args .k) (d .args .letters .now)
+    (d .args .observations .now)
+
+abbrev why : tie.Start → Option Cause
+why d = signalRefusal (d .args .sheet .now) (parts d) (fields (d .args .line .now))
 
 cut-requires : tie.Need-cut-requires
 cut-requires c κs = search needs
 
 returns : tie.Need-returns
 returns c =
-    let args = c .before .before .before .before .before .args in
-    sym (rw (signal-count (args .sheet .now) (partsOf (args .n) (args .starts .now) (args .lengths .now) (args .k)
-    (args .letters .now) (args .observations .now)) (fields (args .line .now))
+    let d = c .before .before .before .before .before in
+    sym (rw (signal-count (d .args .sheet .now) (parts d) (fields (d .args .line .now))
     (λ h. c .if1 .taken (c .before .before .cut .ensures .counted ∙ h))))
 
 field-requires : tie.Need-field-requires
@@ -55,92 +63,58 @@ enum-told c = search needs
 place-or-requires : tie.Need-place-or-requires
 place-or-requires c κs = search needs
 
-returns-2 : tie.Need-returns-2
-returns-2 c =
-    let args = c .before .before .before .before .before .before .before .before .before .before
-    .before .before .before .before .before .before .args in
-    let cut = c .before .before .before .before .before .before .before .before .before .before .before .before .before .cut in
-    let if1 = c .before .before .before .before .before .before .before .before .before .before .before .if1 in
-    let was-field = c .before .before .before .before .before .before .before .before .before .before .field in
-    let field2 = c .before .before .before .before .before .before .before .before .before .field2 in
-    let was-first = c .before .before .before .before .before .before .before .before .first in
-    let event-named = c .before .before .before .before .before .before .before .event-named in
-    let is-signal = c .before .before .before .before .before .before .is-signal in
-    let is-fresh = c .before .before .before .before .before .is-fresh in
-    let is-found = c .before .before .before .before .is-found in
-    let check = c .before .check in
+-- where the function begins, seen from the tests' end
+abbrev start : tie.After-first-failing → tie.Start
+start d = d .before .before .before .before .before .before .before .before .before .before .before .before .before
+
+-- the three tests are those of the line
+checked : (d : tie.After-first-failing) → d .first-failing .result ≡ checkOf (why (start d))
+checked d =
+    let args = d .before .before .before .before .before .before .before .before .before .before .before .before .before .args in
+    let field2 = d .before .before .before .before .before .before .field2 in
+    let event-named = d .before .before .before .before .event-named in
+    let is-found = d .before .is-found in
     let sheet = args .sheet .now in
     let fs = fields (args .line .now) in
-    let Γ = partsOf (args .n) (args .starts .now) (args .lengths .now) (args .k) (args .letters .now)
-    (args .observations .now) in
-    let first = was-field .ensures .text in
+    let Γ = parts (d .before .before .before .before .before .before .before .before .before .before .before .before .before) in
+    let first = d .before .before .before .before .before .before .before .field .ensures .text in
     let second = field2 .ensures .text in
     let event = event-is sheet (args .n) (args .starts .now) (args .lengths .now) (field 1 fs)
     (field2 .result .now) second (event-named .result) (event-named .ensures) in
     let known = event-answers sheet (args .n) (args .starts .now) (args .lengths .now) (field 1 fs)
     (field2 .result .now) second (event-named .result) (is-found .result) (event-named .ensures)
     (is-found .ensures) in
-    let tests = signal-tests sheet Γ fs
-    (sym (cut .ensures .counted) ∙ if1 .left)
-    (is-signal .ensures ∙ rw (first, second))
-    (is-fresh .ensures ∙ rw (
-      was-first .ensures,
+    let cut = d .before .before .before .before .before .before .before .before .before .before .cut in
+    let two = sym (cut .ensures .counted) ∙ d .before .before .before .before .before .before .before .before .if1 .left in
+    d .first-failing .ensures ∙ ap checkOf (sym (signal-tests sheet Γ fs two
+    (d .before .before .before .is-signal .ensures ∙ rw (first, second))
+    (d .before .before .is-fresh .ensures ∙ rw (
+      d .before .before .before .before .before .first .ensures,
       first,
       event,
-      gives-found (args .k) (args .observations .now)
-          sheet Γ (eventOf sheet Γ (field 1 fs)) refl refl,
+      gives-found (args .k) (args .observations .now) sheet Γ (eventOf sheet Γ (field 1 fs)) refl refl,
     ))
-    known in
-    sym (rw (tests ∙ check-refused (firstFailing ((is-signal .result, C.IllFormedName) ∷
-    (is-fresh .result, C.Duplicate) ∷ (is-found .result, C.Undefined) ∷ [])) (check .given .0 .0)
-    (sym (c .before .before .before .first-failing .ensures) ∙ check .given .1)))
+    known))
+
+returns-2 : tie.Need-returns-2
+returns-2 c =
+    let d = c .before .before .before in
+    let check = c .before .check in
+    sym (rw (check-refused (why (start d)) (check .given .0 .0) (sym (checked d) ∙ check .given .1)))
 
 returns-3 : tie.Need-returns-3
 returns-3 c =
     let args = c .before .before .before .before .before .before .before .before .before .before
     .before .before .before .before .before .before .args in
-    let cut = c .before .before .before .before .before .before .before .before .before .before .before .before .before .cut in
-    let if1 = c .before .before .before .before .before .before .before .before .before .before .before .if1 in
-    let was-field = c .before .before .before .before .before .before .before .before .before .before .field in
     let field2 = c .before .before .before .before .before .before .before .before .before .field2 in
-    let was-first = c .before .before .before .before .before .before .before .before .first in
     let event-named = c .before .before .before .before .before .before .before .event-named in
-    let is-signal = c .before .before .before .before .before .before .is-signal in
-    let is-fresh = c .before .before .before .before .before .is-fresh in
-    let is-found = c .before .before .before .before .is-found in
-    let sheet = args .sheet .now in
-    let fs = fields (args .line .now) in
-    let Γ = partsOf (args .n) (args .starts .now) (args .lengths .now) (args .k) (args .letters .now)
-    (args .observations .now) in
-    let first = was-field .ensures .text in
-    let second = field2 .ensures .text in
-    let event = event-is sheet (args .n) (args .starts .now) (args .lengths .now) (field 1 fs)
-    (field2 .result .now) second (event-named .result) (event-named .ensures) in
-    let known = event-answers sheet (args .n) (args .starts .now) (args .lengths .now) (field 1 fs)
-    (field2 .result .now) second (event-named .result) (is-found .result) (event-named .ensures)
-    (is-found .ensures) in
-    let place = event-place sheet (args .n) (args .starts .now) (args .lengths .now) (field 1 fs)
-    (field2 .result .now) second (event-named .result) (c .place-or .result) (event-named .ensures)
-    (c .place-or .ensures) in
-    let tests = signal-tests sheet Γ fs
-    (sym (cut .ensures .counted) ∙ if1 .left)
-    (is-signal .ensures ∙ rw (first, second))
-    (is-fresh .ensures ∙ rw (
-      was-first .ensures,
-      first,
-      event,
-      gives-found (args .k) (args .observations .now)
-          sheet Γ (eventOf sheet Γ (field 1 fs)) refl refl,
-    ))
-    known in
-    rw (
-      tests ∙ check-passed (firstFailing ((is-signal .result, C.IllFormedName) ∷ (is-fresh .result, C.Duplicate) ∷
-          (is-found .result, C.Undefined) ∷ [])) (sym (c .before .before .before .first-failing .ensures) ∙
-          c .before .enum-told .given .1),
-      place,
-      was-first .ensures,
-      first,
-    )
+    let place = event-place (args .sheet .now) (args .n) (args .starts .now) (args .lengths .now)
+    (field 1 (fields (args .line .now))) (field2 .result .now) (field2 .ensures .text) (event-named .result)
+    (c .place-or .result) (event-named .ensures) (c .place-or .ensures) in
+    let d = c .before .before .before in
+    let passed = check-passed (why (start d)) (sym (checked d) ∙ c .before .enum-told .given .1) in
+    let was-field = c .before .before .before .before .before .before .before .before .before .before .field in
+    rw (passed, place, c .before .before .before .before .before .before .before .before .first .ensures, was-field .ensures .text)
 
 pub signal-fields-spec : {M : Type 1} → statement M
 signal-fields-spec =
