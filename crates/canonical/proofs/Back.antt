@@ -1,17 +1,15 @@
 -- The form is a sheet, and what is read from it is what was written: its rules are the rows that remain, row for row, since a name tells its
 -- event, and the letters of a label tell the label. Assumes nothing.
-use mathlib.Core.Path.{_≡_, refl, sym, _∙_, ap}
+use mathlib.Core.Path.{_≡_, sym, _∙_, ap}
 use mathlib.Core.List.{List, [], map}
 use Prim.Native.Nat.{ℕ, _^_, _<_}
 use native.Mathlib.Omega.{arith}
 use lib.ListN.{length, getD, length-map}
-use Rattle.prelude.specs.Bounded.{tabulate}
 use Rattle.prelude.specs.Lists.{Distinct}
 use Rattle.prelude.proofs.Bounded.{length-tabulate, getD-tabulate}
 use Rattle.prelude.proofs.Lists.{tabulate-is}
 use Rattle.prelude.proofs.Mapped.{getD-map}
 use Rattle.network.specs.Build.{nameOf, observation, constraint, noConstraint}
-use Rattle.network.specs.declared.Kind.the-variants.{Max}
 use Rattle.network.specs.declared.Constraint.{Constraint}
 use Rattle.network.specs.declared.Network.{Network}
 use Rattle.layout.specs.Layout.{noSignal, noRule}

@@ -1,16 +1,14 @@
 // A sheet in its house form. Each function that writes a part of it takes the place where the part begins and answers the place where it
 // ends; each section has its own.
 ghost use mathlib.Core.Path.{_≡_};
-ghost use mathlib.Core.Bool.{Bool, true, false};
+ghost use mathlib.Core.Bool.{true};
 ghost use mathlib.Core.List.{[], _∷_, map};
-ghost use Prim.Native.Nat.{ℕ, _+_, _≤_, _<_};
-ghost use lib.ListN.{length, take};
-ghost use Rattle.prelude.specs.Bytes.{ascii};
+ghost use Prim.Native.Nat.{_+_, _≤_, _<_};
+ghost use lib.ListN.{length};
 ghost use Rattle.text.specs.Lines.{comma};
 ghost use Rattle.text.specs.Decimal.{decimal};
 ghost use Rattle.page.specs.Appended.{Appended};
 ghost use Rattle.page.specs.Written.{WrittenIs};
-ghost use Rattle.network.specs.Limits as L;
 ghost use Rattle.network.specs.Build.{nameOf};
 ghost use Rattle.network.specs.WellFormed.{InLimits, Proper, WellFormed, Named};
 ghost use Rattle.layout.specs.Layout.{line, section, signalLine, ruleLine, signedText, labelText};

@@ -3,7 +3,7 @@ use network::Constraint;
 use network::Kind;
 use network::Network;
 ghost use mathlib.Core.Path.{_≡_};
-ghost use Prim.Native.Nat.{_+_, _*_, _^_, _≤_, _<_, min};
+ghost use Prim.Native.Nat.{_+_, _*_, _^_, _<_, min};
 ghost use lib.ListN.{length};
 ghost use Rattle.network.specs.Limits as L;
 ghost use Rattle.network.specs.Build.{cells};

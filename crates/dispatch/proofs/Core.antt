@@ -5,19 +5,17 @@ use mathlib.Core.Path.{_≡_, refl, _∙_, ap₂}
 use mathlib.Core.Logic.{_⊎_, inl, inr}
 use mathlib.Core.Bool.{Bool, true, false, _&&_, _||_, not, Bool·beq, cond, and-false}
 use mathlib.Core.List.{List}
-use Prim.Native.Nat.{ℕ, suc, _+_, _*_, _%_, _^_, _≤_, _<_, zero-le}
+use Prim.Native.Nat.{ℕ, suc, _+_, _*_, _%_, _^_, _≤_, _<_}
 use native.Mathlib.Nat.{one-mul, add-zero, mul-le-mul-right}
 use native.Mathlib.Numerals.{add-one}
 use native.Mathlib.Omega.{arith}
-use borrow.Author.Tests.{leb-true, le-leb, lt-leb, eq-eqb, ne-eqb}
+use borrow.Author.Tests.{le-leb, lt-leb, eq-eqb, ne-eqb}
 use lib.Dec.{eqb, leb}
 use lib.ListN.{length}
 use lib.Pow.{shl-exact, pow-mono}
 use Rattle.prelude.specs.Search.{when, answers}
-use Rattle.prelude.specs.Bounded.{allBelow, sumBelow}
-use Rattle.prelude.proofs.Tests.{and-true, and-both, clash, false-of-not-true}
+use Rattle.prelude.specs.Bounded.{sumBelow}
 use Rattle.prelude.proofs.Search.{Searching}
-use Rattle.prelude.proofs.Bounded.{true-of-allBelow}
 use Rattle.network.specs.Build.{letter, observation, scenarios, cells}
 use Rattle.network.specs.Scenario.{truth}
 use Rattle.network.specs.Strategy.{time}

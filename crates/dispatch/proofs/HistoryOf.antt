@@ -18,7 +18,7 @@ use Rattle.network.specs.Scenario.{truth}
 use Rattle.network.specs.Strategy.{known}
 use Rattle.network.specs.declared.Network.{Network}
 use Rattle.names.specs.Defined.{placeOf, allDefined}
-use Rattle.dispatch.specs.Heard.{lettersOf, isWellNamed, Lettered, says}
+use Rattle.dispatch.specs.Heard.{lettersOf, Lettered, says}
 use Rattle.dispatch.specs.History.{History, heardFrom, historyOf}
 use Rattle.dispatch.specs.Due.{hears}
 use Rattle.dispatch.specs.declared.Heard.{Heard}

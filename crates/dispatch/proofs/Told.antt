@@ -23,7 +23,7 @@ use Rattle.network.specs.declared.Network.{Network}
 use Rattle.names.specs.Defined.{placeOf, allDefined}
 use Rattle.names.proofs.Labels.{allDefined-every, place-is}
 use Rattle.dispatch.specs.Heard.{lettersOf, noHeard, Defined, WellNamed, isWellNamed, Lettered, says}
-use Rattle.dispatch.specs.History.{Hears, History}
+use Rattle.dispatch.specs.History.{History}
 use Rattle.dispatch.specs.Due.{hears}
 use Rattle.dispatch.specs.declared.Heard.{Heard}
 

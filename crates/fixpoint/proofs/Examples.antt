@@ -1,7 +1,7 @@
 -- Runs of a small step, in one table that one theorem covers by computation: the second of two entries rises by one a round, up to the
 -- first entry. Assumes nothing.
 use mathlib.Core.Path.{_≡_, refl}
-use mathlib.Core.Bool.{Bool, true, false, _&&_}
+use mathlib.Core.Bool.{Bool, true, _&&_}
 use mathlib.Core.List.{List, [], _∷_}
 use Prim.Native.Nat.{ℕ, suc, min, max}
 use lib.Dec.{eqb}

@@ -3,13 +3,13 @@
 -- whose budget is one more than the room between floor and cap is never spent (`run-ends`), since each round but the last takes room.
 -- Assumes nothing.
 use mathlib.Core.Path.{_≡_, refl, sym, _∙_, ap}
-use mathlib.Core.Logic.{_⊎_, inl, inr}
-use mathlib.Core.Bool.{Bool, true, false}
+use mathlib.Core.Logic.{inl, inr}
+use mathlib.Core.Bool.{true, false}
 use mathlib.Core.List.{List}
-use Prim.Native.Nat.{ℕ, zero, suc, _+_, _≤_, _<_}
+use Prim.Native.Nat.{ℕ, zero, suc, _+_, _≤_}
 use native.Mathlib.Nat.{zero-add, add-zero, suc-add}
 use native.Mathlib.Omega.{arith}
-use lib.ListN.{length, getD}
+use lib.ListN.{length}
 use Rattle.prelude.specs.Bytes.{same}
 use Rattle.prelude.proofs.Tests.{either, by-test, false-of-not-true, clash}
 use Rattle.prelude.proofs.Bytes.{same-true}

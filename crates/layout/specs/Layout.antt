@@ -2,11 +2,11 @@
 use mathlib.Core.Path.{_≡_}
 use mathlib.Core.Bool.{Bool, true, false}
 use mathlib.Core.List.{List, [], _∷_, _++_, map}
-use Prim.Native.Nat.{ℕ, suc, _≤_, _<_}
+use Prim.Native.Nat.{ℕ, suc, _≤_}
 use Prim.Native.Char.{code}
 use Prim.Native.String.{String}
 use lib.IntN.{ℤ, pos, negsuc}
-use lib.ListN.{length, getD}
+use lib.ListN.{length}
 use Rattle.prelude.specs.Bytes.{ascii}
 use Rattle.prelude.specs.Lists.{In, Distinct, Each}
 use Rattle.text.specs.Lines.{comma, lineFeed}

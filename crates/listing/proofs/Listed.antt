@@ -1,5 +1,5 @@
 -- The two parts of the listing make it up. Assumes nothing.
-use mathlib.Core.List.{List, []}
+use mathlib.Core.List.{List}
 use Prim.Native.Nat.{ℕ}
 use native.Mathlib.Omega.{arith}
 use Rattle.network.specs.Build.{scenarios}

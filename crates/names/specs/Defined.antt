@@ -1,6 +1,6 @@
 -- What has been defined so far: an event by its name, a signal by its letter, and labels as sums of weights.
 use mathlib.Core.Bool.{Bool, true, false, _&&_, Bool·beq, cond}
-use mathlib.Core.Option.{Option, none, some, Option·getD}
+use mathlib.Core.Option.{Option, none, some}
 use mathlib.Core.List.{List, [], _∷_}
 use Prim.Native.Nat.{ℕ, _+_, _^_}
 use lib.Dec.{eqb}

@@ -1,10 +1,10 @@
 // Labels as sums of weights. A label is given by its literals: no byte for a dash.
 ghost use mathlib.Core.Path.{_≡_};
-ghost use mathlib.Core.Bool.{Bool, true, false, _||_, not};
+ghost use mathlib.Core.Bool.{true, false};
 ghost use Prim.Native.Nat.{_≤_, _<_, _^_};
 ghost use Rattle.prelude.specs.Bytes.{distinct};
 ghost use Rattle.network.specs.Limits as L;
-ghost use Rattle.names.specs.Names.{literals, lettersOf, labelOf};
+ghost use Rattle.names.specs.Names.{literals, lettersOf};
 ghost use Rattle.names.specs.Defined.{allDefined, weight, weights, maskOf};
 ghost use Rattle.names.specs.Scan.{addedBy};
 use super::Found;

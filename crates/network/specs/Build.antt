@@ -1,7 +1,7 @@
 -- How a network is built: from its horizon, then event by event, signal by signal and rule by rule, in the order of the sheet
 -- (004, Definition 2; labels on constraints only, as in 002).
 use mathlib.Core.List.{List}
-use Prim.Native.Nat.{ℕ, suc, _+_, _*_, _^_}
+use Prim.Native.Nat.{ℕ, _+_, _*_, _^_}
 use lib.IntN.{pos}
 use lib.ListN.{getD, set, replicate, take, drop}
 use Rattle.network.specs.Limits as L

@@ -1,15 +1,12 @@
 -- From what the reader, the checker, the solver and the listing writer promise to what the public calls do. Each law takes the
 -- reading of the sheet and how its outcome turned out. Assumes nothing.
 use mathlib.Core.Path.{_≡_, refl, sym, _∙_, ap}
-use mathlib.Core.Logic.{_⊎_, inl, inr}
-use mathlib.Core.Bool.{Bool, true, false, cond}
+use mathlib.Core.Bool.{Bool, true, false}
 use mathlib.Core.List.{List, _++_}
 use Prim.Native.Nat.{ℕ, _≤_, _<_}
 use native.Mathlib.Omega.{arith}
-use borrow.Author.Tests.{leb-true, leb-false, le-leb, lt-leb, eq-eqb, ne-eqb}
-use lib.Dec.{eqb, leb}
+use borrow.Author.Tests.{le-leb, lt-leb, eq-eqb, ne-eqb}
 use lib.ListN.{length, drop}
-use Rattle.prelude.proofs.Tests.{either}
 use Rattle.page.specs.Written.{isRoom, writtenOf, bufferAfter, WrittenIs}
 use Rattle.page.specs.declared.Written as PD
 use Rattle.page.specs.declared.Written.the-variants as PW

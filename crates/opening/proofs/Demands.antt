@@ -1,10 +1,6 @@
 -- The demands hold: each is cited from the crate that proves it. Assumes nothing.
-use mathlib.Core.Path.{_≡_, sym}
-use mathlib.Core.Logic.{_↔_}
 use mathlib.Core.List.{List}
 use Prim.Native.Nat.{ℕ}
-use Rattle.fixpoint.specs.Run.{Rests}
-use Rattle.network.specs.Least.{Least, Inconsistent}
 use Rattle.network.specs.WellFormed.{WellFormed}
 use Rattle.network.specs.declared.Network.{Network}
 use Rattle.sheet.proofs.WellFormed.{accepted-well-formed}

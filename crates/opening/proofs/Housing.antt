@@ -5,11 +5,11 @@ use mathlib.Core.Bool.{Bool, true, false}
 use mathlib.Core.List.{List, _++_}
 use Prim.Native.Nat.{ℕ, _≤_, _<_}
 use native.Mathlib.Omega.{arith}
-use borrow.Author.Tests.{leb-true, leb-false, le-leb, lt-leb}
+use borrow.Author.Tests.{leb-false, le-leb, lt-leb}
 use lib.Dec.{leb}
 use lib.ListN.{length, drop}
 use Rattle.prelude.proofs.Tests.{either, lt-or-ge}
-use Rattle.refusal.specs.declared.Cause.the-variants.{BufferTooShort, TooManyRows}
+use Rattle.refusal.specs.declared.Cause.the-variants.{TooManyRows}
 use Rattle.refusal.specs.declared.Refusal.{Refusal}
 use Rattle.network.specs.Limits as L
 use Rattle.network.specs.declared.Network.{Network}
@@ -18,8 +18,6 @@ use Rattle.sheet.specs.Reading.{read}
 use Rattle.sheet.specs.declared.Outcome.{Outcome}
 use Rattle.sheet.specs.declared.Outcome.the-variants.{Accepted, Refused}
 use Rattle.sheet.specs.declared.Reading.{Reading}
-use Rattle.tighten.specs.Upper.{rowsOf}
-use Rattle.tighten.specs.Remaining.{Remaining}
 use Rattle.tighten.specs.Tightest.{remainingOf}
 use Rattle.tighten.proofs.Regular.{rows-regular}
 use Rattle.tighten.proofs.Remains.{remaining-is, remaining-unique}

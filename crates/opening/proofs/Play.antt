@@ -5,7 +5,7 @@ use mathlib.Core.List.{List, map}
 use Prim.Native.Nat.{ℕ, _<_}
 use native.Mathlib.Omega.{arith}
 use lib.ListN.{length, length-map, List·getD-map}
-use Rattle.refusal.specs.declared.Cause.the-variants.{WrongTableLength, TableFails}
+use Rattle.refusal.specs.declared.Cause.the-variants.{WrongTableLength}
 use Rattle.refusal.specs.declared.Refusal.{Refusal}
 use Rattle.network.specs.Build.{cells}
 use Rattle.network.specs.declared.Network.{Network}
@@ -16,15 +16,13 @@ use Rattle.sheet.specs.declared.Reading.{Reading}
 use Rattle.layout.specs.Layout.{noSignal}
 use Rattle.layout.proofs.Accepted.{accepted-iff, network-contains}
 use Rattle.checker.specs.Verdict.{verdict}
-use Rattle.checker.specs.declared.Breach.{Breach}
 use Rattle.checker.specs.declared.Verdict.{Verdict}
-use Rattle.checker.specs.declared.Verdict.the-variants.{Pass, Breach as Breached}
 use Rattle.dispatch.specs.Heard.{Lettered}
 use Rattle.dispatch.specs.Said.{saidFrom, dueOn}
 use Rattle.dispatch.specs.declared.Heard.{Heard}
 use Rattle.dispatch.proofs.Mask.{due-said}
 use Rattle.opening.specs.Calls.{withoutLine, judgement}
-use Rattle.opening.specs.Play.{answerTo, playedFor, eventsDue, eventsDueOn}
+use Rattle.opening.specs.Play.{playedFor, eventsDue, eventsDueOn}
 use Rattle.opening.specs.declared.Judgement.{Judgement}
 use Rattle.opening.specs.declared.Judgement.the-variants as J
 use Rattle.opening.specs.declared.Due.the-variants as D

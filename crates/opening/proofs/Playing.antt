@@ -34,7 +34,7 @@ use Rattle.dispatch.proofs.Bits.{mask-small, truth-mask}
 use Rattle.dispatch.proofs.Alike.{indistinct-comm, indistinct-history, indistinct-due}
 use Rattle.dispatch.proofs.Answers.{due-misnamed, due-never, due-history}
 use Rattle.dispatch.proofs.HistoryOf.{history-of}
-use Rattle.opening.specs.Calls.{withoutLine, judgement}
+use Rattle.opening.specs.Calls.{withoutLine}
 use Rattle.opening.specs.Demands.{Reads}
 use Rattle.opening.specs.Play.{answerTo, playedFor, eventsDue, DueValues, dueValues}
 use Rattle.opening.specs.Playing.{RowAt, refusedAs, answer, Plays, Playing}

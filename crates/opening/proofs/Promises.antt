@@ -23,15 +23,14 @@ use Rattle.sheet.specs.declared.Outcome.{Outcome}
 use Rattle.sheet.specs.declared.Outcome.the-variants.{Accepted, Refused}
 use Rattle.sheet.proofs.WellFormed.{accepted-well-formed}
 use Rattle.checker.specs.Verdict.{verdict}
-use Rattle.checker.specs.declared.Verdict.{Verdict}
 use Rattle.checker.specs.declared.Verdict.the-variants.{Pass}
 use Rattle.checker.proofs.Judged.{judged}
 use Rattle.solver.specs.Solve.{solve}
 use Rattle.solver.proofs.Least.{solve-least, solve-none}
 use Rattle.listing.specs.Listing.{listing}
-use Rattle.opening.specs.Calls.{withoutLine, judgementFor, judgement, Left, kept, written, solvedFor, solvingFor, solving, listingFor, listed}
+use Rattle.opening.specs.Calls.{withoutLine, judgement, Left, kept, written, solvedFor, solvingFor, solving, listingFor, listed}
 use Rattle.opening.specs.Bench.{pairsAfter, benchSolving}
-use Rattle.opening.specs.Demands.{Reads, Keeps}
+use Rattle.opening.specs.Demands.{Keeps}
 use Rattle.opening.specs.declared.Judgement.{Judgement}
 use Rattle.opening.specs.declared.Judgement.the-variants as J
 use Rattle.opening.specs.declared.Written.{Written}

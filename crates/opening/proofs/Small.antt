@@ -1,14 +1,14 @@
 -- Every number of an answer fits its bytes: a breach names cells of a network, and a table has at most 256 minutes. Assumes nothing.
-use mathlib.Core.Path.{_≡_, refl, sym, _∙_, ap}
+use mathlib.Core.Path.{_≡_, refl}
 use mathlib.Core.Bool.{Bool, true, false}
 use mathlib.Core.List.{List, _++_}
-use Prim.Native.Nat.{ℕ, _^_, _%_, _≤_, _<_}
+use Prim.Native.Nat.{ℕ, _%_, _≤_, _<_}
 use native.Mathlib.Omega.{arith}
 use lib.Dec.{eqb, leb}
 use lib.ListN.{length, drop}
 use lib.Pow.{pow-mono}
 use Rattle.pairs.specs.Pairs.{minutesOf}
-use Rattle.refusal.specs.declared.Cause.the-variants.{WrongTableLength, BufferTooShort, Inconsistent}
+use Rattle.refusal.specs.declared.Cause.the-variants.{WrongTableLength, BufferTooShort}
 use Rattle.refusal.specs.declared.Refusal.{Refusal}
 use Rattle.fixpoint.specs.Run.{Run, End, Rests, Passes, Spent}
 use Rattle.network.specs.Build.{scenarios, cells}
@@ -27,7 +27,7 @@ use Rattle.checker.specs.declared.Verdict.the-variants.{Pass, Breach as Breache
 use Rattle.checker.proofs.Judged.{breach-first}
 use Rattle.solver.specs.Solve.{solve}
 use Rattle.solver.proofs.Least.{solve-least}
-use Rattle.opening.specs.Calls.{withoutLine, judgementFor, judgement, Left, kept, written, solvedFor, solvingFor, solving}
+use Rattle.opening.specs.Calls.{withoutLine, judgementFor, judgement, Left, kept, solvedFor, solvingFor, solving}
 use Rattle.opening.specs.Bench.{benchJudgementFor, benchJudgement, Values, verdictValues, breachValues}
 use Rattle.opening.specs.declared.Judgement.{Judgement}
 use Rattle.opening.specs.declared.Judgement.the-variants as J

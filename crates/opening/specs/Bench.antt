@@ -1,7 +1,7 @@
 -- The calls of the workshop bench, which is written in C: "There a table travels as two bytes a minute, low byte first. For the judge an
 -- odd number of bytes is refusal 11; the solver counts the whole pairs it is lent" (01, The judge's verdict). An answer is one number.
 use mathlib.Core.Path.{_≡_}
-use mathlib.Core.Bool.{Bool, true, false}
+use mathlib.Core.Bool.{true, false}
 use mathlib.Core.List.{List, _++_}
 use Prim.Native.Nat.{ℕ, _+_, _*_, _%_}
 use lib.Dec.{eqb}
@@ -17,7 +17,7 @@ use Rattle.checker.specs.declared.Breach.{Breach}
 use Rattle.checker.specs.declared.Breach.the-variants.{Late, Rule, Unheard}
 use Rattle.checker.specs.declared.Verdict.{Verdict}
 use Rattle.checker.specs.declared.Verdict.the-variants.{Pass, Breach as Breached}
-use Rattle.opening.specs.Calls.{withoutLine, judgement, Left, Leaves, solving}
+use Rattle.opening.specs.Calls.{withoutLine, judgement, Left, solving}
 use Rattle.opening.specs.declared.Judgement.{Judgement}
 use Rattle.opening.specs.declared.Judgement.the-variants as J
 use Rattle.opening.specs.declared.Written.{Written}

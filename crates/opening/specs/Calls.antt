@@ -1,7 +1,7 @@
 -- What the public calls answer and what they leave in the memory that they are lent (01, Refused sheets and calls, The judge's verdict
 -- and The printed listing; 02, point 2). A refusal of the sheet itself comes first; then 17, 11, 12 and 13, whose line is 0.
 use mathlib.Core.Path.{_≡_}
-use mathlib.Core.Bool.{Bool, true, false}
+use mathlib.Core.Bool.{true, false}
 use mathlib.Core.List.{List, _++_}
 use Prim.Native.Nat.{ℕ}
 use lib.Dec.{eqb, leb}

@@ -1,8 +1,7 @@
 -- Tables as bytes at the edges, in one table that one theorem covers by computation. Assumes nothing.
 use mathlib.Core.Path.{_≡_, refl}
-use mathlib.Core.Bool.{Bool, true, _&&_}
-use mathlib.Core.List.{List, [], _∷_}
-use Prim.Native.Nat.{ℕ}
+use mathlib.Core.Bool.{true, _&&_}
+use mathlib.Core.List.{[], _∷_}
 use Rattle.prelude.specs.Bytes.{same}
 use Rattle.pairs.specs.Pairs.{minutesOf, bytesOf}
 

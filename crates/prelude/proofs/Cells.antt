@@ -1,7 +1,7 @@
 -- A table of m rows of n cells, row by row: the cell at row s and column u stands at s * n + u. Assumes nothing.
-use mathlib.Core.Path.{_≡_, refl, sym, _∙_, ap}
-use mathlib.Core.Logic.{_⊎_, inl, inr}
-use Prim.Native.Nat.{ℕ, zero, suc, _+_, _-_, _*_, _/_, _%_, _≤_, _<_}
+use mathlib.Core.Path.{_≡_, _∙_}
+use mathlib.Core.Logic.{inl, inr}
+use Prim.Native.Nat.{ℕ, zero, suc, _+_, _-_, _*_, _/_, _%_, _<_}
 use native.Mathlib.Nat.{mul-le-mul-right, mul-add-mod-self-right, mod-eq-of-lt, mul-add-div-right, div-eq-of-lt}
 use native.Mathlib.Omega.{arith}
 use Rattle.prelude.proofs.Tests.{lt-or-ge}

@@ -2,7 +2,7 @@
 -- goes on by `searching-on`, and is left by `found-at` with an answer or by `found-nothing` at the end. What a search found is the
 -- first answer (`some-of-firstBelow`), and what it did not find is nowhere (`none-of-firstBelow`).
 -- Assumes nothing.
-use mathlib.Core.Path.{_≡_, refl, sym, _∙_, ap}
+use mathlib.Core.Path.{_≡_, refl, sym, _∙_}
 use mathlib.Core.Logic.{_⊎_, inl, inr}
 use mathlib.Core.Bool.{Bool, true, false}
 use mathlib.Core.Option.{Option, none, some}

@@ -1,14 +1,14 @@
 -- What the constraints ask agrees with point 2: a constraint holds in a scenario exactly when neither of its halves asks more than
 -- the times that are there. Assumes nothing.
-use mathlib.Core.Path.{_≡_, refl, sym, _∙_}
+use mathlib.Core.Path.{_≡_, refl}
 use mathlib.Core.Bool.{Bool, true, false, _&&_, cond}
 use mathlib.Core.List.{List}
 use lib.IntN.{ℤ, pos, negsuc}
-use Prim.Native.Nat.{ℕ, suc, _+_, _-_, _≤_, _<_}
+use Prim.Native.Nat.{ℕ, suc, _+_, _-_, _≤_}
 use native.Mathlib.Omega.{arith}
 use borrow.Author.Tests.{leb-true, le-leb, eqb-true, eq-eqb}
-use lib.Dec.{eqb, leb}
-use Rattle.prelude.proofs.Tests.{and-true, and-both, by-cond}
+use lib.Dec.{eqb}
+use Rattle.prelude.proofs.Tests.{and-true, and-both}
 use Rattle.network.specs.Constraint.{atMost, atLeast, admits, covers}
 use Rattle.network.specs.Strategy.{time}
 use Rattle.network.specs.Solution.{Holds}

@@ -16,7 +16,7 @@ use Rattle.network.specs.declared.Constraint.{Constraint}
 use Rattle.network.specs.declared.Network.{Network}
 use Rattle.solver.specs.declared.Frame.{Frame}
 use Rattle.solver.specs.Propagate.{isUpper, isLower, upperBound, lowerBound}
-use Rattle.solver.specs.Listed.{asking, listed, upperWeight, lowerWeight, Lists, Bound}
+use Rattle.solver.specs.Listed.{asking, upperWeight, lowerWeight, Lists, Bound}
 use Rattle.solver.specs.Compiled.{Framed, RowIn, Listable, UpperAdded, LowerAdded, Constrained, Listing}
 use Rattle.solver.proofs.Weights.{upper-few, lower-few, upper-adds, lower-adds}
 use Rattle.network.proofs.Masks.{covers-satisfies}

@@ -4,7 +4,7 @@ use mathlib.Core.Path.{_≡_, sym, _∙_, ap}
 use mathlib.Core.Logic.{_⊎_, inl, inr}
 use mathlib.Core.Bool.{Bool, true, false, cond}
 use mathlib.Core.List.{List}
-use Prim.Native.Nat.{ℕ, zero, _+_, _-_, _*_, _%_, _≤_, _<_, max}
+use Prim.Native.Nat.{ℕ, _+_, _-_, _*_, _%_, _≤_, _<_, max}
 use native.Mathlib.Numerals.{add-one}
 use native.Mathlib.Omega.{arith}
 use borrow.Author.Tests.{ne-eqb}
@@ -30,7 +30,7 @@ use Rattle.solver.specs.Solve.{cap}
 use Rattle.solver.specs.Rows.{packed, Times, Stored}
 use Rattle.solver.specs.Compiled.{Compiled, raisedAt}
 use Rattle.solver.specs.Rounds.{outcomeOf, Rounded}
-use Rattle.solver.proofs.Packed.{sixteen, length-packed, packed-at}
+use Rattle.solver.proofs.Packed.{length-packed, packed-at}
 use Rattle.solver.proofs.Raised.{raised-is, raised-beyond}
 use Rattle.solver.proofs.Rising.{length-propagate, time-propagate}
 

@@ -1,6 +1,6 @@
 -- What the round and its run say at the edges, in one table that one theorem covers by computation. Assumes nothing.
 use mathlib.Core.Path.{_≡_, refl}
-use mathlib.Core.Bool.{Bool, true, false, _&&_}
+use mathlib.Core.Bool.{Bool, true, _&&_}
 use mathlib.Core.List.{List, [], _∷_}
 use Prim.Native.Nat.{ℕ}
 use lib.IntN.{ℤ, pos, negsuc}
@@ -12,7 +12,7 @@ use Rattle.network.specs.Scenario.{satisfies}
 use Rattle.network.specs.Constraint.{covers}
 use Rattle.network.specs.Strategy.{reaction}
 use Rattle.network.specs.declared.Kind.{Kind}
-use Rattle.network.specs.declared.Kind.the-variants.{Max, Min, Fix}
+use Rattle.network.specs.declared.Kind.the-variants.{Max, Min}
 use Rattle.network.specs.declared.Constraint.{Constraint}
 use Rattle.network.specs.declared.Network.{Network}
 use Rattle.solver.specs.Propagate.{leastFrom, leastTo, propagate}

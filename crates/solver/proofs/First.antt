@@ -12,7 +12,7 @@ use lib.ListN.{length, getD, set, length-set}
 use lib.Seq.{getD-set-same, getD-set-other}
 use Rattle.prelude.proofs.Tests.{either, lt-or-ge, eq-or-ne}
 use Rattle.network.specs.Scenario.{truth, agree}
-use Rattle.network.specs.Strategy.{time, reaction, knownFrom}
+use Rattle.network.specs.Strategy.{reaction, knownFrom}
 use Rattle.network.specs.declared.Network.{Network}
 use Rattle.solver.specs.Propagate.{leastKnown}
 use Rattle.solver.specs.Known.{firstOf, First, Doubled}

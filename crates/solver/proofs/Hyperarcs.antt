@@ -6,11 +6,11 @@
 -- observation is earlier in r than in s, and the hyperarc of that observation names another, known in r sooner still. Times do not
 -- fall for ever (`no-descent`).
 -- Assumes nothing.
-use mathlib.Core.Path.{_≡_, refl, sym, _∙_}
+use mathlib.Core.Path.{_≡_, _∙_}
 use mathlib.Core.Logic.{_⊎_, inl, inr, _↔_}
-use mathlib.Core.Bool.{Bool, true, false, _||_, not, cond}
+use mathlib.Core.Bool.{Bool, true, false, _||_, not}
 use mathlib.Core.List.{List}
-use Prim.Native.Nat.{ℕ, zero, suc, _+_, _≤_, _<_, min}
+use Prim.Native.Nat.{ℕ, zero, suc, _≤_, _<_, min}
 use native.Mathlib.Omega.{arith}
 use borrow.Author.Tests.{not-true, not-false}
 use Rattle.prelude.specs.Bounded.{allBelow}
@@ -19,7 +19,7 @@ use Rattle.prelude.proofs.Bounded.{true-of-allBelow, allBelow-false}
 use Rattle.network.specs.Build.{observation, scenarios}
 use Rattle.network.specs.Scenario.{agree}
 use Rattle.network.specs.Strategy.{time, knownFrom, known}
-use Rattle.network.specs.Solution.{Indistinct, Alike}
+use Rattle.network.specs.Solution.{Indistinct}
 use Rattle.network.specs.WellFormed.{WellFormed}
 use Rattle.network.specs.declared.Network.{Network}
 use Rattle.network.proofs.Scenario.{agree-comm}

@@ -1,10 +1,9 @@
 -- Demand 3 on the definitions: the solutions are the prefixpoints of the round within the cap, so a run from all zeros rests at the
 -- least solution, and where it does not rest there is none. Assumes nothing.
-use mathlib.Core.Path.{_≡_, refl, sym, _∙_, ap}
-use mathlib.Core.Logic.{_⊎_, inl, inr, _↔_}
-use mathlib.Core.Bool.{Bool, true, false, cond}
+use mathlib.Core.Path.{_≡_, sym, _∙_}
+use mathlib.Core.Bool.{true, cond}
 use mathlib.Core.List.{List}
-use Prim.Native.Nat.{ℕ, zero, suc, _+_, _*_, _%_, _≤_, _<_}
+use Prim.Native.Nat.{ℕ, _+_, _*_, _%_, _≤_, _<_}
 use native.Mathlib.Omega.{arith}
 use borrow.Author.Tests.{eq-eqb, eqb-true}
 use lib.Dec.{eqb}
@@ -12,8 +11,7 @@ use lib.ListN.{length, getD, length-replicate}
 use Rattle.prelude.proofs.Tests.{clash, by-cond}
 use Rattle.prelude.proofs.Bounded.{length-tabulate, getD-tabulate}
 use Rattle.prelude.proofs.Cells.{cell-lt, column-of, by-cell}
-use Rattle.fixpoint.specs.Order.{Below}
-use Rattle.fixpoint.specs.Step.{Rising, Prefixpoint}
+use Rattle.fixpoint.specs.Step.{Prefixpoint}
 use Rattle.fixpoint.specs.Run.{within, Rests}
 use Rattle.fixpoint.proofs.Order.{zeros-below}
 use Rattle.fixpoint.proofs.Within.{within-at, within-by}

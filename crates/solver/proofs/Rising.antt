@@ -1,6 +1,6 @@
 -- The round is a rising step on strategies of the network's size, and what it asks no raise of keeps the constraints and the hyperarcs.
 -- Assumes nothing.
-use mathlib.Core.Path.{_≡_, refl, sym, _∙_, ap}
+use mathlib.Core.Path.{_≡_, _∙_}
 use mathlib.Core.Bool.{Bool, true, false, _&&_, cond}
 use mathlib.Core.List.{List}
 use Prim.Native.Nat.{ℕ, zero, suc, _+_, _*_, _/_, _%_, _≤_, _<_, max, min}
@@ -15,12 +15,12 @@ use Rattle.fixpoint.proofs.Order.{below-by}
 use Rattle.network.specs.Build.{observation, constraint, scenarios, cells}
 use Rattle.network.specs.Scenario.{agree}
 use Rattle.network.specs.Constraint.{covers}
-use Rattle.network.specs.Strategy.{time, reaction, knownFrom}
+use Rattle.network.specs.Strategy.{time}
 use Rattle.network.specs.Solution.{Holds}
 use Rattle.network.specs.WellFormed.{WellFormed}
 use Rattle.network.specs.declared.Constraint.{Constraint}
 use Rattle.network.specs.declared.Network.{Network}
-use Rattle.solver.specs.Propagate.{leastFrom, leastTo, isUpper, isLower, upperBound, lowerBound, constraintsBound, leastKnown, hyperarc, hyperarcsBound, raised, propagate}
+use Rattle.solver.specs.Propagate.{isUpper, isLower, upperBound, lowerBound, leastKnown, hyperarc, raised, propagate}
 use Rattle.solver.specs.Hyperarcs.{Hyperarcs}
 use Rattle.solver.proofs.Bounds.{leastFrom-mono, leastTo-mono, cond-mono, upper-of-holds, lower-of-holds, holds-of-bounds}
 

@@ -2,7 +2,7 @@
 -- value iteration). Document 02, point 8, fixes this round.
 use mathlib.Core.Bool.{Bool, true, false, _&&_, cond}
 use mathlib.Core.List.{List}
-use Prim.Native.Nat.{ℕ, zero, suc, _+_, _-_, _*_, _/_, _%_, max, min}
+use Prim.Native.Nat.{ℕ, zero, suc, _+_, _-_, _/_, _%_, max, min}
 use lib.IntN.{ℤ, pos, negsuc}
 use lib.Dec.{eqb}
 use Rattle.prelude.specs.Bounded.{maxBelow, tabulate}

@@ -1,6 +1,6 @@
 -- The run that the solver makes: rounds from all zeros, until nothing rises or a limit is passed, "the horizon, or 0 for the start"
 -- (02, point 8).
-use mathlib.Core.Bool.{true, false, cond}
+use mathlib.Core.Bool.{cond}
 use mathlib.Core.List.{List}
 use Prim.Native.Nat.{ℕ, _%_}
 use lib.Dec.{eqb}

@@ -1,7 +1,7 @@
 -- Laws of numbers as they are written: the last digit stands behind those of a tenth, and there are one to five of them below 65,536.
 -- Assumes nothing.
 use mathlib.Core.Path.{_≡_}
-use mathlib.Core.Logic.{_⊎_, inl, inr}
+use mathlib.Core.Logic.{inl, inr}
 use mathlib.Core.List.{List, [], _∷_, _++_}
 use Prim.Native.Nat.{ℕ, zero, suc, _+_, _*_, _^_, _/_, _%_, _≤_, _<_}
 use native.Mathlib.Nat.{pow-suc}

@@ -1,7 +1,7 @@
 -- Both round trips, for all numbers: what is written is well formed and reads as it was (`isNatural-decimal`, `valueFrom-decimal`), and
 -- what is well formed is written as it was (`decimal-valueFrom`). Assumes nothing.
 use mathlib.Core.Path.{_≡_, refl, sym, _∙_, ap}
-use mathlib.Core.Logic.{_⊎_, inl, inr}
+use mathlib.Core.Logic.{inl, inr}
 use mathlib.Core.Bool.{Bool, true, false, _||_, not}
 use mathlib.Core.List.{List, [], _∷_, _++_, append-nil, append-assoc}
 use Prim.Native.Nat.{ℕ, zero, suc, _+_, _-_, _*_, _/_, _%_, _≤_, _<_}

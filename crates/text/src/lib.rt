@@ -1,9 +1,9 @@
 // Lines, fields and decimal numbers. What each function answers is defined in specs/.
 ghost use mathlib.Core.Path.{_≡_};
-ghost use Prim.Native.Nat.{_+_, _-_, _*_, _≤_, _<_, min};
+ghost use Prim.Native.Nat.{_+_, _-_, _*_, _≤_, _<_};
 ghost use lib.ListN.{length, set};
 ghost use Rattle.prelude.specs.Bytes.{same};
-ghost use Rattle.text.specs.Lines.{upTo, fields};
+ghost use Rattle.text.specs.Lines.{upTo};
 ghost use Rattle.text.specs.Cuts.{CutsAre, FieldIs};
 ghost use Rattle.text.specs.ReadNumber.{capped, digitsOf, naturalOf, numberOf};
 ghost use Rattle.text.specs.Spelled.{DigitsAre};

@@ -4,7 +4,6 @@
 -- what is had at that place, by number from 0: a local, as _2, and behind it (..) the right to free it. Assumes nothing.
 use mathlib.Core.Path.{_≡_, refl, sym, _∙_, ap}
 use mathlib.Core.WellFounded.{WellFounded, InvImage·wf}
-use mathlib.Core.Bool.{false}
 use mathlib.Core.List.{List, [], _∷_}
 use Prim.Native.Nat.{ℕ, _+_, _-_, _*_, _≤_, _<_, _^_}
 use native.Mathlib.Omega.{arith}

@@ -2,7 +2,7 @@
 -- what is left of the pairs. Assumes nothing.
 use mathlib.Core.Path.{_≡_, refl}
 use mathlib.Core.List.{_++_}
-use Prim.Native.Nat.{ℕ, _-_, _≤_, _/_, _*_, _+_}
+use Prim.Native.Nat.{_-_, _≤_, _/_, _+_}
 use native.Mathlib.Omega.{arith}
 use borrow.Author.Needs.{needs}
 use denote.Ref.{now}

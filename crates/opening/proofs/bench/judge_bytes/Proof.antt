@@ -6,7 +6,6 @@ use denote.Ref.{now}
 use native.Mathlib.Omega.{arith}
 use Prim.Native.Nat.{ℕ, _*_}
 use mathlib.Core.Path.{sym, _∙_, ap}
-use lib.ListN.{take}
 use Rattle.sheet.specs.declared.Outcome.the-variants.{Refused}
 use Rattle.opening.specs.declared.Judgement.the-variants as J
 use Rattle.opening.proofs.Calls.{well-formed}
