@@ -1,5 +1,5 @@
--- The form is a sheet, and what is read from it is what was written: its rules are the rows that remain, row for row, since a name tells its
--- event, and the letters of a label tell the label. Assumes nothing.
+-- The form is a sheet, and what is read from it is what was written: its rules are the rows that remain, row for row, since a name
+-- tells its event, and the letters of a label tell the label. Assumes nothing.
 use mathlib.Core.Path.{_≡_, sym, _∙_, ap}
 use mathlib.Core.List.{List, [], map}
 use Prim.Native.Nat.{ℕ, _^_, _<_}
@@ -18,7 +18,7 @@ use Rattle.tighten.specs.Upper.{rowsOf}
 use Rattle.tighten.specs.Tightest.{remainingOf}
 use Rattle.tighten.proofs.Rules.{rows-max}
 use Rattle.tighten.proofs.Tables.{Agree}
-use Rattle.canonical.specs.House.{namesOf, signalAt, signalsOf, ruleOf, houseOf}
+use Rattle.canonical.specs.House.{namesOf, signalAt, signalsOf, asRule, houseOf}
 use Rattle.canonical.proofs.Signs.{mask-literals}
 use Rattle.canonical.proofs.Faithful.{Faithful, names-held, letters-held}
 use Rattle.canonical.proofs.Keeping.{Row, remaining-rows}
@@ -34,7 +34,7 @@ module _ {sheet : List ℕ} {Γ : Network} (t : Faithful sheet Γ) where
 
   module _ {form : List ℕ} {Δ : Network} (h : Contains form Δ (houseOf sheet Γ)) where
     -- a rule of the form is the row that remains
-    means-back : (r c : Constraint) → Row Γ r → Means (namesOf sheet Γ) (signalsOf sheet Γ) c (ruleOf sheet Γ r) → c ≡ r
+    means-back : (r c : Constraint) → Row Γ r → Means (namesOf sheet Γ) (signalsOf sheet Γ) c (asRule sheet Γ r) → c ≡ r
     means-back r c w m =
         let xs = signalsOf sheet Γ in
         let s = letters-held t in
@@ -55,14 +55,14 @@ module _ {sheet : List ℕ} {Γ : Network} (t : Faithful sheet Γ) where
 
     row-back : (i : ℕ) → i < length (remainingOf Γ) → constraint Δ i ≡ getD (remainingOf Γ) i noConstraint
     row-back i l =
-        let inside : i < length (map (ruleOf sheet Γ) (remainingOf Γ)) = omega (arith, length-map (remainingOf Γ) (ruleOf sheet Γ)) in
+        let inside : i < length (map (asRule sheet Γ) (remainingOf Γ)) = omega (arith, length-map (remainingOf Γ) (asRule sheet Γ)) in
         let r = getD (remainingOf Γ) i noConstraint in
         means-back r (constraint Δ i) (remaining-rows t .each i l)
-        (rw (getD-map (ruleOf sheet Γ) noConstraint noRule (remainingOf Γ) i l) at (h .rules .means i inside))
+        (rw (getD-map (asRule sheet Γ) noConstraint noRule (remainingOf Γ) i l) at (h .rules .means i inside))
 
     pub rows-back : rowsOf Δ ≡ remainingOf Γ
     rows-back =
-        let count : Δ .rules ≡ length (remainingOf Γ) = h .rules .count ∙ length-map (remainingOf Γ) (ruleOf sheet Γ) in
+        let count : Δ .rules ≡ length (remainingOf Γ) = h .rules .count ∙ length-map (remainingOf Γ) (asRule sheet Γ) in
         rows-max Δ (Δ .rules) (λ i l.
         let inside : i < length (remainingOf Γ) = omega arith in
         ap (λ (c : Constraint). c .kind) (row-back i inside) ∙ remaining-rows t .each i inside .kind)

@@ -20,7 +20,7 @@ use Rattle.tighten.specs.Tightest.{remainingOf}
 use Rattle.tighten.specs.Held.{Front, RowsAre}
 use Rattle.tighten.specs.declared.Rows.{Rows}
 use Rattle.tighten.proofs.Remains.{remaining-proper}
-use Rattle.canonical.specs.House.{ruleOf}
+use Rattle.canonical.specs.House.{asRule}
 
 module _ (Γ : Network) {r : Rows} (held : RowsAre (remainingOf Γ) r) (fits : r .fits ≡ true) where
   abbrev row : ℕ → Constraint
@@ -40,8 +40,8 @@ module _ (Γ : Network) {r : Rows} (held : RowsAre (remainingOf Γ) r) (fits : r
 
   -- the lines of the rows that remain, by their places in the array
   pub row-lines : (sheet : List ℕ)
-      → map ruleLine (map (ruleOf sheet Γ) (remainingOf Γ)) ≡ tabulate (r .count) (λ i. ruleLine (ruleOf sheet Γ (row i)))
+      → map ruleLine (map (asRule sheet Γ) (remainingOf Γ)) ≡ tabulate (r .count) (λ i. ruleLine (asRule sheet Γ (row i)))
   row-lines sheet =
       let all : remainingOf Γ ≡ tabulate (r .count) row =
       sym (front .front) ∙ take-tabulate noConstraint (r .count) (r .rows) (omega (arith, rows-few, front .sized)) in
-      rw (all, map-tabulate (ruleOf sheet Γ) row (r .count), map-tabulate ruleLine (λ i. ruleOf sheet Γ (row i)) (r .count))
+      rw (all, map-tabulate (asRule sheet Γ) row (r .count), map-tabulate ruleLine (λ i. asRule sheet Γ (row i)) (r .count))

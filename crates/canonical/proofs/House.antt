@@ -9,14 +9,14 @@ use Rattle.page.proofs.Append.{append-then, append-both}
 use Rattle.network.specs.declared.Network.{Network}
 use Rattle.layout.specs.Layout.{line, section, signalLine, ruleLine}
 use Rattle.tighten.specs.Tightest.{remainingOf}
-use Rattle.canonical.specs.House.{namesOf, signalsOf, ruleOf, houseText}
+use Rattle.canonical.specs.House.{namesOf, signalsOf, asRule, houseText}
 use Rattle.canonical.specs.Most.{mostCount, mostEvents, mostSignals, mostRules, mostForm}
 
 pub form-appended : (sheet : List ℕ) (Γ : Network) {b₀ b₁ b₂ b₃ b₄ : List ℕ} {r₁ r₂ r₃ r₄ : ℕ}
     → Appended (mostCount 7) b₀ 0 (line (ascii "horizon") (decimal (Γ .horizon) ∷ [])) b₁ r₁
     → Appended mostEvents b₁ r₁ (section "events" (map (λ n. line n []) (namesOf sheet Γ))) b₂ r₂
     → Appended mostSignals b₂ r₂ (section "signals" (map signalLine (signalsOf sheet Γ))) b₃ r₃
-    → Appended mostRules b₃ r₃ (section "rules" (map ruleLine (map (ruleOf sheet Γ) (remainingOf Γ)))) b₄ r₄
+    → Appended mostRules b₃ r₃ (section "rules" (map ruleLine (map (asRule sheet Γ) (remainingOf Γ)))) b₄ r₄
     → Appended mostForm b₀ 0 (houseText sheet Γ) b₄ r₄
 unfolding houseText
 form-appended sheet Γ horizon events signals rules =

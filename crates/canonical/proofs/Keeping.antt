@@ -23,7 +23,7 @@ use Rattle.layout.proofs.Contains.{lettersOf}
 use Rattle.tighten.specs.Tightest.{remainingOf}
 use Rattle.tighten.proofs.Regular.{rows-regular}
 use Rattle.tighten.proofs.Remains.{remaining-each, remaining-regular, remaining-proper}
-use Rattle.canonical.specs.House.{literalAt, namesOf, signalsOf, ruleOf, houseOf}
+use Rattle.canonical.specs.House.{literalAt, namesOf, signalsOf, asRule, houseOf}
 use Rattle.canonical.proofs.Signs.{letters-known, letters-once}
 use Rattle.canonical.proofs.Faithful.{Faithful, names-held, signals-held, letters-held, rows-apart}
 
@@ -52,7 +52,7 @@ module _ {sheet : List ℕ} {Γ : Network} (t : Faithful sheet Γ) where
     is = getD-tabulate (nameOf Γ sheet) (Γ .events) u [] h;
   }
 
-  rule-keeps : (r : Constraint) → Row Γ r → KeepsRule (namesOf sheet Γ) (lettersOf (signalsOf sheet Γ)) (ruleOf sheet Γ r)
+  rule-keeps : (r : Constraint) → Row Γ r → KeepsRule (namesOf sheet Γ) (lettersOf (signalsOf sheet Γ)) (asRule sheet Γ r)
   rule-keeps r w =
       let xs = signalsOf sheet Γ in
       record {
@@ -64,9 +64,9 @@ module _ {sheet : List ℕ} {Γ : Network} (t : Faithful sheet Γ) where
       }
 
   -- a label has no more letters than there are signals
-  pub labels-few : Each (λ x. length (x .label) ≤ L.signals) (map (ruleOf sheet Γ) (remainingOf Γ)) noRule
+  pub labels-few : Each (λ x. length (x .label) ≤ L.signals) (map (asRule sheet Γ) (remainingOf Γ)) noRule
   labels-few =
-      each-map (ruleOf sheet Γ) (λ x. length (x .label) ≤ L.signals) noConstraint noRule (remainingOf Γ)
+      each-map (asRule sheet Γ) (λ x. length (x .label) ≤ L.signals) noConstraint noRule (remainingOf Γ)
       (each-mono (λ r w. omega (arith, length-gather (literalAt Γ (r .label)) 0 (Γ .signals), t .formed .signals)) remaining-rows)
 
   pub house-keeps : length (remainingOf Γ) ≤ L.rules → Keeps (houseOf sheet Γ)
@@ -84,8 +84,8 @@ module _ {sheet : List ℕ} {Γ : Network} (t : Faithful sheet Γ) where
         signals = rw (names, signals) (k .signals);
         letters-once = rw signals (k .letters-once);
         events-once = rw signals (k .events-once);
-        few-rules = omega (arith, length-map (remainingOf Γ) (ruleOf sheet Γ));
+        few-rules = omega (arith, length-map (remainingOf Γ) (asRule sheet Γ));
         rules =
-            each-map (ruleOf sheet Γ) (KeepsRule (namesOf sheet Γ) (lettersOf (signalsOf sheet Γ))) noConstraint noRule (remainingOf Γ)
+            each-map (asRule sheet Γ) (KeepsRule (namesOf sheet Γ) (lettersOf (signalsOf sheet Γ))) noConstraint noRule (remainingOf Γ)
             (each-mono rule-keeps remaining-rows);
       }

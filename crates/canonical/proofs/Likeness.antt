@@ -16,7 +16,7 @@ use Rattle.network.specs.declared.Constraint.{Constraint}
 use Rattle.network.specs.declared.Network.{Network}
 use Rattle.layout.specs.Layout.{Signal, textOf}
 use Rattle.tighten.specs.Tightest.{remainingOf}
-use Rattle.canonical.specs.House.{literalAt, literalsOf, signalAt, ruleOf, houseOf, houseText}
+use Rattle.canonical.specs.House.{literalAt, literalsOf, signalAt, asRule, houseOf, houseText}
 use Rattle.canonical.specs.Same.{Same}
 use Rattle.canonical.proofs.Signs.{literalBy}
 use Rattle.canonical.proofs.Faithful.{Faithful}
@@ -39,7 +39,7 @@ module _ {sheet : List ℕ} {Γ : Network} {other : List ℕ} {Δ : Network} (s 
       ∙ ap (λ (k : ℕ). gather k (literalAt Δ ℓ))
       (tabulate-count (signalAt sheet Γ) (signalAt other Δ) (Γ .signals) (Δ .signals) (s .signals))
 
-  rule-same : (r : Constraint) → Row Γ r → ruleOf sheet Γ r ≡ ruleOf other Δ r
+  rule-same : (r : Constraint) → Row Γ r → asRule sheet Γ r ≡ asRule other Δ r
   rule-same r w =
       let from = name-same (r .from) (w .proper .from) in
       let to = name-same (r .to) (w .proper .to) in
@@ -48,9 +48,9 @@ module _ {sheet : List ℕ} {Γ : Network} {other : List ℕ} {Δ : Network} (s 
 
   pub house-same : Faithful sheet Γ → houseOf sheet Γ ≡ houseOf other Δ
   house-same t =
-      let rules : map (ruleOf sheet Γ) (remainingOf Γ) ≡ map (ruleOf other Δ) (remainingOf Δ) =
-      map-same (ruleOf sheet Γ) (ruleOf other Δ) noConstraint (remainingOf Γ) (each-mono rule-same (remaining-rows t))
-      ∙ ap (map (ruleOf other Δ)) (s .rows) in
+      let rules : map (asRule sheet Γ) (remainingOf Γ) ≡ map (asRule other Δ) (remainingOf Δ) =
+      map-same (asRule sheet Γ) (asRule other Δ) noConstraint (remainingOf Γ) (each-mono rule-same (remaining-rows t))
+      ∙ ap (map (asRule other Δ)) (s .rows) in
       λ i. record { horizon = s .horizons i; names = s .events i; signals = s .signals i; rules = rules i }
 
   pub text-same : Faithful sheet Γ → houseText sheet Γ ≡ houseText other Δ

@@ -9,7 +9,7 @@ use native.Mathlib.Omega.{arith}
 use lib.ListN.{length, length-append}
 use Rattle.prelude.specs.Bytes.{ascii}
 use Rattle.prelude.specs.Search.{when}
-use Rattle.prelude.specs.Gather.{before, gatherFrom}
+use Rattle.prelude.specs.Gather.{ahead, gatherFrom}
 use Rattle.page.specs.Joined.{joinFrom}
 use Rattle.network.specs.Build.{letter}
 use Rattle.network.specs.Scenario.{truth}
@@ -35,7 +35,7 @@ labelText-some (l ∷ ls) h = refl
 -- one letter, before others
 literal-first : (b : ℕ) (positive negative : Bool) (ls : List Literal)
     → literalsText
-    (before (elim positive [ true ↦ some (literal b true) | false ↦ when negative (literal b false) ]) ls)
+    (ahead (elim positive [ true ↦ some (literal b true) | false ↦ when negative (literal b false) ]) ls)
     ≡ literalText b positive negative ++ literalsText ls
 literal-first b true negative ls = refl
 literal-first b false true ls = refl

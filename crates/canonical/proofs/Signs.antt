@@ -9,7 +9,7 @@ use Prim.Native.Nat.{ℕ, zero, suc, _^_, _≤_, _<_}
 use native.Mathlib.Omega.{arith}
 use lib.ListN.{length, getD, length-map, List·getD-map}
 use Rattle.prelude.specs.Bounded.{sumBelow}
-use Rattle.prelude.specs.Gather.{before, gather}
+use Rattle.prelude.specs.Gather.{ahead, gather}
 use Rattle.prelude.specs.Search.{when}
 use Rattle.prelude.specs.Lists.{In, Distinct, Each}
 use Rattle.prelude.proofs.Tests.{clash}
@@ -93,7 +93,7 @@ sumOf false ℓ = ℓ .negative
 
 -- the sum over what a label asks of a letter with the weight q
 weights-by : (k : ℕ) (bs : List ℕ) (b q : ℕ) → weight k bs b ≡ q → (v s t : Bool) → (s ≡ true → t ≡ false)
-    → weights k bs v (before (literalBy b s t) []) ≡ cond (cond v s t) q 0
+    → weights k bs v (ahead (literalBy b s t) []) ≡ cond (cond v s t) q 0
 weights-by k bs b q e true true t h = omega (arith, e)
 weights-by k bs b q e true false true h = omega arith
 weights-by k bs b q e true false false h = refl
@@ -108,7 +108,7 @@ truth-sum false ℓ p = refl
 
 module _ (Γ : Network) (ℓ : Label) (apart : Apart ℓ) (k : ℕ) (bs : List ℕ) (w : LettersAre Γ k bs) (v : Bool) where
   -- the weight of what the label asks of one signal
-  weight-at : (p : ℕ) → p < k → weights k bs v (before (literalAt Γ ℓ p) []) ≡ weightIn (sumOf v ℓ) p
+  weight-at : (p : ℕ) → p < k → weights k bs v (ahead (literalAt Γ ℓ p) []) ≡ weightIn (sumOf v ℓ) p
   weight-at p h =
       let size = w .sized in
       let is : weight k bs (letter Γ p) ≡ 2 ^ p = rw (w .are p h, ← w .sized) (weight-of bs (w .once) p (omega arith)) in
@@ -118,7 +118,7 @@ module _ (Γ : Network) (ℓ : Label) (apart : Apart ℓ) (k : ℕ) (bs : List �
   weights-below : (n : ℕ) → n ≤ k → weights k bs v (gather n (literalAt Γ ℓ)) ≡ sumBelow n (weightIn (sumOf v ℓ))
   weights-below zero h = refl
   weights-below (suc n) h =
-      rw (gather-more (literalAt Γ ℓ) n, weights-append k bs v (gather n (literalAt Γ ℓ)) (before (literalAt Γ ℓ n) []))
+      rw (gather-more (literalAt Γ ℓ) n, weights-append k bs v (gather n (literalAt Γ ℓ)) (ahead (literalAt Γ ℓ n) []))
       (omega (arith, weights-below n (omega arith), weight-at n h))
 
   weights-literals : sumOf v ℓ < 2 ^ k → weights k bs v (literalsOf Γ ℓ) ≡ sumOf v ℓ

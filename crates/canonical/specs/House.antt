@@ -1,5 +1,5 @@
--- A sheet in its house form (02, point 2): "horizon, events and signals as they are", the rows that remain, "Label letters stand in signal
--- order". What the form contains is said as the layout says what any sheet contains, and it is written as any sheet is.
+-- A sheet in its house form (02, point 2): its horizon, events and signals as they are, and the rows that remain. "Label letters stand in
+-- signal order". What the form contains is said as the layout says what any sheet contains, and it is written as any sheet is.
 use mathlib.Core.Bool.{Bool, true, false}
 use mathlib.Core.Option.{Option, some}
 use mathlib.Core.List.{List, map}
@@ -47,8 +47,8 @@ module _ (sheet : List ℕ) (Γ : Network) where
   signalsOf = tabulate (Γ .signals) signalAt
 
   -- a row that remains
-  abbrev pub ruleOf : Constraint → Rule
-  ruleOf r = record {
+  abbrev pub asRule : Constraint → Rule
+  asRule r = record {
     kind = Max;
     from = nameOf Γ sheet (r .from);
     to = nameOf Γ sheet (r .to);
@@ -61,7 +61,7 @@ module _ (sheet : List ℕ) (Γ : Network) where
     horizon = Γ .horizon;
     names = namesOf;
     signals = signalsOf;
-    rules = map ruleOf (remainingOf Γ);
+    rules = map asRule (remainingOf Γ);
   }
 
   -- the form's bytes

@@ -1,4 +1,4 @@
--- Parts of a form, by what they depend on.
+-- A letter of a label as it is written, by the two truths that decide it: what the writer's leaf promises.
 use mathlib.Core.Bool.{Bool, cond}
 use mathlib.Core.List.{List, [], _∷_}
 use Prim.Native.Nat.{ℕ}

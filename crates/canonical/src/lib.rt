@@ -14,7 +14,7 @@ ghost use Rattle.network.specs.WellFormed.{InLimits, Proper, WellFormed, Named}
 ghost use Rattle.layout.specs.Layout.{line, section, signalLine, ruleLine, signedText, labelText};
 ghost use Rattle.tighten.specs.Tightest.{remainingOf};
 ghost use Rattle.tighten.specs.Held.{RowsAre};
-ghost use Rattle.canonical.specs.House.{literalsOf, namesOf, signalsOf, ruleOf, houseText};
+ghost use Rattle.canonical.specs.House.{literalsOf, namesOf, signalsOf, asRule, houseText};
 ghost use Rattle.canonical.specs.Parts.{literalText};
 ghost use Rattle.canonical.specs.Most.{mostCount, mostEvents, mostSignals, mostLabel, mostRule, mostRules};
 use network::Constraint;
@@ -131,7 +131,7 @@ fn push_label(page: &mut [u8], at: usize, network: Network, label: Label) -> usi
 // One row.
 fn push_rule(page: &mut [u8], at: usize, sheet: &[u8], network: Network, row: Constraint) -> usize
     requires { ⌜ WellFormed network × Named (now sheet) network × Proper network row × (at + mostRule ≤ length (now page)) ⌝ }
-    ensures { λ r. ⌜ Appended mostRule (now (page .entry)) at (ruleLine (ruleOf (now (sheet .entry)) network row)) (now (page .exit)) r ⌝ }
+    ensures { λ r. ⌜ Appended mostRule (now (page .entry)) at (ruleLine (asRule (now (sheet .entry)) network row)) (now (page .exit)) r ⌝ }
 {
     let label = row.label;
     let mut next = page::push_all(page, at, b"max");
@@ -148,7 +148,7 @@ fn push_rules(page: &mut [u8], at: usize, sheet: &[u8], network: Network, rows: 
     requires { ⌜ WellFormed network × Named (now sheet) network × RowsAre (remainingOf network) rows × (rows .fits ≡ true) ×
         (at + mostRules ≤ length (now page)) ⌝ }
     ensures { λ r. ⌜ Appended mostRules (now (page .entry)) at
-        (section "rules" (map ruleLine (map (ruleOf (now (sheet .entry)) network) (remainingOf network)))) (now (page .exit)) r ⌝ }
+        (section "rules" (map ruleLine (map (asRule (now (sheet .entry)) network) (remainingOf network)))) (now (page .exit)) r ⌝ }
 {
     let mut next = push_count(page, at, b"rules", rows.count as u16);
     for i in 0..rows.count {
@@ -157,7 +157,7 @@ fn push_rules(page: &mut [u8], at: usize, sheet: &[u8], network: Network, rows: 
     next
 }
 
-// The longest form.
+// No form is longer.
 const LONGEST: usize = 2673;
 
 // The form into out, where the rows that remain fit a sheet: how many bytes were written, or that out is too short for them.

@@ -1,5 +1,5 @@
--- Laws of the core. Letters and their bits; one record more; what is said of a letter, by its two bits, and that over a network it is what
--- a case has heard. Then two loops, each by what has been passed: bits that add up, each of them new, so that nothing is carried
+-- Laws of the core. Letters and their bits; one record more; what is said of a letter, by its two bits, and that over a network it is
+-- what a case has heard. Then two loops, each by what has been passed: bits that add up, each of them new, so that nothing is carried
 -- (`Summing`), and the search for a case (`Hearing`). Assumes nothing.
 use mathlib.Core.Path.{_≡_, refl, _∙_, ap₂}
 use mathlib.Core.Logic.{_⊎_, inl, inr}

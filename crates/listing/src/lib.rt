@@ -74,10 +74,8 @@ fn push_time(page: &mut [u8], at: usize, v: u16) -> usize
     requires { ⌜ at + 6 ≤ length (now page) ⌝ }
     ensures { λ r. ⌜ Appended 6 (now (page .entry)) at (comma ∷ decimal v) (now (page .exit)) r ⌝ }
 {
-    let digits = text::spell(v);
-    let bytes = digits.bytes;
-    let count = digits.count;
-    page::push_field(page, at, &bytes[..count])
+    let next = page::push(page, at, b',');
+    page::push_number(page, next, v)
 }
 
 // The times of all events in scenario s, and the line feed.

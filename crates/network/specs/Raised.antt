@@ -1,4 +1,4 @@
--- A limit without its sign: the limit and 10,080, from 0 to 20,160.
+-- A limit plus 10,080, so never negative: from 0 to 20,160.
 use Prim.Native.Nat.{ℕ, suc, _+_, _-_}
 use lib.IntN.{ℤ, pos, negsuc, _-ℤ_}
 use Rattle.network.specs.Limits as L

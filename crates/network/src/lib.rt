@@ -168,7 +168,7 @@ pub fn cell_count(events: usize, signals: usize) -> usize
     events * scenario_count(signals)
 }
 
-// A limit without its sign: the limit and 10,080.
+// The limit plus 10,080, so never negative.
 pub fn raised(bound: i32) -> u16
     requires { ⌜ InLimits bound ⌝ }
     ensures { λ r. ⌜ r ≡ R.raised bound ⌝ }

@@ -1,4 +1,4 @@
--- From what the reader, the row merger and the form's writer promise to what `write_house` does: the reading's outcome, then whether the
+-- From what the reader, `tighten` and the form's writer promise to what `write_house` does: the reading's outcome, then whether the
 -- rows that remain fit a sheet, then what the writer did. Assumes nothing.
 use mathlib.Core.Path.{_≡_, refl}
 use mathlib.Core.Bool.{true, false}

@@ -135,6 +135,10 @@ again =
       },
     ))
 
+second-pass : (sheet f m : List ℕ) (Γ : Network) → Form sheet Γ f → length f ≤ length m
+    → (answer f m ≡ wrote (length f)) × (housed f m .memory ≡ f ++ drop (length f) m)
+second-pass sheet f m Γ form l = let own = again sheet f Γ form in all-written f m f (own .0) (own .1) l
+
 tables : (sheet f : List ℕ) (Γ Δ : Network) → Form sheet Γ f → Reads f Δ → SameTables Γ Δ
 tables sheet f Γ Δ form reads =
     by-sheet (λ sheet Γ f. (Δ : Network) → read f .network ≡ Δ → SameTables Γ Δ)
@@ -159,6 +163,7 @@ housing = record {
   rows = λ sheet Γ reads. remaining-is (rows-regular Γ (reads-well-formed reads));
   rows-alone = λ sheet Γ rs reads is. remaining-unique (rows-regular Γ (reads-well-formed reads)) is;
   again = again;
+  second-pass = second-pass;
   tables = tables;
   equal = equal;
 }

@@ -17,7 +17,7 @@ use Rattle.checker.specs.declared.Breach.{Breach}
 use Rattle.checker.specs.declared.Breach.the-variants.{Late, Rule, Unheard}
 use Rattle.checker.specs.declared.Verdict.{Verdict}
 use Rattle.checker.specs.declared.Verdict.the-variants.{Pass, Breach as Breached}
-use Rattle.opening.specs.Calls.{withoutLine, judgement, Left, solving}
+use Rattle.opening.specs.Calls.{withoutLine, judgement, WrittenValues, writtenValues, Left, solving}
 use Rattle.opening.specs.declared.Judgement.{Judgement}
 use Rattle.opening.specs.declared.Judgement.the-variants as J
 use Rattle.opening.specs.declared.Written.{Written}
@@ -81,8 +81,7 @@ packed v =
 
 -- the solver's: number, line (two bytes), count of minutes (two bytes)
 abbrev pub packedWritten : Written → ℕ
-packedWritten (W.Count n) = 16777216 * n
-packedWritten (W.Refused r) = packed (refused r)
+packedWritten a = let v = writtenValues a in v .number + 256 * (v .line + 65536 * v .count)
 
 -- the promise of the solver's call: the number, and the bytes as it returns
 pub record BenchLeaves (l : Left) (r : ℕ) (b : List ℕ) : Type 0 where

@@ -13,7 +13,7 @@ use Rattle.refusal.specs.declared.Cause.{Cause}
 use Rattle.refusal.specs.declared.Refusal.{Refusal}
 use Rattle.refusal.specs.declared.Cause.the-variants.{WrongTableLength, BufferTooShort, Inconsistent, TooManyRows}
 use Rattle.fixpoint.specs.Run.{Run, End, Rests, Passes, Spent}
-use Rattle.network.specs.Limits as N
+use Rattle.network.specs.Limits as L
 use Rattle.network.specs.Build.{cells}
 use Rattle.network.specs.declared.Network.{Network}
 use Rattle.sheet.specs.Reading.{read}
@@ -47,6 +47,19 @@ summaryFor Γ (Refused r) = S.Refused r
 
 abbrev pub summary : List ℕ → Summary
 summary sheet = summaryFor (read sheet .network) (read sheet .outcome)
+
+-- the number, the line and the values of an answer: the horizon and the counts with 0 and 0, or a refusal's number and line with none
+pub record SummaryValues : Type 0 where
+  pub number : ℕ
+  pub line : ℕ
+  pub counts : Counts
+
+abbrev pub noCounts : Counts
+noCounts = record { horizon = 0; events = 0; signals = 0; rules = 0 }
+
+abbrev pub summaryValues : Summary → SummaryValues
+summaryValues (S.Accepted c) = record { number = 0; line = 0; counts = c }
+summaryValues (S.Refused r) = record { number = numberOf (r .cause); line = r .line; counts = noCounts }
 
 -- judging: "A table handed in has not exactly n × 2^k numbers" is 11
 abbrev pub judgementFor : Network → Outcome → List ℕ → Judgement
@@ -92,7 +105,7 @@ written text m =
       | false ↦ kept (W.Refused (withoutLine BufferTooShort)) m
     ]
 
--- the same by what a writer did
+-- the answer by what a writer did
 abbrev pub handedOut : PD.Written → Written
 handedOut (PW.Bytes n) = W.Count n
 handedOut PW.TooShort = W.Refused (withoutLine BufferTooShort)
@@ -129,7 +142,7 @@ listed sheet t m = listingFor sheet (read sheet .network) (read sheet .outcome) 
 -- writing the house form: "17, more than 64 rows would be left" (02, point 2), before 12
 abbrev pub houseFor : List ℕ → Network → Outcome → List ℕ → Left
 houseFor sheet Γ Accepted m =
-    elim (leb (length (remainingOf Γ)) N.rules) [
+    elim (leb (length (remainingOf Γ)) L.rules) [
       | true ↦ written (houseText sheet Γ) m
       | false ↦ kept (W.Refused (withoutLine TooManyRows)) m
     ]

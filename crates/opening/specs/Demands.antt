@@ -1,10 +1,11 @@
 -- The three demands, as statements about every sheet, table and lent buffer. They speak of the definitions that the calls' contracts
--- are equations with: `judgement`, `solving` and `listed` (Calls), `benchJudgement` and `benchSolving` (Bench).
+-- are equations with: `summary`, `judgement`, `solving` and `listed` (Calls), `benchJudgement` and `benchSolving` (Bench).
 use mathlib.Core.Path.{_≡_}
 use mathlib.Core.Logic.{_↔_}
 use mathlib.Core.List.{List, _++_}
 use Prim.Native.Nat.{ℕ, _≤_}
 use lib.ListN.{length, drop}
+use Rattle.refusal.specs.Refusal.{numberOf}
 use Rattle.refusal.specs.declared.Cause.the-variants.{Inconsistent}
 use Rattle.refusal.specs.declared.Refusal.{Refusal}
 use Rattle.fixpoint.specs.Run.{Rests}
@@ -14,7 +15,7 @@ use Rattle.network.specs.Least.{Least}
 use Rattle.network.specs.Least as L
 use Rattle.network.specs.declared.Network.{Network}
 use Rattle.sheet.specs.Reading.{read}
-use Rattle.sheet.specs.declared.Outcome.the-variants.{Accepted}
+use Rattle.sheet.specs.declared.Outcome.the-variants.{Accepted, Refused}
 use Rattle.sheet.specs.declared.Reading.{Reading}
 use Rattle.layout.specs.Layout.{Layout}
 use Rattle.checker.specs.Verdict.{verdict}
@@ -23,7 +24,7 @@ use Rattle.checker.specs.declared.Breach.{Breach}
 use Rattle.checker.specs.declared.Verdict.the-variants.{Pass, Breach as Breached}
 use Rattle.solver.specs.Hyperarcs.{Dynamic, Hyperarcs}
 use Rattle.solver.specs.Solve.{solve}
-use Rattle.opening.specs.Calls.{withoutLine, judgement, Left, solving, listed}
+use Rattle.opening.specs.Calls.{withoutLine, countsOf, summary, SummaryValues, noCounts, summaryValues, judgement, Left, solving, listed}
 use Rattle.opening.specs.Bench.{benchSolving}
 use Rattle.opening.specs.declared.Judgement.the-variants as J
 use Rattle.opening.specs.declared.Written.the-variants as W
@@ -42,6 +43,11 @@ pub record Demands : Type 0 where
   pub solving-keeps : (sheet m : List ℕ) → Keeps (solving sheet m) m
   pub listing-keeps : (sheet t m : List ℕ) → Keeps (listed sheet t m) m
   pub bench-keeps : (sheet b : List ℕ) → Keeps (benchSolving sheet b) b
+  -- of the reader's call: the counts of an accepted sheet, or the number and the line of its refusal
+  pub counted : (sheet : List ℕ) (Γ : Network) → Reads sheet Γ
+      → summaryValues (summary sheet) ≡ record { number = 0; line = 0; counts = countsOf Γ }
+  pub turned-away : (sheet : List ℕ) (r : Refusal) → read sheet .outcome ≡ Refused r
+      → summaryValues (summary sheet) ≡ record { number = numberOf (r .cause); line = r .line; counts = noCounts }
   -- demand 2: "A sheet is accepted when it keeps every rule of its layout, otherwise refused"
   pub accepted : (sheet : List ℕ) → (read sheet .outcome ≡ Accepted) ↔ Layout sheet
   -- "The judge passes a table for an accepted sheet exactly when the three points of a good table hold"

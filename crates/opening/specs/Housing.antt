@@ -45,7 +45,7 @@ pub record SameTables (Γ Δ : Network) : Type 0 where
   pub none : Inconsistent Γ ↔ Inconsistent Δ
 
 pub record Housing : Type 0 where
-  -- "Refusal alters nothing", and the sheet's own comes first
+  -- a refusal alters nothing: "Lent tables and byte buffers keep all their contents"; the sheet's own comes first
   pub keeps : (sheet m : List ℕ) → Keeps (housed sheet m) m
   pub refused : (sheet m : List ℕ) (r : Refusal) → read sheet .outcome ≡ O.Refused r → housed sheet m .answer ≡ W.Refused r
   -- 17 exactly where "more than 64 rows would be left"; then 12 exactly where the buffer is too short
@@ -57,8 +57,11 @@ pub record Housing : Type 0 where
   -- the rows in it are those that remain of the sheet's, in document 02's words, and no other list is
   pub rows : (sheet : List ℕ) (Γ : Network) → Reads sheet Γ → Remaining (rowsOf Γ) (remainingOf Γ)
   pub rows-alone : (sheet : List ℕ) (Γ : Network) (rs : List Constraint) → Reads sheet Γ → Remaining (rowsOf Γ) rs → rs ≡ remainingOf Γ
-  -- "a second pass changes no byte": the form is a sheet that is accepted, and it is its own form
+  -- the form is a sheet that is accepted, and it is its own form
   pub again : (sheet f : List ℕ) (Γ : Network) → Form sheet Γ f → (Δ : Network) × Form f Δ f
+  -- "a second pass changes no byte": the call on the form writes the form
+  pub second-pass : (sheet f m : List ℕ) (Γ : Network) → Form sheet Γ f → length f ≤ length m
+      → (answer f m ≡ wrote (length f)) × (housed f m .memory ≡ f ++ drop (length f) m)
   -- "The form reads back to the same good tables"
   pub tables : (sheet f : List ℕ) (Γ Δ : Network) → Form sheet Γ f → Reads f Δ → SameTables Γ Δ
   -- "Two sheets give equal bytes if and only if their horizons, event lists, signal lists and remaining rows are equal"

@@ -1,6 +1,6 @@
--- Playing a table: what is due at a minute, for those who have heard a list of signals (02, point 1). The sheet's own refusal comes first,
--- then 11; then "14, the table does not pass the judge; 15, a letter in the list is undefined or stands twice; 16, no case has heard exactly
--- this list", each with line 0.
+-- Playing a table: what is due at a minute, for those who have heard a list of signals (02, point 1). The sheet's own refusal comes
+-- first, then 11; then "14, the table does not pass the judge; 15, a letter in the list is undefined or stands twice; 16, no case has
+-- heard exactly this list", each with line 0.
 use mathlib.Core.List.{List}
 use Prim.Native.Nat.{ℕ}
 use Rattle.refusal.specs.Refusal.{numberOf}

@@ -51,8 +51,8 @@ module _ (sheet t : List ℕ) where
     -- "Two cases that have heard the same get the same events"
     pub same : (m : ℕ) (hs : List Heard) (s r u : ℕ) → s < scenarios Γ → r < scenarios Γ → u < Γ .events
         → History Γ t m hs s → History Γ t m hs r → (time (Γ .events) t s u ≡ m) ↔ (time (Γ .events) t r u ≡ m)
-    -- "what a signal not yet heard will say changes nothing": cases that differ only in such signals have heard the same, and are answered
-    -- the same
+    -- "what a signal not yet heard will say changes nothing": cases that differ only in such signals have heard the same, and are
+    -- answered the same
     pub unheard : (m s r : ℕ) → s < scenarios Γ → r < scenarios Γ → Indistinct Γ t s r m
         → ((hs : List Heard) → History Γ t m hs s ↔ History Γ t m hs r)
         × (eventsDue sheet t m (historyOf Γ t m s) ≡ eventsDue sheet t m (historyOf Γ t m r))

@@ -7,7 +7,7 @@ use mathlib.Core.List.{[], _∷_, _++_}
 use Prim.Native.Nat.{ℕ, zero, suc, _+_, _≤_, _<_}
 use native.Mathlib.Omega.{arith}
 use lib.ListN.{length, getD}
-use Rattle.prelude.specs.Gather.{before, gatherFrom, gather}
+use Rattle.prelude.specs.Gather.{ahead, gatherFrom, gather}
 use Rattle.prelude.specs.Lists.{In}
 use Rattle.prelude.proofs.Tests.{eq-or-ne}
 use Rattle.prelude.proofs.Parts.{in-first, in-later}
@@ -45,15 +45,15 @@ module _ {A : Type 0} (f : ℕ → Option A) where
       ]
 
   -- one number more is tried at the end
-  gatherFrom-more : (i n j : ℕ) → j ≡ i + n → gatherFrom i (suc n) f ≡ gatherFrom i n f ++ before (f j) []
-  gatherFrom-more i zero j e = ap (λ (k : ℕ). before (f k) []) (omega arith)
+  gatherFrom-more : (i n j : ℕ) → j ≡ i + n → gatherFrom i (suc n) f ≡ gatherFrom i n f ++ ahead (f j) []
+  gatherFrom-more i zero j e = ap (λ (k : ℕ). ahead (f k) []) (omega arith)
   gatherFrom-more i (suc n) j e = rw (gatherFrom-more (suc i) n j (omega arith)) (behind (f i))
     where
-      behind : (o : Option A) → before o (gatherFrom (suc i) n f ++ before (f j) []) ≡ before o (gatherFrom (suc i) n f) ++ before (f j) []
+      behind : (o : Option A) → ahead o (gatherFrom (suc i) n f ++ ahead (f j) []) ≡ ahead o (gatherFrom (suc i) n f) ++ ahead (f j) []
       behind none = refl
       behind (some x) = refl
 
-  pub gather-more : (n : ℕ) → gather (suc n) f ≡ gather n f ++ before (f n) []
+  pub gather-more : (n : ℕ) → gather (suc n) f ≡ gather n f ++ ahead (f n) []
   gather-more n = gatherFrom-more 0 n n (omega arith)
 
   pub length-gather : (i n : ℕ) → length (gatherFrom i n f) ≤ n
@@ -104,7 +104,7 @@ module _ {A : Type 0} (f : ℕ → Option A) where
         first : f i ≡ some x → In x (gatherFrom i (suc n) f) d
         first e = rw e in-first
 
-        behind : (o : Option A) → In x (gatherFrom (suc i) n f) d → In x (before o (gatherFrom (suc i) n f)) d
+        behind : (o : Option A) → In x (gatherFrom (suc i) n f) d → In x (ahead o (gatherFrom (suc i) n f)) d
         behind none w = w
         behind (some y) w = in-later w
 

@@ -5,14 +5,14 @@ use Prim.Native.Nat.{ℕ, zero, suc}
 
 module _ {A : Type 0} where
   -- an answer, put before others
-  abbrev pub before : Option A → List A → List A
-  before none xs = xs
-  before (some x) xs = x ∷ xs
+  abbrev pub ahead : Option A → List A → List A
+  ahead none xs = xs
+  ahead (some x) xs = x ∷ xs
 
   -- the answers among f i, f (i + 1), .. : n numbers are tried
   abbrev pub gatherFrom : ℕ → ℕ → (ℕ → Option A) → List A
   gatherFrom i zero f = []
-  gatherFrom i (suc n) f = before (f i) (gatherFrom (suc i) n f)
+  gatherFrom i (suc n) f = ahead (f i) (gatherFrom (suc i) n f)
 
   -- the answers among f 0, f 1, .. : n numbers are tried
   abbrev pub gather : ℕ → (ℕ → Option A) → List A

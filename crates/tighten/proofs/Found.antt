@@ -17,7 +17,7 @@ use Rattle.network.specs.Build.{noConstraint}
 use Rattle.network.specs.declared.Constraint.{Constraint}
 use Rattle.tighten.specs.declared.Numbers.{Numbers}
 use Rattle.tighten.specs.Tightest.{ranks, tightest, remaining}
-use Rattle.tighten.specs.Numbers.{limits, rowOf, behind, top, leastBelow}
+use Rattle.tighten.specs.Numbers.{perKey, rowOf, behind, top, leastBelow}
 use Rattle.tighten.specs.Held.{Front, NumbersAre, RowsAre}
 use Rattle.tighten.proofs.Regular.{Regular}
 use Rattle.tighten.proofs.Fronts.{front-few, front-more, front-nothing}
@@ -29,7 +29,7 @@ pub record Found (xs : List Constraint) (count : ℕ) (rows : List Constraint) (
   pub key : ℕ
   pub left : ℕ
   pub keys : key + left ≡ ranks
-  pub floor-is : floor ≡ key * limits
+  pub floor-is : floor ≡ key * perKey
   pub held : Front L.rules done count rows
   pub rest : remaining xs ≡ done ++ gatherFrom key left (tightest xs)
 
@@ -74,13 +74,13 @@ module _ {xs : List Constraint} (r : Numbers) (regular : Each Regular xs noConst
 
       -- its row is the next, and these are behind it
       abbrev others : List Constraint
-      others = gatherFrom (suc (v / limits)) (ranks - suc (v / limits)) (tightest xs)
+      others = gatherFrom (suc (v / perKey)) (ranks - suc (v / perKey)) (tightest xs)
 
       found-next : remaining xs ≡ f .done ++ rowOf v ∷ others
       found-next =
           f .rest
           ∙ ap (λ (l : List Constraint). f .done ++ l)
-          (gather-next (tightest xs) (f .key) (f .left) (v / limits) (ranks - suc (v / limits)) (rowOf v)
+          (gather-next (tightest xs) (f .key) (f .left) (v / perKey) (ranks - suc (v / perKey)) (rowOf v)
           (rw is-least (least-from r regular are (f .key) other))
           (omega (arith, found-lt, f .keys))
           (rw is-least (none-before r regular are (f .key) other))
@@ -100,8 +100,8 @@ module _ {xs : List Constraint} (r : Numbers) (regular : Each Regular xs noConst
           → Found xs (count + 1) (set rows count x) floor′
       found-more {x} {floor′} h p q = record {
         done = f .done ++ x ∷ [];
-        key = suc (v / limits);
-        left = ranks - suc (v / limits);
+        key = suc (v / perKey);
+        left = ranks - suc (v / perKey);
         keys = omega (arith, found-lt);
         floor-is = omega arith;
         held = front-more x (f .held) h;

@@ -15,7 +15,7 @@ use Rattle.network.specs.declared.Constraint.{Constraint}
 use Rattle.network.proofs.Signed.{le-raised}
 use Rattle.tighten.specs.declared.Numbers.{Numbers}
 use Rattle.tighten.specs.Tightest.{rank, tightest}
-use Rattle.tighten.specs.Numbers.{limits, numberOf, rowOf, top, leastBelow}
+use Rattle.tighten.specs.Numbers.{perKey, numberOf, rowOf, top, leastBelow}
 use Rattle.tighten.specs.Held.{NumbersAre}
 use Rattle.tighten.proofs.Regular.{Regular, number-lt, rank-number, rowOf-numberOf}
 use Rattle.tighten.proofs.Tight.{TightestAt, none-tightest, tightest-unique}
@@ -37,14 +37,14 @@ module _ {xs : List Constraint} (r : Numbers) (regular : Each Regular xs noConst
   module _ (key : ℕ) where
     -- the least number from the key on
     abbrev pub leastFrom : ℕ
-    leastFrom = leastBelow (r .count) number (key * limits)
+    leastFrom = leastBelow (r .count) number (key * perKey)
 
     -- no row with a key from there on has a lesser number
     least-row : (y : Constraint) → In y xs noConstraint → key ≤ rank y → leastFrom ≤ numberOf y
     least-row y w h =
         let l : w .place < r .count = omega (arith, counted, w .place-lt) in
         let e = number-is (w .place) l ∙ ap numberOf (w .is) in
-        omega (arith, e, least-le number (key * limits) (r .count) (w .place) l (omega (arith, e)))
+        omega (arith, e, least-le number (key * perKey) (r .count) (w .place) l (omega (arith, e)))
 
     pub none-left : leastFrom ≡ top → (n : ℕ) → Silent (tightest xs) key n
     none-left e n = record {
@@ -54,8 +54,8 @@ module _ {xs : List Constraint} (r : Numbers) (regular : Each Regular xs noConst
     }
 
     module _ (h : leastFrom ≡ top → ⊥) where
-      at : LeastAt number (key * limits) (r .count) leastFrom
-      at = least-at number (key * limits) (r .count) h
+      at : LeastAt number (key * perKey) (r .count) leastFrom
+      at = least-at number (key * perKey) (r .count) h
 
       -- the row of the least number
       row : Constraint
@@ -75,17 +75,17 @@ module _ {xs : List Constraint} (r : Numbers) (regular : Each Regular xs noConst
       row-is : rowOf leastFrom ≡ row
       row-is = ap rowOf (sym is-least) ∙ rowOf-numberOf row-regular
 
-      rank-is : rank row ≡ leastFrom / limits
-      rank-is = sym (rank-number row-regular) ∙ ap (λ (v : ℕ). v / limits) is-least
+      rank-is : rank row ≡ leastFrom / perKey
+      rank-is = sym (rank-number row-regular) ∙ ap (λ (v : ℕ). v / perKey) is-least
 
       pub least-lt : leastFrom < top
       least-lt = omega (arith, is-least, number-lt row-regular)
 
       -- its key is the first from there on that a row has
-      pub least-from : key ≤ leastFrom / limits
+      pub least-from : key ≤ leastFrom / perKey
       least-from = omega (arith, at .from)
 
-      pub none-before : Silent (tightest xs) key (leastFrom / limits)
+      pub none-before : Silent (tightest xs) key (leastFrom / perKey)
       none-before = record {
         silent =
             λ k h l.
@@ -104,5 +104,5 @@ module _ {xs : List Constraint} (r : Numbers) (regular : Each Regular xs noConst
             (omega (arith, least-row y w (omega (arith, p, rank-is, least-from)), is-least, p));
       }
 
-      pub next-row : tightest xs (leastFrom / limits) ≡ some (rowOf leastFrom)
+      pub next-row : tightest xs (leastFrom / perKey) ≡ some (rowOf leastFrom)
       next-row = rw (row-is, ← rank-is) (tightest-unique regular tightest-row)

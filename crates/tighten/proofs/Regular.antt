@@ -15,7 +15,7 @@ use Rattle.network.specs.declared.Constraint.{Constraint}
 use Rattle.network.specs.declared.Network.{Network}
 use Rattle.tighten.specs.Upper.{forward, backward, rowsOf}
 use Rattle.tighten.specs.Tightest.{rank, ranks}
-use Rattle.tighten.specs.Numbers.{limits, numberOf, rowOf, Numbered, top}
+use Rattle.tighten.specs.Numbers.{perKey, numberOf, rowOf, Numbered, top}
 use Rattle.tighten.proofs.Rules.{rows-each, uppers-each}
 
 pub record Regular (r : Constraint) : Type 0 where
@@ -43,7 +43,7 @@ module _ {r : Constraint} (h : Regular r) where
   pub number-lt : numberOf r < top
   number-lt = omega (arith, rank-lt, few)
 
-  pub rank-number : numberOf r / limits ≡ rank r
+  pub rank-number : numberOf r / perKey ≡ rank r
   rank-number = omega (arith, few)
 
   from-is : numberOf r / 134217728 ≡ r .from
@@ -55,12 +55,12 @@ module _ {r : Constraint} (h : Regular r) where
   positive-is : numberOf r / 524288 % 16 ≡ r .label .positive
   positive-is = let d = h .numbered in omega (arith, few, d .positive-few, d .negative-few)
 
-  negative-is : numberOf r / limits % 16 ≡ r .label .negative
+  negative-is : numberOf r / perKey % 16 ≡ r .label .negative
   negative-is = let d = h .numbered in omega (arith, few, d .negative-few)
 
-  bound-is : lowered (numberOf r % limits) ≡ r .bound
+  bound-is : lowered (numberOf r % perKey) ≡ r .bound
   bound-is =
-      let e : numberOf r % limits ≡ raised (r .bound) = omega (arith, few) in
+      let e : numberOf r % perKey ≡ raised (r .bound) = omega (arith, few) in
       ap lowered e ∙ lowered-raised (r .bound) (h .numbered .bound)
 
   pub rowOf-numberOf : rowOf (numberOf r) ≡ r

@@ -1,4 +1,4 @@
--- A row as one number, so that a search for the next key and its least limit compares numbers only: its key, and behind it its limit and
+-- A row as one number, so that a search for the next key and its least limit compares numbers only: its key, and behind it its limit plus
 -- 10,080, which is not negative.
 use mathlib.Core.Bool.{cond}
 use Prim.Native.Nat.{ℕ, zero, suc, _+_, _*_, _/_, _%_, _<_, min}
@@ -12,16 +12,16 @@ use Rattle.tighten.specs.Upper.{upper}
 use Rattle.tighten.specs.Tightest.{rank}
 
 -- how many numbers there are for a key, more than limits
-abbrev pub limits : ℕ
-limits = 32768
+abbrev pub perKey : ℕ
+perKey = 32768
 
 abbrev pub numberOf : Constraint → ℕ
-numberOf r = rank r * limits + raised (r .bound)
+numberOf r = rank r * perKey + raised (r .bound)
 
--- the row that a number stands for
+-- the row that a number stands for: its parts in front of the limit are digits in base 16
 abbrev pub rowOf : ℕ → Constraint
 rowOf v =
-    upper (v / 134217728) (v / 8388608 % 16) (lowered (v % limits)) (record { positive = v / 524288 % 16; negative = v / limits % 16 })
+    upper (v / 134217728) (v / 8388608 % 16) (lowered (v % perKey)) (record { positive = v / 524288 % 16; negative = v / perKey % 16 })
 
 -- each part of the key is a digit in base 16, and the limit is in range
 pub record Numbered (from to : ℕ) (w : ℤ) (ℓ : Label) : Type 0 where
@@ -33,7 +33,7 @@ pub record Numbered (from to : ℕ) (w : ℤ) (ℓ : Label) : Type 0 where
 
 -- the least number behind all those with the key of v
 abbrev pub behind : ℕ → ℕ
-behind v = (v / limits + 1) * limits
+behind v = (v / perKey + 1) * perKey
 
 -- more than the number of any row
 abbrev pub top : ℕ

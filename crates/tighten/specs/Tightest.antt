@@ -11,10 +11,11 @@ use Rattle.network.specs.declared.Constraint.{Constraint}
 use Rattle.network.specs.declared.Network.{Network}
 use Rattle.tighten.specs.Upper.{rowsOf}
 
--- a row's key as one number, whose digits in base 16 are the parts of the key; there are so many
+-- a row's key as one number, whose digits in base 16 are the parts of the key
 abbrev pub rank : Constraint → ℕ
 rank r = ((r .from * 16 + r .to) * 16 + r .label .positive) * 16 + r .label .negative
 
+-- how many such numbers there are
 abbrev pub ranks : ℕ
 ranks = 65536
 

@@ -11,7 +11,7 @@ use Rattle.page.proofs.Join.{Joining, join-none, join-next, join-all}
 use Rattle.network.specs.Limits as L
 use Rattle.network.specs.Build.{noConstraint}
 use Rattle.layout.specs.Layout.{ruleLine}
-use Rattle.canonical.specs.House.{ruleOf}
+use Rattle.canonical.specs.House.{asRule}
 use Rattle.canonical.specs.Most.{mostRule}
 use Rattle.canonical.proofs.Sections.{section-appended}
 use Rattle.canonical.proofs.Held.{rows-few, row-proper, row-lines}
@@ -20,7 +20,7 @@ use Rattle.canonical.proofs.push_rules.Tie as tie
 
 abbrev Inv-loop : tie.InvT-loop
 Inv-loop page₀ at sheet network rows next₀ i₀ i-end page next i =
-    Joining mostRule (λ k. ruleLine (ruleOf sheet network (getD (rows .rows) k noConstraint))) (rows .count) page₀ next₀ i page next
+    Joining mostRule (λ k. ruleLine (asRule sheet network (getD (rows .rows) k noConstraint))) (rows .count) page₀ next₀ i page next
     × (i-end ≡ rows .count)
 
 abbrev μ-loop : tie.MeasureT-loop
@@ -80,7 +80,7 @@ returns c =
     let start = count .before .before .before .before .before in
     let args = start .args in
     section-appended "rules" _ (args .t5 .count)
-    (λ k. ruleLine (ruleOf (now (args .sheet)) (args .network) (getD (args .t5 .rows) k noConstraint)))
+    (λ k. ruleLine (asRule (now (args .sheet)) (args .network) (getD (args .t5 .rows) k noConstraint)))
     (row-lines (args .network) (start .pre .2) (start .pre .3) (now (args .sheet)))
     (count .push-count .ensures)
     (join-all (loop .inv .0) (omega arith))

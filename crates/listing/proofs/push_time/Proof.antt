@@ -1,48 +1,24 @@
--- `listing::push_time` meets its contract: the digits are those of the time, at most 5. Assumes nothing.
-use mathlib.Core.Path.{sym, ap}
-use mathlib.Core.List.{List, _∷_}
-use Prim.Native.Nat.{ℕ}
+-- `listing::push_time` meets its contract: the comma, and behind it the digits of the time. Assumes nothing.
 use native.Mathlib.Omega.{arith}
-use lib.Seq.{length-take-le}
-use Rattle.text.specs.Lines.{comma}
-use Rattle.page.proofs.Append.{append-as}
+use Rattle.page.proofs.Append.{append-then}
 use borrow.Author.Needs.{needs}
 use Rattle.listing.proofs.push_time.Statement.{statement}
 use Rattle.listing.proofs.push_time.Tie as tie
 
-spell-requires : tie.Need-spell-requires
-spell-requires c κs = search needs
+push-requires : tie.Need-push-requires
+push-requires c κs = search needs
 
-array-share-prefix-bytes : tie.Need-array-share-prefix-bytes
-array-share-prefix-bytes c = search needs
-
-slice-aggregate-push-field : tie.Need-slice-aggregate-push-field
-slice-aggregate-push-field c =
-    let digits = c .before .before .before .spell in
-    sym (length-take-le (digits .result .count) (digits .result .bytes) (omega arith))
-
-push-field-requires : tie.Need-push-field-requires
-push-field-requires c κs =
-    let digits = c .before .before .before .spell in
-    omega (arith, length-take-le (digits .result .count) (digits .result .bytes) (omega arith))
+push-number-requires : tie.Need-push-number-requires
+push-number-requires c κs = search needs
 
 same-length : tie.Need-same-length
 same-length c = search needs
 
 returns : tie.Need-returns
 returns c =
-    let field = c .before .before in
-    let digits = field .before .before .before .before .spell in
-    append-as (ap (λ (t : List ℕ). comma ∷ t) (digits .ensures .text)) (field .push-field .ensures)
-    (omega (arith, length-take-le (digits .result .count) (digits .result .bytes) (omega arith)))
+    let push = c .before .before .before .before .before .before .push in
+    let push-number = c .before .before .push-number in
+    append-then (push .ensures) (push-number .ensures) (omega arith)
 
 pub push-time-spec : {M : Type 1} → statement M
-push-time-spec =
-    tie.close
-    (tie.spec
-    spell-requires
-    array-share-prefix-bytes
-    slice-aggregate-push-field
-    push-field-requires
-    same-length
-    returns)
+push-time-spec = tie.close (tie.spec push-requires push-number-requires same-length returns)

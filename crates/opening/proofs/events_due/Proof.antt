@@ -1,8 +1,8 @@
 -- `events_due` meets its contract: a walk of its MIR by hand, as the borrow checker covers no slice of structs. `dispatch::said` makes a
--- mask of the list, and `events_due_on` answers by the mask; of both nothing is known but the contract. That this is the answer by the list
--- is the law `events-due-said`. A slice may be copied: what it owns is had twice, once for the callee and once for the exit. The tokens of
--- the lifetimes go to the callees and come back. A list in brackets below is what is had at that place, by number from 0: a local, as _5,
--- and behind it (..) the right to free it. Assumes nothing.
+-- mask of the list, and `events_due_on` answers by the mask; of both nothing is known but the contract. That this is the answer by the
+-- list is the law `events-due-said`. A slice may be copied: what it owns is had twice, once for the callee and once for the exit. The
+-- tokens of the lifetimes go to the callees and come back. A list in brackets below is what is had at that place, by number from 0: a
+-- local, as _5, and behind it (..) the right to free it. Assumes nothing.
 use mathlib.Core.Path.{_≡_, refl, _∙_, ap}
 use mathlib.Core.List.{List, [], _∷_}
 use Prim.Native.Nat.{ℕ, _<_, _^_}

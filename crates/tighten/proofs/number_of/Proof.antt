@@ -6,7 +6,7 @@ use Rattle.network.specs.Raised.{raised}
 use Rattle.network.proofs.Signed.{read-back}
 use Rattle.tighten.specs.Upper.{upper}
 use Rattle.tighten.specs.Tightest.{rank}
-use Rattle.tighten.specs.Numbers.{limits}
+use Rattle.tighten.specs.Numbers.{perKey}
 use Rattle.tighten.proofs.number_of.Statement.{statement}
 use Rattle.tighten.proofs.number_of.Tie as tie
 
@@ -55,7 +55,7 @@ add-result c = search needs
 returns : tie.Need-returns
 returns c =
     let z = c .before .before .before in
-    ap (λ (v : ℕ). rank (upper (z .args .from) (z .args .to) (z .args .bound) (z .args .label)) * limits + v)
+    ap (λ (v : ℕ). rank (upper (z .args .from) (z .args .to) (z .args .bound) (z .args .label)) * perKey + v)
     (c .raised .ensures ∙ ap raised (read-back (z .args .bound) (z .pre .bound)))
 
 pub number-of-spec : {M : Type 1} → statement M

@@ -6,7 +6,7 @@ use mir.Syntax.{w32}
 use mir.Val.{toZ, ofZ}
 use borrow.Author.Needs.{needs}
 use Rattle.tighten.specs.Upper.{upper}
-use Rattle.tighten.specs.Numbers.{limits}
+use Rattle.tighten.specs.Numbers.{perKey}
 use Rattle.tighten.proofs.row_of.Statement.{statement}
 use Rattle.tighten.proofs.row_of.Tie as tie
 
@@ -32,7 +32,7 @@ returns : tie.Need-returns
 returns c =
     let e : toZ w32 (ofZ w32 (c .lowered .result)) ≡ c .lowered .result = search needs in
     let v = c .before .args .number in
-    ap (λ (w : ℤ). upper (v / 134217728) (v / 8388608 % 16) w (record { positive = v / 524288 % 16; negative = v / limits % 16 }))
+    ap (λ (w : ℤ). upper (v / 134217728) (v / 8388608 % 16) w (record { positive = v / 524288 % 16; negative = v / perKey % 16 }))
     (e ∙ c .lowered .ensures)
 
 pub row-of-spec : {M : Type 1} → statement M

@@ -1,15 +1,24 @@
 -- `opening::bench::opening_solve` meets its contract: a table has at most 256 minutes. Assumes nothing.
 use denote.Ref.{now}
 use native.Mathlib.Omega.{arith}
-use Prim.Native.Nat.{_≤_}
-use mathlib.Core.Path.{sym, _∙_, ap}
+use Prim.Native.Nat.{ℕ, _*_, _≤_}
+use mathlib.Core.Path.{_≡_, sym, _∙_, ap}
 use Rattle.pairs.specs.Pairs.{minutesOf}
-use Rattle.opening.specs.Bench.{packedWritten}
+use Rattle.refusal.specs.declared.Refusal.{Refusal}
+use Rattle.opening.specs.Bench.{refused, packed, packedWritten}
 use Rattle.opening.specs.declared.Written.{Written}
+use Rattle.opening.specs.declared.Written.the-variants as W
 use Rattle.opening.proofs.Small.{count-few}
 use borrow.Author.Needs.{needs}
 use Rattle.opening.proofs.bench.opening_solve.Statement.{statement}
 use Rattle.opening.proofs.bench.opening_solve.Tie as tie
+
+-- a refusal, and a count, as they are packed
+packed-refused : (r : Refusal) → packed (refused r) ≡ packedWritten (W.Refused r)
+packed-refused r = omega arith
+
+packed-count : (n : ℕ) → 16777216 * n ≡ packedWritten (W.Count n)
+packed-count n = omega arith
 
 solve-bytes-requires : tie.Need-solve-bytes-requires
 solve-bytes-requires c κs = search needs
@@ -40,7 +49,7 @@ returns c =
     let written = c .before .before .written in
     let solve-bytes = c .before .before .before .before .before .before .solve-bytes in
     record {
-      answer = c .packed-refusal .ensures ∙ ap packedWritten (sym (written .given .1) ∙ solve-bytes .ensures .answer);
+      answer = c .packed-refusal .ensures ∙ packed-refused (written .given .0 .0) ∙ ap packedWritten (sym (written .given .1) ∙ solve-bytes .ensures .answer);
       memory = solve-bytes .ensures .memory;
     }
 
@@ -52,7 +61,7 @@ returns-2 c =
     let written2 = c .before .written2 in
     let solve-bytes = c .before .before .before .before .before .solve-bytes in
     record {
-      answer = ap packedWritten (sym (written2 .given .1) ∙ solve-bytes .ensures .answer);
+      answer = packed-count (written2 .given .0 .0) ∙ ap packedWritten (sym (written2 .given .1) ∙ solve-bytes .ensures .answer);
       memory = solve-bytes .ensures .memory;
     }
 

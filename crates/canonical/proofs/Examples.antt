@@ -1,0 +1,59 @@
+-- Rows as a form writes them: one table, which one theorem covers by computation. Assumes nothing.
+use mathlib.Core.Path.{_≡_, refl}
+use mathlib.Core.Bool.{Bool, true, _&&_}
+use mathlib.Core.List.{List, [], _∷_, _++_}
+use Prim.Native.Nat.{ℕ, _+_}
+use Prim.Native.Char.{code}
+use Prim.Native.String.{String}
+use lib.IntN.{ℤ, pos, negsuc}
+use lib.ListN.{length}
+use Rattle.prelude.specs.Bytes.{ascii, same}
+use Rattle.text.specs.Lines.{lineFeed}
+use Rattle.network.specs.Build.{empty, withEvent, withSignal}
+use Rattle.network.specs.declared.Label.{Label}
+use Rattle.network.specs.declared.Network.{Network}
+use Rattle.names.specs.Names.{labelOf}
+use Rattle.names.specs.Defined.{maskOf}
+use Rattle.layout.specs.Layout.{ruleLine}
+use Rattle.tighten.specs.Upper.{upper}
+use Rattle.canonical.specs.House.{asRule}
+
+-- two events, named by the first bytes of a sheet, and the signals q, p and r in this order
+abbrev sheet : List ℕ
+sheet = ascii "startdoor"
+
+abbrev network : Network
+network =
+    withSignal (withSignal (withSignal (withEvent (withEvent (empty 60) 0 5) 5 4) (code "q") 1) (code "p") 0) (code "r") 1
+
+-- a limit and a label as they are typed; the row from the start to the door
+record Example : Type 0 where
+  limit : ℤ
+  typed : String
+  prints : String
+
+abbrev example : ℤ → String → String → Example
+example w t l = record { limit = w; typed = t; prints = l }
+
+abbrev examples : List Example
+examples =
+    -- no label; 0 has no sign
+    example (pos 0) "-" "max,start,door,0,-"
+    -- the letters in signal order, each with its own sign
+    ∷ (example (pos 7) "!rpq" "max,start,door,7,qp!r"
+    ∷ (example (negsuc 0) "p!q" "max,start,door,-1,!qp"
+    ∷ (example (pos 10080) "!p" "max,start,door,10080,!p"
+    ∷ (example (negsuc 10079) "r!p!q" "max,start,door,-10080,!q!pr" ∷ []))))
+
+abbrev agrees : Example → Bool
+agrees e =
+    same
+    (ruleLine (asRule sheet network (upper 0 1 (e .limit) (maskOf (network .signals) (network .letters) (labelOf (ascii (e .typed)))))))
+    (ascii (e .prints) ++ lineFeed ∷ [])
+
+abbrev allAgree : List Example → Bool
+allAgree [] = true
+allAgree (e ∷ es) = agrees e && allAgree es
+
+pub examples-agree : allAgree examples ≡ true
+examples-agree = refl
