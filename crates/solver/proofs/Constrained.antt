@@ -2,25 +2,37 @@
 use mathlib.Core.Path.{_≡_, refl}
 use mathlib.Core.Bool.{Bool, true, false, _&&_, cond}
 use mathlib.Core.List.{List}
-use Prim.Native.Nat.{ℕ, _+_, _-_, _≤_, _<_, max}
+use Prim.Native.Nat.{ℕ, zero, suc, _+_, _-_, _<_, max}
 use native.Mathlib.Numerals.{add-one}
 use native.Mathlib.Omega.{arith}
 use lib.Dec.{eqb}
+use lib.IntN.{ℤ, pos, negsuc}
 use lib.ListN.{getD}
 use Rattle.network.specs.Build.{constraint}
 use Rattle.network.specs.Scenario.{satisfies}
 use Rattle.network.specs.Strategy.{time}
-use Rattle.network.specs.WellFormed.{WellFormed}
+use Rattle.network.specs.WellFormed.{InLimits, WellFormed}
 use Rattle.network.specs.declared.Kind.the-variants.{Max, Min, Fix}
 use Rattle.network.specs.declared.Constraint.{Constraint}
 use Rattle.network.specs.declared.Network.{Network}
-use Rattle.solver.specs.declared.Frame.{Frame}
-use Rattle.solver.specs.Propagate.{isUpper, isLower, upperBound, lowerBound}
-use Rattle.solver.specs.Listed.{asking, upperWeight, lowerWeight, Lists, Bound}
-use Rattle.solver.specs.Compiled.{Framed, RowIn, Listable, UpperAdded, LowerAdded, Constrained, Listing}
-use Rattle.solver.proofs.Weights.{upper-few, lower-few, upper-adds, lower-adds}
 use Rattle.network.proofs.Masks.{covers-satisfies}
-use Rattle.solver.proofs.Packed.{sixteen}
+use Rattle.rows.specs.declared.Frame.{Frame}
+use Rattle.rows.specs.Framed.{Framed}
+use Rattle.bounds.specs.Listed.{asking, upperWeight, lowerWeight, Lists}
+use Rattle.bounds.specs.Halves.{Listable, UpperAdded, LowerAdded}
+use Rattle.bounds.proofs.Halves.{upper-lists, lower-lists}
+use Rattle.solver.specs.Propagate.{leastFrom, leastTo, isUpper, isLower, upperBound, lowerBound}
+use Rattle.solver.specs.Compiled.{RowIn, Constrained, Listing}
+
+-- a weight adds what the definition does, for each sign, around zero and at both ends
+upper-adds : (b : ℕ) (w : ℤ) → InLimits w → b + upperWeight w - 10080 ≡ leastFrom b w
+upper-adds b (pos zero) h = omega arith
+upper-adds b (pos (suc w)) h = omega arith
+upper-adds b (negsuc w) h = omega arith
+
+lower-adds : (a : ℕ) (w : ℤ) → InLimits w → a + lowerWeight w - 10080 ≡ leastTo a w
+lower-adds a (pos w) h = omega arith
+lower-adds a (negsuc w) h = omega arith
 
 -- a half that counts, and one that does not
 counts : (a k b : Bool) (x y h : ℕ) → k ≡ true → x - h ≡ y → cond a (cond b x 0) 0 - h ≡ cond (a && (k && b)) y 0
@@ -62,38 +74,12 @@ module _ (frame : Frame) (c : Constraint) (ok : Listable frame c) (Γ : Network)
   no-lower : isLower (c .kind) ≡ false → lowerBound Γ σ s u c ≡ 0
   no-lower e = rw (covers-satisfies Γ c s) (not-counted (satisfies s (c .label)) (isLower (c .kind)) (eqb (c .to) u) _ e)
 
--- what may be listed for a constraint
+-- a constraint is listed
 module _ (frame : Frame) (c : Constraint) (ok : Listable frame c) where
-  pub upper-bound : Bound frame (c .label) (c .from) (c .to) (upperWeight (c .bound))
-  upper-bound = record {
-    scenarios = ok .scenarios-few;
-    events = ok .events-few;
-    label = ok .label;
-    target-in = ok .from;
-    source-in = ok .to;
-    weight-in = upper-few (c .bound) (ok .bound);
-  }
-
-  pub lower-bound : Bound frame (c .label) (c .to) (c .from) (lowerWeight (c .bound))
-  lower-bound = record {
-    scenarios = ok .scenarios-few;
-    events = ok .events-few;
-    label = ok .label;
-    target-in = ok .to;
-    source-in = ok .from;
-    weight-in = lower-few (c .bound) (ok .bound);
-  }
-
-  pub upper-lists : {ks ls ks′ ls′ : List ℕ} → UpperAdded frame c ks ls ks′ ls′ → Lists (frame .events) ks ls → Lists (frame .events) ks′ ls′
-  upper-lists A L = A .keeps (frame .events) (ok .from) (ok .to) (upper-few (c .bound) (ok .bound)) L
-
-  pub lower-lists : {ks ls ks′ ls′ : List ℕ} → LowerAdded frame c ks ls ks′ ls′ → Lists (frame .events) ks ls → Lists (frame .events) ks′ ls′
-  lower-lists A L = A .keeps (frame .events) (ok .to) (ok .from) (lower-few (c .bound) (ok .bound)) L
-
   pub constrained-max : {ks ls ks′ ls′ : List ℕ} → c .kind ≡ Max → Lists (frame .events) ks ls → UpperAdded frame c ks ls ks′ ls′
       → Constrained frame c ks ls ks′ ls′
   constrained-max k L A = record {
-    lists-are = upper-lists A L;
+    lists-are = upper-lists frame c ok A L;
     grows = λ s. omega (arith, A .grows s);
     asks =
         λ Γ σ row s u F l R.
@@ -108,7 +94,7 @@ module _ (frame : Frame) (c : Constraint) (ok : Listable frame c) where
   pub constrained-min : {ks ls ks′ ls′ : List ℕ} → c .kind ≡ Min → Lists (frame .events) ks ls → LowerAdded frame c ks ls ks′ ls′
       → Constrained frame c ks ls ks′ ls′
   constrained-min k L A = record {
-    lists-are = lower-lists A L;
+    lists-are = lower-lists frame c ok A L;
     grows = λ s. omega (arith, A .grows s);
     asks =
         λ Γ σ row s u F l R.
@@ -123,7 +109,7 @@ module _ (frame : Frame) (c : Constraint) (ok : Listable frame c) where
   pub constrained-fix : {ks ls ks₁ ls₁ ks₂ ls₂ : List ℕ} → c .kind ≡ Fix → Lists (frame .events) ks ls → UpperAdded frame c ks ls ks₁ ls₁
       → LowerAdded frame c ks₁ ls₁ ks₂ ls₂ → Constrained frame c ks ls ks₂ ls₂
   constrained-fix k L A B = record {
-    lists-are = lower-lists B (upper-lists A L);
+    lists-are = lower-lists frame c ok B (upper-lists frame c ok A L);
     grows = λ s. omega (arith, A .grows s, B .grows s);
     asks =
         λ Γ σ row s u F l R.
@@ -134,22 +120,6 @@ module _ (frame : Frame) (c : Constraint) (ok : Listable frame c) where
 
 -- all constraints, one by one
 module _ (Γ : Network) (frame : Frame) (W : WellFormed Γ) (F : Framed Γ frame) where
-  pub scenarios-few : frame .scenarios ≤ 16
-  scenarios-few = rw (F .scenarios-are) (sixteen (Γ .signals) (W .signals))
-
-  pub listable : (i : ℕ) → i < Γ .rules → Listable frame (constraint Γ i)
-  listable i l =
-      let p = W .proper i l in
-      let few = sixteen (Γ .signals) (W .signals) in
-      record {
-        scenarios-few = scenarios-few;
-        events-few = omega (arith, F .events, W .events);
-        from = omega (arith, F .events, p .from);
-        to = omega (arith, F .events, p .to);
-        bound = p .bound;
-        label = record { positive = omega (arith, p .positive); negative = omega (arith, p .negative) };
-      }
-
   module _ {ks ls : List ℕ} where
     pub listing-none : Lists (frame .events) ks ls → ((s : ℕ) → getD ks s 0 ≡ 0) → Listing Γ frame ks ls 0
     listing-none L h = record {

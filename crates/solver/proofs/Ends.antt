@@ -21,16 +21,16 @@ use Rattle.fixpoint.specs.Run.{within}
 use Rattle.fixpoint.proofs.Within.{within-at, within-by}
 use Rattle.network.specs.Build.{scenarios, cells}
 use Rattle.network.specs.declared.Network.{Network}
-use Rattle.solver.specs.declared.Frame.{Frame}
-use Rattle.solver.specs.declared.Seen.{Seen}
+use Rattle.rows.specs.declared.Frame.{Frame}
+use Rattle.rows.specs.declared.Seen.{Seen}
+use Rattle.rows.specs.Rows.{packed, Times, Stored}
+use Rattle.rows.proofs.Packed.{length-packed, packed-at}
 use Rattle.solver.specs.declared.Outcome.{Outcome}
 use Rattle.solver.specs.declared.Outcome.the-variants.{Passes, Rests, Rises}
 use Rattle.solver.specs.Propagate.{propagate, raised}
 use Rattle.solver.specs.Solve.{cap}
-use Rattle.solver.specs.Rows.{packed, Times, Stored}
 use Rattle.solver.specs.Compiled.{Compiled, raisedAt}
 use Rattle.solver.specs.Rounds.{outcomeOf, Rounded}
-use Rattle.solver.proofs.Packed.{length-packed, packed-at}
 use Rattle.solver.proofs.Raised.{raised-is, raised-beyond}
 use Rattle.solver.proofs.Rising.{length-propagate, time-propagate}
 

@@ -21,18 +21,18 @@ use Rattle.fixpoint.proofs.Run.{rest-turn, pass-turn, more-turn}
 use Rattle.network.specs.Build.{scenarios, cells}
 use Rattle.network.specs.WellFormed.{WellFormed}
 use Rattle.network.specs.declared.Network.{Network}
-use Rattle.solver.specs.declared.Frame.{Frame}
+use Rattle.rows.specs.declared.Frame.{Frame}
+use Rattle.rows.specs.Rows.{packed, Times}
+use Rattle.rows.specs.Framed.{Framed}
+use Rattle.rows.proofs.Packed.{sixteen, length-packed, packed-at}
+use Rattle.bounds.specs.Listed.{Lists}
 use Rattle.solver.specs.declared.Solved.the-variants.{Found, Inconsistent}
 use Rattle.solver.specs.declared.Outcome.{Outcome}
 use Rattle.solver.specs.declared.Outcome.the-variants.{Passes, Rests, Rises}
 use Rattle.solver.specs.Propagate.{propagate}
 use Rattle.solver.specs.Solve.{floor, cap, solve}
 use Rattle.solver.specs.Solved.{SolvedIs}
-use Rattle.solver.specs.Rows.{packed, Times}
-use Rattle.solver.specs.Listed.{Lists}
-use Rattle.solver.specs.Compiled.{Framed}
 use Rattle.solver.specs.Rounds.{outcome, outcomeOf, Rounded}
-use Rattle.solver.proofs.Packed.{sixteen, length-packed, packed-at}
 use Rattle.solver.proofs.Rising.{rising}
 use Rattle.solver.proofs.Ends.{length-cap}
 

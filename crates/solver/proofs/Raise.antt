@@ -7,14 +7,14 @@ use native.Mathlib.Omega.{arith}
 use lib.Bits.{bitXor, xor-zero-r}
 use lib.ListN.{getD}
 use Rattle.prelude.specs.Bounded.{maxBelow}
-use Rattle.solver.specs.declared.Frame.{Frame}
-use Rattle.solver.specs.declared.Seen.{Seen}
-use Rattle.solver.specs.Rows.{rowOf, Row, Stored}
-use Rattle.solver.specs.Known.{First}
-use Rattle.solver.specs.Listed.{listed}
+use Rattle.rows.specs.declared.Frame.{Frame}
+use Rattle.rows.specs.declared.Seen.{Seen}
+use Rattle.rows.specs.Rows.{rowOf, Row, Stored}
+use Rattle.rows.specs.Known.{First}
+use Rattle.rows.proofs.Packed.{row-at}
+use Rattle.bounds.specs.Listed.{listed}
+use Rattle.bounds.proofs.Listed.{maxBelow-ext}
 use Rattle.solver.specs.Compiled.{raisedAt}
-use Rattle.solver.proofs.Packed.{row-at}
-use Rattle.solver.proofs.Listed.{maxBelow-ext}
 
 -- what the first d differences ask
 abbrev pub across : List ℕ → List ℕ → ℕ → ℕ → ℕ → ℕ

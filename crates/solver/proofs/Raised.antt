@@ -1,8 +1,9 @@
 -- What a round makes of a cell is what the definition asks of the strategy that the table holds. Assumes nothing.
-use mathlib.Core.Path.{_≡_, sym, _∙_}
+use mathlib.Core.Path.{_≡_, refl, sym, _∙_}
+use mathlib.Core.Logic.{inl, inr}
 use mathlib.Core.Bool.{false}
 use mathlib.Core.List.{List}
-use Prim.Native.Nat.{ℕ, _+_, _-_, _*_, _≤_, _<_, max, min}
+use Prim.Native.Nat.{ℕ, zero, suc, _+_, _-_, _*_, _≤_, _<_, max, min}
 use native.Mathlib.Omega.{arith}
 use borrow.Author.Tests.{ne-eqb}
 use lib.Bits.{bitXor, xor-lt}
@@ -10,19 +11,37 @@ use lib.Dec.{eqb}
 use lib.ListN.{getD}
 use Rattle.prelude.specs.Bounded.{maxBelow}
 use Rattle.prelude.proofs.Bounded.{maxBelow-le}
+use Rattle.prelude.proofs.Tests.{either}
 use Rattle.network.specs.Build.{scenarios, observation}
-use Rattle.network.specs.Strategy.{time, knownFrom}
+use Rattle.network.specs.Scenario.{agree}
+use Rattle.network.specs.Strategy.{time, reaction, knownFrom}
 use Rattle.network.specs.declared.Network.{Network}
-use Rattle.solver.specs.declared.Frame.{Frame}
-use Rattle.solver.specs.Propagate.{raised, constraintsBound, hyperarc, hyperarcsBound}
-use Rattle.solver.specs.Rows.{packed, rowOf, Times}
-use Rattle.solver.specs.Known.{firstOf}
-use Rattle.solver.specs.Listed.{listed, asking, target, source, weight}
+use Rattle.rows.specs.declared.Frame.{Frame}
+use Rattle.rows.specs.Rows.{packed, rowOf, Times}
+use Rattle.rows.specs.Known.{firstOf}
+use Rattle.rows.proofs.Packed.{sixteen, packed-at, row-at}
+use Rattle.rows.proofs.First.{firstOf-ext}
+use Rattle.bounds.specs.Listed.{listed, asking, target, source, weight}
+use Rattle.bounds.proofs.Listed.{maxBelow-ext}
+use Rattle.solver.specs.Propagate.{raised, constraintsBound, leastKnown, hyperarc, hyperarcsBound}
 use Rattle.solver.specs.Compiled.{RowIn, Compiled, raisedAt}
-use Rattle.solver.proofs.Packed.{sixteen, packed-at, row-at}
-use Rattle.solver.proofs.Differ.{xor-back, maxBelow-xor}
-use Rattle.solver.proofs.First.{reaction-is, firstOf-ext, leastKnown-first}
-use Rattle.solver.proofs.Listed.{maxBelow-ext}
+use Rattle.solver.proofs.Differ.{xor-back, maxBelow-xor, truth-xor}
+
+-- the reaction time is one minute
+reaction-is : (Γ : Network) (p : ℕ) → reaction Γ p ≡ 1
+unfolding reaction
+reaction-is Γ p = refl
+
+-- a hyperarc by the set of propositions on which its scenarios differ
+leastKnown-first : (Γ : Network) (σ : List ℕ) (s r m : ℕ) → m ≤ 65535 → (k : ℕ)
+    → leastKnown Γ σ s r m k ≡ min m (firstOf k (knownFrom Γ σ s) (bitXor s r))
+leastKnown-first Γ σ s r m l zero = omega arith
+leastKnown-first Γ σ s r m l (suc k) =
+    let rest = leastKnown-first Γ σ s r m l k in
+    rw (truth-xor s r k) (elim (either (agree s r k)) [
+      | inl e ↦ rw e rest
+      | inr e ↦ rw e (omega (arith, rest))
+    ])
 
 maxBelow-zero : (n : ℕ) (f : ℕ → ℕ) → ((k : ℕ) → k < n → f k ≡ 0) → maxBelow n f ≡ 0
 maxBelow-zero n f h = omega (arith, maxBelow-le f n 0 (λ k l. omega (arith, h k l)))

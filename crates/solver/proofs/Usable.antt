@@ -4,11 +4,11 @@ use mathlib.Core.List.{List}
 use Prim.Native.Nat.{ℕ, _^_, _≤_, _<_}
 use native.Mathlib.Omega.{arith}
 use lib.ListN.{getD}
-use Rattle.solver.specs.declared.Frame.{Frame}
-use Rattle.solver.specs.Listed.{Lists, Short}
+use Rattle.rows.specs.declared.Frame.{Frame}
+use Rattle.rows.proofs.Packed.{sixteen}
+use Rattle.bounds.specs.Listed.{Lists, Short}
+use Rattle.bounds.proofs.Listed.{lists-wider}
 use Rattle.solver.specs.Compiled.{Usable}
-use Rattle.solver.proofs.Packed.{sixteen}
-use Rattle.solver.proofs.Listed.{lists-wider}
 
 module _ {frame : Frame} {counts lists : List ℕ} (U : Usable frame counts lists) where
   pub powers : frame .scenarios ≡ 2 ^ frame .signals

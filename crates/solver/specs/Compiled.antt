@@ -1,4 +1,4 @@
--- What the rounds are given of a network: its frame, and its constraints as lists of bounds.
+-- What the rounds are given of a network: its constraints as lists of bounds, beside its frame.
 use mathlib.Core.Path.{_≡_}
 use mathlib.Core.List.{List}
 use Prim.Native.Nat.{ℕ, _+_, _-_, _*_, _≤_, _<_, max, min}
@@ -6,45 +6,21 @@ use lib.Bits.{bitXor}
 use lib.ListN.{getD}
 use Rattle.prelude.specs.Bounded.{maxBelow}
 use Rattle.network.specs.Limits as L
-use Rattle.network.specs.Build.{constraint, scenarios}
+use Rattle.network.specs.Build.{constraint}
 use Rattle.network.specs.Strategy.{time}
-use Rattle.network.specs.WellFormed.{InLimits, WellFormed}
+use Rattle.network.specs.WellFormed.{WellFormed}
 use Rattle.network.specs.declared.Constraint.{Constraint}
 use Rattle.network.specs.declared.Network.{Network}
-use Rattle.solver.specs.declared.Frame.{Frame}
+use Rattle.rows.specs.declared.Frame.{Frame}
+use Rattle.rows.specs.Framed.{Framed}
+use Rattle.rows.specs.Rows.{rowOf}
+use Rattle.rows.specs.Known.{firstOf}
+use Rattle.bounds.specs.Listed.{Lists, Short, listed}
 use Rattle.solver.specs.Propagate.{upperBound, lowerBound}
-use Rattle.solver.specs.Rows.{rowOf}
-use Rattle.solver.specs.Known.{firstOf}
-use Rattle.solver.specs.Listed.{Lists, Short, Small, Added, listed, upperWeight, lowerWeight}
-
-pub record Framed (Γ : Network) (frame : Frame) : Type 0 where
-  pub horizon : frame .horizon ≡ Γ .horizon
-  pub events : frame .events ≡ Γ .events
-  pub scenarios-are : frame .scenarios ≡ scenarios Γ
-  pub signals : frame .signals ≡ Γ .signals
-  pub observations : frame .observations ≡ Γ .observations
 
 -- row has the times of scenario s in σ
 pub record RowIn (Γ : Network) (σ : List ℕ) (s : ℕ) (row : List ℕ) : Type 0 where
   pub at : (u : ℕ) → u < Γ .events → getD row u 0 ≡ time (Γ .events) σ s u
-
--- a constraint that can be listed
-pub record Listable (frame : Frame) (c : Constraint) : Type 0 where
-  pub scenarios-few : frame .scenarios ≤ 16
-  pub events-few : frame .events ≤ 16
-  pub from : c .from < frame .events
-  pub to : c .to < frame .events
-  pub bound : InLimits (c .bound)
-  pub label : Small (c .label)
-
--- the bound of one of its halves is listed
-abbrev pub UpperAdded : Frame → Constraint → List ℕ → List ℕ → List ℕ → List ℕ → Type 0
-UpperAdded frame c counts lists counts′ lists′ =
-    Added (c .label) (c .from) (c .to) (upperWeight (c .bound)) counts lists counts′ lists′ (frame .scenarios)
-
-abbrev pub LowerAdded : Frame → Constraint → List ℕ → List ℕ → List ℕ → List ℕ → Type 0
-LowerAdded frame c counts lists counts′ lists′ =
-    Added (c .label) (c .to) (c .from) (lowerWeight (c .bound)) counts lists counts′ lists′ (frame .scenarios)
 
 -- the constraint is listed
 pub record Constrained (frame : Frame) (c : Constraint) (counts lists counts′ lists′ : List ℕ) : Type 0 where

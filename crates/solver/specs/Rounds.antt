@@ -8,11 +8,11 @@ use Rattle.prelude.specs.Bytes.{same}
 use Rattle.fixpoint.specs.Run.{within}
 use Rattle.network.specs.Build.{scenarios}
 use Rattle.network.specs.declared.Network.{Network}
+use Rattle.rows.specs.Rows.{packed, Times}
 use Rattle.solver.specs.declared.Outcome.{Outcome}
 use Rattle.solver.specs.declared.Outcome.the-variants.{Passes, Rests, Rises}
 use Rattle.solver.specs.Propagate.{propagate}
 use Rattle.solver.specs.Solve.{cap}
-use Rattle.solver.specs.Rows.{packed, Times}
 
 -- by the two tests of a run: no time is over its limit; no time was raised
 abbrev pub outcome : Bool → Bool → Outcome

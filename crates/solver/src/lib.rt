@@ -1,18 +1,15 @@
 // The least solution of a network by value iteration, or that there is none (004, Theorem 1). The constraints are first compiled
 // into lists of difference bounds, one for each scenario; then rounds go from one table to another and back, in rows of sixteen
 // times, until a round raises nothing or a limit is passed.
-ghost use Prim.Native.Nat.{_≤_, _<_};
+ghost use Prim.Native.Nat.{_≤_};
 ghost use lib.ListN.{length};
 ghost use Rattle.network.specs.Build.{cells};
 ghost use Rattle.network.specs.WellFormed.{WellFormed};
 ghost use Rattle.solver.specs.Solved.{SolvedIs};
-ghost use Rattle.solver.specs.Compiled.{Framed};
 use network::Network;
 
 mod compile;
-mod known;
 mod rounds;
-mod rows;
 
 // The answer, with the count of rounds.
 pub enum Solved {
@@ -22,15 +19,6 @@ pub enum Solved {
     Inconsistent { rounds: u32 },
 }
 
-// What rounds take of a network besides its constraints.
-pub struct Frame {
-    pub horizon: u16,
-    pub events: usize,
-    pub scenarios: usize,
-    pub signals: usize,
-    pub observations: [usize; Network::SIGNALS],
-}
-
 // What a round says of the table that it made: a time is over its limit; no time was raised; or times were raised, within limits.
 pub enum Outcome {
     Passes,
@@ -38,33 +26,12 @@ pub enum Outcome {
     Rises,
 }
 
-// What is seen while rows are stored: how far a time rose, the latest time, and the latest of event 0.
-pub struct Seen {
-    pub climb: u16,
-    pub highest: u16,
-    pub origin: u16,
-}
-
-fn frame_of(network: Network) -> Frame
-    requires { ⌜ WellFormed network ⌝ }
-    ensures { λ r. ⌜ Framed network r ⌝ }
-{
-    let observations = network.observations;
-    Frame {
-        horizon: network.horizon,
-        events: network.events,
-        scenarios: 1 << network.signals,
-        signals: network.signals,
-        observations: observations,
-    }
-}
-
 // The least solution into the first cells of the table, or that there is none; the count of rounds either way.
 pub fn solve(network: Network, table: &mut [u16]) -> Solved
     requires { ⌜ WellFormed network × (cells network ≤ length (now table)) ⌝ }
     ensures { λ r. ⌜ SolvedIs network (now (table .entry)) (now (table .exit)) r ⌝ }
 {
-    let frame = frame_of(network);
+    let frame = rows::frame_of(network);
     let mut counts: [usize; 16] = [0; 16];
     let mut lists: [u16; 6144] = [0; 6144];
     compile::list_constraints(network, frame, &mut counts, &mut lists);

@@ -3,14 +3,13 @@ ghost use mathlib.Core.Path.{_≡_};
 ghost use Prim.Native.Nat.{_+_, _*_, _<_};
 ghost use lib.ListN.{length, getD};
 ghost use Rattle.network.specs.declared.Network.{Network};
-ghost use Rattle.solver.specs.Rows.{Times, Stored};
+ghost use Rattle.rows.specs.Rows.{Times, Stored};
 ghost use Rattle.solver.specs.Compiled.{Compiled, Usable, raisedAt};
 ghost use Rattle.solver.specs.Rounds.{Rounded};
-use crate::Frame;
 use crate::Outcome;
-use crate::Seen;
-use crate::known;
-use crate::rows;
+use rows::Frame;
+use rows::Seen;
+use rows::known;
 
 // Row s of new: the times of scenario s in t, raised to what constraints and hyperarcs ask.
 fn raise_row(
@@ -32,9 +31,9 @@ fn raise_row(
     let mut first: [u16; 16] = [0; 16];
     known::first_known(&row, frame, &mut first);
     let mut o: [u16; 16] = [0; 16];
-    rows::lift(&row, &mut o);
-    rows::raise_by_bounds(s, counts, lists, &row, &mut o);
-    rows::lower(&mut o);
+    bounds::lift(&row, &mut o);
+    bounds::raise_by_bounds(s, counts, lists, &row, &mut o);
+    bounds::lower(&mut o);
     let scenarios = frame.scenarios;
     let mut d: usize = 1;
     while d < scenarios {

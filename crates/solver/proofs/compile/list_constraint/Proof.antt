@@ -1,7 +1,8 @@
 -- Each kind lists the bounds of its halves (`Constrained`): the upper one, the lower one, or both. Assumes nothing.
 use native.Mathlib.Omega.{arith}
 use borrow.Author.Needs.{needs}
-use Rattle.solver.proofs.Constrained.{upper-lists, constrained-max, constrained-min, constrained-fix}
+use Rattle.bounds.proofs.Halves.{upper-lists}
+use Rattle.solver.proofs.Constrained.{constrained-max, constrained-min, constrained-fix}
 use Rattle.solver.proofs.compile.list_constraint.Statement.{statement}
 use Rattle.solver.proofs.compile.list_constraint.Tie as tie
 

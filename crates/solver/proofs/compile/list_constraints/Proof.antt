@@ -4,8 +4,9 @@ use mathlib.Core.Path.{_≡_}
 use Prim.Native.Nat.{_-_, _≤_}
 use native.Mathlib.Omega.{arith}
 use borrow.Author.Needs.{needs}
+use Rattle.bounds.proofs.Halves.{listable}
 use Rattle.solver.specs.Compiled.{Listing}
-use Rattle.solver.proofs.Constrained.{listable, listing-none, listing-next}
+use Rattle.solver.proofs.Constrained.{listing-none, listing-next}
 use Rattle.solver.proofs.compile.list_constraints.Statement.{statement}
 use Rattle.solver.proofs.compile.list_constraints.Tie as tie
 

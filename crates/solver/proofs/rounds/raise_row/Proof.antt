@@ -7,10 +7,10 @@ use native.Mathlib.Omega.{arith}
 use borrow.Author.Needs.{needs}
 use lib.Bits.{xor-lt}
 use lib.ListN.{getD}
-use Rattle.solver.specs.Known.{First}
+use Rattle.rows.specs.Known.{First}
+use Rattle.rows.specs.Rows.{rowOf, Row}
+use Rattle.rows.proofs.Packed.{row-is}
 use Rattle.solver.specs.Compiled.{raisedAt}
-use Rattle.solver.specs.Rows.{rowOf, Row}
-use Rattle.solver.proofs.Packed.{row-is}
 use Rattle.solver.proofs.Raise.{across, ruled, ruled-is, across-start, across-next, rises, raised-row, stored-ext}
 use Rattle.solver.proofs.Usable.{powers, signals-in, scenarios-in, observed-in, lists-in, short-in}
 use Rattle.solver.proofs.rounds.raise_row.Statement.{statement}

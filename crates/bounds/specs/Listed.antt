@@ -1,0 +1,83 @@
+-- Constraints as lists of difference bounds. Bound b has three numbers from place 3 b on: its target, its source and its weight. It
+-- asks that the target's time is at least the source's and the weight, less 10,080: so no number is signed. The bounds of scenario s
+-- are those from 128 s on, and counts says how many.
+use mathlib.Core.Path.{_≡_}
+use mathlib.Core.Bool.{cond}
+use mathlib.Core.List.{List}
+use Prim.Native.Nat.{ℕ, _+_, _*_, _≤_, _<_, max}
+use lib.Dec.{eqb}
+use lib.IntN.{ℤ, negℤ}
+use lib.ListN.{length, getD, set}
+use Rattle.prelude.specs.Bounded.{maxBelow}
+use Rattle.network.specs.Raised.{raised}
+use Rattle.network.specs.Scenario.{satisfies}
+use Rattle.network.specs.declared.Label.{Label}
+use Rattle.rows.specs.declared.Frame.{Frame}
+
+-- the weight of b - a ≤ w, for the least time of a; and that of w ≤ b - a, for the least time of b
+abbrev pub upperWeight : ℤ → ℕ
+upperWeight w = raised (negℤ w)
+
+abbrev pub lowerWeight : ℤ → ℕ
+lowerWeight w = raised w
+
+-- what a bound asks of event u at the times of row, and 10,080
+abbrev pub asking : ℕ → ℕ → ℕ → List ℕ → ℕ → ℕ
+asking target source weight row u = cond (eqb target u) (getD row source 0 + weight) 0
+
+module _ (lists : List ℕ) where
+  abbrev pub target : ℕ → ℕ
+  target b = getD lists (b * 3) 0
+
+  abbrev pub source : ℕ → ℕ
+  source b = getD lists (b * 3 + 1) 0
+
+  abbrev pub weight : ℕ → ℕ
+  weight b = getD lists (b * 3 + 2) 0
+
+-- what the list of scenario s asks
+abbrev pub listed : List ℕ → List ℕ → ℕ → List ℕ → ℕ → ℕ
+listed counts lists s row u =
+    maxBelow (getD counts s 0) (λ j. asking (target lists (s * 128 + j)) (source lists (s * 128 + j)) (weight lists (s * 128 + j)) row u)
+
+-- one bound more for scenario s
+unfoldable pub countAfter : List ℕ → ℕ → List ℕ
+countAfter counts s = set counts s (getD counts s 0 + 1)
+
+unfoldable pub listAfter : List ℕ → ℕ → ℕ → ℕ → ℕ → List ℕ
+listAfter lists b target source weight = set (set (set lists (b * 3) target) (b * 3 + 1) source) (b * 3 + 2) weight
+
+-- lists of bounds between n events
+pub record Lists (n : ℕ) (counts lists : List ℕ) : Type 0 where
+  pub counts-sized : length counts ≡ 16
+  pub lists-sized : length lists ≡ 6144
+  pub targets : (b : ℕ) → target lists b < n
+  pub sources : (b : ℕ) → source lists b < n
+  pub weights : (b : ℕ) → weight lists b ≤ 20160
+
+-- each list has at most m bounds
+abbrev pub Short : ℕ → List ℕ → Type 0
+Short m counts = (s : ℕ) → getD counts s 0 ≤ m
+
+-- a label's letters are among four
+pub record Small (ℓ : Label) : Type 0 where
+  pub positive : ℓ .positive < 16
+  pub negative : ℓ .negative < 16
+
+-- what may be listed
+pub record Bound (frame : Frame) (ℓ : Label) (target source weight : ℕ) : Type 0 where
+  pub scenarios : frame .scenarios ≤ 16
+  pub events : frame .events ≤ 16
+  pub label : Small ℓ
+  pub target-in : target < frame .events
+  pub source-in : source < frame .events
+  pub weight-in : weight ≤ 20160
+
+-- the bound is listed for those of the first c scenarios that satisfy the label
+pub record Added (ℓ : Label) (target source weight : ℕ) (counts lists counts′ lists′ : List ℕ) (c : ℕ) : Type 0 where
+  pub keeps : (n : ℕ) → target < n → source < n → weight ≤ 20160 → Lists n counts lists → Lists n counts′ lists′
+  pub grows : (s : ℕ) → getD counts′ s 0 ≤ getD counts s 0 + 1
+  pub adds : (s : ℕ) → s < c → (row : List ℕ) (u : ℕ)
+      → listed counts′ lists′ s row u ≡ max (listed counts lists s row u) (cond (satisfies s ℓ) (asking target source weight row u) 0)
+  pub count-later : (s : ℕ) → c ≤ s → getD counts′ s 0 ≡ getD counts s 0
+  pub later : (s : ℕ) → c ≤ s → (row : List ℕ) (u : ℕ) → listed counts′ lists′ s row u ≡ listed counts lists s row u

@@ -1,0 +1,146 @@
+// Constraints as lists of difference bounds, one list for each scenario: how they are listed, and how a row of times is raised by them.
+// A bound asks that the time of its target is at least the time of its source and its weight, less 10,080. The lists are lent: counts
+// has how many bounds each scenario has, and lists has three numbers for each: target, source, weight; those of scenario s stand from
+// bound 128 s on.
+ghost use mathlib.Core.Path.{_≡_};
+ghost use Prim.Native.Nat.{ℕ, _+_, _-_, _*_, _≤_, _<_, max};
+ghost use lib.ListN.{length, getD};
+ghost use Rattle.network.specs.WellFormed.{InLimits};
+ghost use Rattle.rows.specs.Rows.{Row};
+ghost use Rattle.bounds.specs.Listed.{Lists, Short, Bound, Added, listed, upperWeight, lowerWeight, countAfter, listAfter};
+ghost use Rattle.bounds.specs.Halves.{Listable, UpperAdded, LowerAdded};
+use network::Constraint;
+use network::Label;
+use rows::Frame;
+
+// The weight that keeps `to` at most the bound after `from`: `from` is at least the bound negated after `to`.
+fn upper_weight(bound: i32) -> u16
+    requires { ⌜ InLimits bound ⌝ }
+    ensures { λ r. ⌜ r ≡ upperWeight bound ⌝ }
+{
+    network::raised(-bound)
+}
+
+// The weight that keeps `to` at least the bound after `from`.
+fn lower_weight(bound: i32) -> u16
+    requires { ⌜ InLimits bound ⌝ }
+    ensures { λ r. ⌜ r ≡ lowerWeight bound ⌝ }
+{
+    network::raised(bound)
+}
+
+// One more bound in the list of scenario s.
+fn append(
+    s: usize,
+    target: usize,
+    source: usize,
+    weight: u16,
+    counts: &mut [usize; 16],
+    lists: &mut [u16; 6144],
+)
+    requires { ⌜ (s < 16) × (target < 16) × (source < 16) × (length (now counts) ≡ 16)
+        × (length (now lists) ≡ 6144) × (getD (now counts) s 0 < 128) ⌝ }
+    ensures { λ _. ⌜ (now (counts .exit) ≡ countAfter (now (counts .entry)) s)
+        × (now (lists .exit) ≡ listAfter (now (lists .entry)) (s * 128 + getD (now (counts .entry)) s 0) target source weight) ⌝ }
+{
+    let count = counts[s];
+    let e = (s * 128 + count) * 3;
+    lists[e] = target as u16;
+    lists[e + 1] = source as u16;
+    lists[e + 2] = weight;
+    counts[s] = count + 1;
+}
+
+// One more bound for each scenario that satisfies the label.
+fn list_bound(
+    frame: Frame,
+    label: Label,
+    target: usize,
+    source: usize,
+    weight: u16,
+    counts: &mut [usize; 16],
+    lists: &mut [u16; 6144],
+)
+    requires { ⌜ Bound frame label target source weight × Lists (frame .events) (now counts) (now lists)
+        × Short 127 (now counts) ⌝ }
+    ensures { λ _. ⌜ Added label target source weight (now (counts .entry)) (now (lists .entry)) (now (counts .exit))
+        (now (lists .exit)) (frame .scenarios) ⌝ }
+{
+    let scenarios = frame.scenarios;
+    let mut s: usize = 0;
+    while s < scenarios {
+        if network::satisfies(s, label) {
+            append(s, target, source, weight, counts, lists);
+        }
+        s += 1;
+    }
+}
+
+// The bound of a constraint's upper half: `to` comes at most the limit after `from`.
+pub fn list_upper(frame: Frame, c: Constraint, counts: &mut [usize; 16], lists: &mut [u16; 6144])
+    requires { ⌜ Listable frame c × Lists (frame .events) (now counts) (now lists) × Short 127 (now counts) ⌝ }
+    ensures { λ _. ⌜ UpperAdded frame c (now (counts .entry)) (now (lists .entry)) (now (counts .exit)) (now (lists .exit)) ⌝ }
+{
+    let label = c.label;
+    let weight = upper_weight(c.bound);
+    list_bound(frame, label, c.from, c.to, weight, counts, lists);
+}
+
+// The bound of its lower half: `to` comes at least the limit after `from`.
+pub fn list_lower(frame: Frame, c: Constraint, counts: &mut [usize; 16], lists: &mut [u16; 6144])
+    requires { ⌜ Listable frame c × Lists (frame .events) (now counts) (now lists) × Short 127 (now counts) ⌝ }
+    ensures { λ _. ⌜ LowerAdded frame c (now (counts .entry)) (now (lists .entry)) (now (counts .exit)) (now (lists .exit)) ⌝ }
+{
+    let label = c.label;
+    let weight = lower_weight(c.bound);
+    list_bound(frame, label, c.to, c.from, weight, counts, lists);
+}
+
+// 10,080 more than each time, so that no bound needs a sign.
+pub fn lift(row: &[u16; 16], o: &mut [u16; 16])
+    requires { ⌜ ((u : ℕ) → u < 16 → getD (now row) u 0 ≤ 10080) × (length (now o) ≡ 16) ⌝ }
+    ensures { λ _. ⌜ Row (now (o .exit)) (λ u. getD (now (row .entry)) u 0 + 10080) ⌝ }
+{
+    let mut u: usize = 0;
+    while u < 16 {
+        o[u] = row[u] + 10080;
+        u += 1;
+    }
+}
+
+// The bounds of scenario s: o, 10,080 more than the times, is raised as far as they say.
+pub fn raise_by_bounds(
+    s: usize,
+    counts: &[usize; 16],
+    lists: &[u16; 6144],
+    row: &[u16; 16],
+    o: &mut [u16; 16],
+)
+    requires { ⌜ (s < 16) × Lists 16 (now counts) (now lists) × Short 128 (now counts)
+        × ((u : ℕ) → u < 16 → getD (now row) u 0 ≤ 10080) × (length (now o) ≡ 16) ⌝ }
+    ensures { λ _. ⌜ Row (now (o .exit))
+        (λ u. max (getD (now (o .entry)) u 0) (listed (now (counts .entry)) (now (lists .entry)) s (now (row .entry)) u)) ⌝ }
+{
+    let count = counts[s];
+    let base = s * 128;
+    let mut j: usize = 0;
+    while j < count {
+        let e = (base + j) * 3;
+        let target = lists[e] as usize;
+        let source = lists[e + 1] as usize;
+        o[target] = rows::larger(o[target], row[source] + lists[e + 2]);
+        j += 1;
+    }
+}
+
+// The times again.
+pub fn lower(o: &mut [u16; 16])
+    requires { ⌜ ((u : ℕ) → u < 16 → 10080 ≤ getD (now o) u 0) × (length (now o) ≡ 16) ⌝ }
+    ensures { λ _. ⌜ Row (now (o .exit)) (λ u. getD (now (o .entry)) u 0 - 10080) ⌝ }
+{
+    let mut u: usize = 0;
+    while u < 16 {
+        o[u] = o[u] - 10080;
+        u += 1;
+    }
+}

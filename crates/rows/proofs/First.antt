@@ -1,0 +1,102 @@
+-- Laws of first known times: the table by doubling. Assumes nothing.
+use mathlib.Core.Path.{_≡_, refl, _∙_, ap}
+use mathlib.Core.Logic.{inl, inr}
+use mathlib.Core.Bool.{true, false}
+use mathlib.Core.List.{List}
+use Prim.Native.Nat.{ℕ, zero, suc, _+_, _-_, _*_, _/_, _%_, _^_, _≤_, _<_, min}
+use native.Mathlib.Numerals.{add-one}
+use native.Mathlib.Omega.{arith}
+use lib.Dec.{eqb}
+use lib.ListN.{length, getD, set, length-set}
+use lib.Seq.{getD-set-same, getD-set-other}
+use Rattle.prelude.proofs.Tests.{lt-or-ge, eq-or-ne}
+use Rattle.network.specs.Scenario.{truth}
+use Rattle.rows.specs.Known.{firstOf, First, Doubled}
+
+-- the digits of d, and of d with proposition i added
+top : (i d : ℕ) → i < 4 → d < 2 ^ i → (truth d i ≡ false) × (truth (2 ^ i + d) i ≡ true)
+top i d l h = let e = digit i d l h in (rw (e .0), rw (e .1)) where
+  digit : (i d : ℕ) → i < 4 → d < 2 ^ i → (d / 2 ^ i % 2 ≡ 0) × ((2 ^ i + d) / 2 ^ i % 2 ≡ 1)
+  digit zero d l h = omega arith
+  digit (suc zero) d l h = omega arith
+  digit (suc (suc zero)) d l h = omega arith
+  digit (suc (suc (suc zero))) d l h = omega arith
+  digit (suc (suc (suc (suc i)))) d l h = absurd (omega arith)
+
+low : (i j d : ℕ) → i < 4 → j < i → truth (2 ^ i + d) j ≡ truth d j
+low i j d l h = ap (λ (m : ℕ). eqb m 1) (digit i j d l h) where
+  digit : (i j d : ℕ) → i < 4 → j < i → (2 ^ i + d) / 2 ^ j % 2 ≡ d / 2 ^ j % 2
+  digit zero j d l h = absurd (omega arith)
+  digit (suc zero) zero d l h = omega arith
+  digit (suc zero) (suc j) d l h = absurd (omega arith)
+  digit (suc (suc zero)) zero d l h = omega arith
+  digit (suc (suc zero)) (suc zero) d l h = omega arith
+  digit (suc (suc zero)) (suc (suc j)) d l h = absurd (omega arith)
+  digit (suc (suc (suc zero))) zero d l h = omega arith
+  digit (suc (suc (suc zero))) (suc zero) d l h = omega arith
+  digit (suc (suc (suc zero))) (suc (suc zero)) d l h = omega arith
+  digit (suc (suc (suc zero))) (suc (suc (suc j))) d l h = absurd (omega arith)
+  digit (suc (suc (suc (suc i)))) j d l h = absurd (omega arith)
+
+twice : (i : ℕ) → i < 4 → 2 ^ (i + 1) ≡ 2 ^ i + 2 ^ i
+twice zero l = refl
+twice (suc zero) l = refl
+twice (suc (suc zero)) l = refl
+twice (suc (suc (suc zero))) l = refl
+twice (suc (suc (suc (suc i)))) l = absurd (omega arith)
+
+pub weigh : (i p : ℕ) → i < 4 → p ≡ 2 ^ i → p * 2 ≡ 2 ^ (i + 1)
+weigh i p l e = omega (arith, twice i l)
+
+pub eight : (i k : ℕ) → i < k → k ≤ 4 → 2 ^ i ≤ 8
+eight zero k h l = omega arith
+eight (suc zero) k h l = omega arith
+eight (suc (suc zero)) k h l = omega arith
+eight (suc (suc (suc zero))) k h l = omega arith
+eight (suc (suc (suc (suc i)))) k h l = absurd (omega arith)
+
+-- one set more
+pub doubled-next : {p v d : ℕ} {f₀ f : List ℕ} (x : ℕ) → Doubled p v f₀ f d → p ≤ 8 → d < p → x ≡ min (getD f d 0) v
+    → Doubled p v f₀ (set f (p + d) x) (d + 1)
+doubled-next {p} {v} {d} {f₀} {f} x h b l e = record {
+  sized = length-set f (p + d) x ∙ h .sized;
+  within = omega arith;
+  low = λ k c. getD-set-other f (p + d) k x 0 (λ z. omega arith) ∙ h .low k c;
+  high =
+      λ k c.
+      elim (eq-or-ne k d) [
+        | inl q ↦ rw q (omega (arith, getD-set-same f (p + d) x 0 (omega (arith, h .sized)), h .low d l))
+        | inr q ↦ getD-set-other f (p + d) (p + k) x 0 (λ z. q (omega arith)) ∙ h .high k (omega arith)
+      ];
+}
+
+module _ (f : ℕ → ℕ) where
+  firstOf-high : (j i d : ℕ) → i < 4 → j ≤ i → firstOf j f (2 ^ i + d) ≡ firstOf j f d
+  firstOf-high zero i d l h = refl
+  firstOf-high (suc j) i d l h = rw (low i j d l (omega arith), firstOf-high j i d l (omega arith))
+
+  pub first-start : (first : List ℕ) → length first ≡ 16 → getD first 0 0 ≡ 65535 → First 0 f first
+  first-start first l e = record { sized = l; is = λ d b. let z : d ≡ 0 = omega arith in rw z e }
+
+  -- one proposition more
+  pub first-next : {i v : ℕ} {first first′ : List ℕ} (p : ℕ) → i < 4 → First i f first → p ≡ 2 ^ i → v ≡ f i
+      → Doubled p v first first′ p → First (i + 1) f first′
+  first-next {i} {v} {first} {first′} p l h q e g′ =
+      let g : Doubled (2 ^ i) v first first′ (2 ^ i) = rw q at g′ in
+      record {
+        sized = g .sized;
+        is =
+            λ d b. rw (add-one i) (elim (lt-or-ge d (2 ^ i)) [
+              | inl m ↦ rw (top i d l m .0) (g .low d m ∙ h .is d m)
+              | inr m ↦
+                  let x = d - 2 ^ i in
+                  let s : d ≡ 2 ^ i + x = omega arith in
+                  let y : x < 2 ^ i = omega (arith, twice i l) in
+                  rw (s, top i x l y .1, firstOf-high i i x l (omega arith)) (omega (arith, g .high x y, h .is x y))
+            ]);
+      }
+
+-- the first known time depends on f below k only
+pub firstOf-ext : (f g : ℕ → ℕ) (k d : ℕ) → ((p : ℕ) → p < k → f p ≡ g p) → firstOf k f d ≡ firstOf k g d
+firstOf-ext f g zero d h = refl
+firstOf-ext f g (suc k) d h = rw (h k (omega arith), firstOf-ext f g k d (λ p l. h p (omega arith)))

@@ -1,0 +1,87 @@
+-- Each turn raises one time. The invariant: the first u are raised. Assumes nothing.
+use Prim.Native.Nat.{_+_, _-_, _*_, _≤_, max, min}
+use native.Mathlib.Omega.{arith}
+use borrow.Author.Needs.{needs}
+use lib.ListN.{getD}
+use Rattle.rows.specs.Rows.{Wrote}
+use Rattle.rows.proofs.Wrote.{wrote-none, wrote-next, unwritten, row-of-wrote}
+use Rattle.rows.proofs.raise_by_scenario.Statement.{statement}
+use Rattle.rows.proofs.raise_by_scenario.Tie as tie
+
+abbrev Inv-loop : tie.InvT-loop
+Inv-loop t r first o₀ u₀ o u = (u ≤ 16) × Wrote o₀ o 0 u (λ k. max (getD o₀ k 0) (min (getD t (r * 16 + k) 0) first))
+
+abbrev μ-loop : tie.MeasureT-loop
+μ-loop t r first o₀ u₀ o u = 16 - u
+
+loop-holds : tie.Need-loop-holds Inv-loop μ-loop
+loop-holds c = (omega arith, wrote-none _ _ _)
+
+mul-larger : tie.Need-mul-larger Inv-loop μ-loop
+mul-larger c = search needs
+
+element-copy-out-larger : tie.Need-element-copy-out-larger Inv-loop μ-loop
+element-copy-out-larger c = search needs
+
+mul-lesser : tie.Need-mul-lesser Inv-loop μ-loop
+mul-lesser c = search needs
+
+add-lesser : tie.Need-add-lesser Inv-loop μ-loop
+add-lesser c = search needs
+
+mul-lesser-2 : tie.Need-mul-lesser-2 Inv-loop μ-loop
+mul-lesser-2 c = search needs
+
+element-copy-out-lesser : tie.Need-element-copy-out-lesser Inv-loop μ-loop
+element-copy-out-lesser c = search needs
+
+lesser-requires : tie.Need-lesser-requires Inv-loop μ-loop
+lesser-requires c κs = search needs
+
+larger-requires : tie.Need-larger-requires Inv-loop μ-loop
+larger-requires c κs = search needs
+
+mul-o : tie.Need-mul-o Inv-loop μ-loop
+mul-o c = search needs
+
+element-write-o : tie.Need-element-write-o Inv-loop μ-loop
+element-write-o c = search needs
+
+add-u : tie.Need-add-u Inv-loop μ-loop
+add-u c = search needs
+
+loop-less : tie.Need-loop-less Inv-loop μ-loop
+loop-less c = search needs
+
+loop-again : tie.Need-loop-again Inv-loop μ-loop
+loop-again c =
+    let loop = c .before .before .before .before .before .loop in (
+      omega arith,
+      wrote-next _ _ _ (loop .inv .1) (omega arith) (omega arith)
+          (omega (arith, c .larger .ensures, c .before .lesser .ensures, unwritten _ (loop .inv .1))),
+    )
+
+returns : tie.Need-returns Inv-loop μ-loop
+returns c = row-of-wrote _ (c .before .loop .inv .1) (c .loop-test .left) (c .before .before .pre .1)
+
+pub raise-by-scenario-spec : {M : Type 1} → statement M
+raise-by-scenario-spec =
+    tie.close
+    (tie.spec
+    Inv-loop
+    μ-loop
+    loop-holds
+    mul-larger
+    element-copy-out-larger
+    mul-lesser
+    add-lesser
+    mul-lesser-2
+    element-copy-out-lesser
+    lesser-requires
+    larger-requires
+    mul-o
+    element-write-o
+    add-u
+    loop-less
+    loop-again
+    returns)

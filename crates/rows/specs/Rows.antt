@@ -1,0 +1,41 @@
+-- Tables as the rounds keep them: a row of sixteen times for each scenario, of which the first n are those of the n events.
+use mathlib.Core.Path.{_≡_}
+use mathlib.Core.Logic.{_⊎_}
+use mathlib.Core.List.{List}
+use Prim.Native.Nat.{ℕ, _+_, _-_, _*_, _/_, _%_, _≤_, _<_, max}
+use lib.ListN.{length, getD, take, drop}
+use Rattle.prelude.specs.Bounded.{maxBelow, tabulate}
+use Rattle.network.specs.Limits as L
+use Rattle.rows.specs.declared.Seen.{Seen}
+
+-- the strategy that a table holds: n events in c scenarios, without gaps
+unfoldable pub packed : ℕ → ℕ → List ℕ → List ℕ
+packed n c t = tabulate (n * c) (λ i. getD t (i / n * 16 + i % n) 0)
+
+-- the row of scenario s
+abbrev pub rowOf : List ℕ → ℕ → List ℕ
+rowOf t s = take 16 (drop (s * 16) t)
+
+-- sixteen numbers
+pub record Row (xs : List ℕ) (f : ℕ → ℕ) : Type 0 where
+  pub sized : length xs ≡ 16
+  pub is : (u : ℕ) → u < 16 → getD xs u 0 ≡ f u
+
+-- what a round is given: times that a horizon may allow, and zeros behind the n events
+pub record Times (n c : ℕ) (t : List ℕ) : Type 0 where
+  pub sized : length t ≡ 256
+  pub few : (s u : ℕ) → s < c → u < 16 → getD t (s * 16 + u) 0 ≤ L.horizon
+  pub beyond : (s u : ℕ) → s < c → n ≤ u → u < 16 → getD t (s * 16 + u) 0 ≡ 0
+
+-- n numbers are written from place a on, and the rest is unaltered
+pub record Wrote (o o′ : List ℕ) (a n : ℕ) (f : ℕ → ℕ) : Type 0 where
+  pub sized : length o′ ≡ length o
+  pub here : (u : ℕ) → u < n → getD o′ (a + u) 0 ≡ f u
+  pub other : (i : ℕ) → i < a ⊎ a + n ≤ i → getD o′ i 0 ≡ getD o i 0
+
+-- the row after is stored as row s of t, and compared with the row before on the way
+pub record Stored (t t′ : List ℕ) (s : ℕ) (before after : ℕ → ℕ) (seen seen′ : Seen) : Type 0 where
+  pub wrote : Wrote t t′ (s * 16) 16 after
+  pub climb : seen′ .climb ≡ max (seen .climb) (maxBelow 16 (λ u. after u - before u))
+  pub highest : seen′ .highest ≡ max (seen .highest) (maxBelow 16 after)
+  pub origin : seen′ .origin ≡ max (seen .origin) (after 0)

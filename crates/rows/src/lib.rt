@@ -1,0 +1,132 @@
+// What rounds keep besides bounds: the frame of a network, and tables in rows of sixteen times, one row for each scenario.
+ghost use mathlib.Core.Path.{_≡_};
+ghost use mathlib.Core.List.{_++_};
+ghost use Prim.Native.Nat.{ℕ, _+_, _*_, _≤_, _<_, max, min};
+ghost use lib.ListN.{length, getD, drop};
+ghost use Rattle.network.specs.WellFormed.{WellFormed};
+ghost use Rattle.rows.specs.Framed.{Framed};
+ghost use Rattle.rows.specs.Rows.{Row, Stored, Wrote, packed};
+use network::Network;
+
+pub mod known;
+
+// What rounds take of a network besides its constraints.
+pub struct Frame {
+    pub horizon: u16,
+    pub events: usize,
+    pub scenarios: usize,
+    pub signals: usize,
+    pub observations: [usize; Network::SIGNALS],
+}
+
+// What is seen while rows are stored: how far a time rose, the latest time, and the latest of event 0.
+pub struct Seen {
+    pub climb: u16,
+    pub highest: u16,
+    pub origin: u16,
+}
+
+pub fn frame_of(network: Network) -> Frame
+    requires { ⌜ WellFormed network ⌝ }
+    ensures { λ r. ⌜ Framed network r ⌝ }
+{
+    let observations = network.observations;
+    Frame {
+        horizon: network.horizon,
+        events: network.events,
+        scenarios: 1 << network.signals,
+        signals: network.signals,
+        observations: observations,
+    }
+}
+
+pub fn larger(a: u16, b: u16) -> u16
+    ensures { λ r. ⌜ r ≡ max a b ⌝ }
+{
+    if a < b {
+        return b;
+    }
+    a
+}
+
+fn lesser(a: u16, b: u16) -> u16
+    ensures { λ r. ⌜ r ≡ min a b ⌝ }
+{
+    if b < a {
+        return b;
+    }
+    a
+}
+
+// The times of scenario s.
+pub fn read_row(t: &[u16; 256], s: usize, row: &mut [u16; 16])
+    requires { ⌜ (s < 16) × (length (now row) ≡ 16) ⌝ }
+    ensures { λ _. ⌜ Row (now (row .exit)) (λ u. getD (now (t .entry)) (s * 16 + u) 0) ⌝ }
+{
+    let mut u: usize = 0;
+    while u < 16 {
+        row[u] = t[s * 16 + u];
+        u += 1;
+    }
+}
+
+// What the hyperarcs to scenario r ask: its times, or the first time at which the two are known apart.
+pub fn raise_by_scenario(t: &[u16; 256], r: usize, first: u16, o: &mut [u16; 16])
+    requires { ⌜ (r < 16) × (length (now o) ≡ 16) ⌝ }
+    ensures { λ _. ⌜ Row (now (o .exit))
+        (λ u. max (getD (now (o .entry)) u 0) (min (getD (now (t .entry)) (r * 16 + u) 0) first)) ⌝ }
+{
+    let mut u: usize = 0;
+    while u < 16 {
+        o[u] = larger(o[u], lesser(t[r * 16 + u], first));
+        u += 1;
+    }
+}
+
+// The row o becomes row s of t; row has its times before the round.
+pub fn store_row(t: &mut [u16; 256], s: usize, row: &[u16; 16], o: &[u16; 16], seen: Seen) -> Seen
+    requires { ⌜ (s < 16) × (length (now t) ≡ 256) × ((u : ℕ) → u < 16 → getD (now row) u 0 ≤ getD (now o) u 0) ⌝ }
+    ensures { λ r. ⌜ Stored (now (t .entry)) (now (t .exit)) s (λ u. getD (now (row .entry)) u 0)
+        (λ u. getD (now (o .entry)) u 0) seen r ⌝ }
+{
+    let mut climb = seen.climb;
+    let mut highest = seen.highest;
+    let mut u: usize = 0;
+    while u < 16 {
+        t[s * 16 + u] = o[u];
+        climb = larger(climb, o[u] - row[u]);
+        highest = larger(highest, o[u]);
+        u += 1;
+    }
+    Seen {
+        climb: climb,
+        highest: highest,
+        origin: larger(seen.origin, o[0]),
+    }
+}
+
+// The first n times of scenario s, from place a on.
+fn copy_row(t: &[u16; 256], s: usize, n: usize, a: usize, out: &mut [u16])
+    requires { ⌜ (s < 16) × (n ≤ 16) × (a + n ≤ length (now out)) ⌝ }
+    ensures { λ _. ⌜ Wrote (now (out .entry)) (now (out .exit)) a n (λ u. getD (now (t .entry)) (s * 16 + u) 0) ⌝ }
+{
+    let mut u: usize = 0;
+    while u < n {
+        out[a + u] = t[s * 16 + u];
+        u += 1;
+    }
+}
+
+// The times of n events in c scenarios, without gaps.
+pub fn copy_out(t: &[u16; 256], n: usize, c: usize, out: &mut [u16])
+    requires { ⌜ (c ≤ 16) × (1 ≤ n) × (n ≤ 16) × (n * c ≤ length (now out)) ⌝ }
+    ensures { λ _. ⌜ now (out .exit) ≡ packed n c (now (t .entry)) ++ drop (n * c) (now (out .entry)) ⌝ }
+{
+    let mut s: usize = 0;
+    let mut a: usize = 0;
+    while s < c {
+        copy_row(t, s, n, a, out);
+        a += n;
+        s += 1;
+    }
+}
