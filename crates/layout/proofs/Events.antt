@@ -16,7 +16,7 @@ use Rattle.refusal.specs.declared.Cause.the-variants as C
 use Rattle.network.specs.Limits as L
 use Rattle.network.specs.declared.Network.{Network}
 use Rattle.names.specs.Names.{isName}
-use Rattle.sheet.specs.Rows.{eventOf, eventRefusal, eventRow}
+use Rattle.line.specs.Rows.{eventOf, eventRefusal, eventRow}
 use Rattle.prelude.specs.Lists.{In, Distinct, Each}
 use Rattle.layout.specs.Layout.{line}
 use Rattle.layout.proofs.Checks.{_&_, hold, none-fails}

@@ -14,7 +14,7 @@ use Rattle.network.specs.declared.Kind.the-variants.{Max, Min, Fix}
 use Rattle.names.specs.Names.{isLetter}
 use Rattle.names.specs.Defined.{placeOf, allDefined}
 use Rattle.names.proofs.Labels.{allDefined-every}
-use Rattle.sheet.specs.Rows.{kindOf}
+use Rattle.line.specs.Rows.{kindOf}
 use Rattle.prelude.specs.Lists.{In, Each}
 use Rattle.layout.specs.Layout.{Signal, kindText}
 use Rattle.layout.proofs.Lines.{plain}

@@ -9,7 +9,7 @@ use Rattle.text.specs.Lines.{afterLine}
 use Rattle.network.specs.Limits as L
 use Rattle.network.specs.Build.{empty}
 use Rattle.network.specs.declared.Network.{Network}
-use Rattle.sheet.specs.Rows.{sectionCount}
+use Rattle.line.specs.Rows.{sectionCount}
 use Rattle.sheet.specs.Reading.{
   longest,
   Progress,

@@ -16,7 +16,7 @@ use Rattle.refusal.specs.declared.Cause.{Cause}
 use Rattle.refusal.specs.declared.Cause.the-variants.{MissingLine}
 use Rattle.refusal.specs.declared.Refusal.{Refusal}
 use Rattle.network.specs.declared.Network.{Network}
-use Rattle.sheet.specs.Rows.{Row}
+use Rattle.line.specs.Rows.{Row}
 use Rattle.sheet.specs.Reading.{Progress, Stop, Go, readLine, readRows}
 use Rattle.layout.specs.Layout.{line, lines}
 use Rattle.layout.proofs.Lines.{Plain, IsRead, is-read, line-read}

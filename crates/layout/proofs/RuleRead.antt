@@ -18,7 +18,7 @@ use Rattle.network.specs.Limits as L
 use Rattle.network.specs.declared.Network.{Network}
 use Rattle.names.specs.Names.{isName, isLabel, labelOf, lettersOf as lettersRead}
 use Rattle.names.specs.Defined.{allDefined}
-use Rattle.sheet.specs.Rows.{eventOf, kindOf, ruleRefusal}
+use Rattle.line.specs.Rows.{eventOf, kindOf, ruleRefusal}
 use Rattle.layout.specs.Layout.{Signal, Rule, KeepsRule, kindText, signedText, labelText}
 use Rattle.layout.proofs.Checks.{hold}
 use Rattle.layout.proofs.Numbers as N

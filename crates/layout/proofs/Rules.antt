@@ -14,7 +14,7 @@ use Rattle.network.specs.Limits as L
 use Rattle.network.specs.declared.Network.{Network}
 use Rattle.names.specs.Names.{isLetter, isName, isLabel, labelOf, lettersOf as lettersRead}
 use Rattle.names.specs.Defined.{allDefined, maskOf}
-use Rattle.sheet.specs.Rows.{eventOf, ruleOf, ruleRefusal, ruleRow}
+use Rattle.line.specs.Rows.{eventOf, ruleOf, ruleRefusal, ruleRow}
 use Rattle.prelude.specs.Lists.{In, Each}
 use Rattle.layout.specs.Layout.{Signal, Rule, KeepsRule, noRule, kindText, signedText, labelText}
 use Rattle.layout.proofs.Checks.{_&_, none-fails}

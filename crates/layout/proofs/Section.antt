@@ -18,7 +18,7 @@ use Rattle.text.specs.Decimal.{decimal}
 use Rattle.refusal.specs.declared.Cause.{Cause}
 use Rattle.refusal.specs.declared.Cause.the-variants as C
 use Rattle.network.specs.declared.Network.{Network}
-use Rattle.sheet.specs.Rows.{Row, sectionRefusal, sectionCount}
+use Rattle.line.specs.Rows.{Row, sectionRefusal, sectionCount}
 use Rattle.sheet.specs.Reading.{Progress, Go, readLine, readRows, readSection}
 use Rattle.layout.specs.Layout.{line, lines, section}
 use Rattle.layout.proofs.Checks.{_&_, hold, none-fails}

@@ -17,7 +17,7 @@ use Rattle.network.specs.Limits as L
 use Rattle.network.specs.declared.Network.{Network}
 use Rattle.names.specs.Names.{isName, isLetter, isOneLetter}
 use Rattle.names.specs.Defined.{placeOf}
-use Rattle.sheet.specs.Rows.{eventOf, isObservation, signalRefusal, signalRow}
+use Rattle.line.specs.Rows.{eventOf, isObservation, signalRefusal, signalRow}
 use Rattle.prelude.specs.Lists.{In, Distinct, Each}
 use Rattle.layout.specs.Layout.{Signal, KeepsSignal, noSignal}
 use Rattle.layout.proofs.Checks.{_&_, hold, none-fails}

@@ -14,7 +14,7 @@ use Rattle.refusal.specs.declared.Cause.the-variants.{TooLong}
 use Rattle.network.specs.Limits as L
 use Rattle.network.specs.Build.{empty}
 use Rattle.network.specs.declared.Network.{Network}
-use Rattle.sheet.specs.Rows.{sectionCount}
+use Rattle.line.specs.Rows.{sectionCount}
 use Rattle.sheet.specs.Reading.{longest, Go, andThen, readHorizon, readEvents, readSignals, readRules, readEnd, progress}
 use Rattle.layout.specs.Layout.{Signal, Contents, Keeps, Layout, line, kindText}
 use Rattle.layout.proofs.Contains.{Contains, contents}

@@ -13,7 +13,7 @@ use Rattle.text.specs.Number.{isNumber, inRange}
 use Rattle.network.specs.Scenario.{satisfies}
 use Rattle.network.specs.Constraint.{covers}
 use Rattle.network.specs.Strategy.{reaction}
-use Rattle.sheet.specs.Rows.{sectionRefusal, eventRefusal, signalRefusal, ruleRefusal}
+use Rattle.line.specs.Rows.{sectionRefusal, eventRefusal, signalRefusal, ruleRefusal}
 use Rattle.sheet.specs.Reading.{progress}
 use Rattle.checker.specs.Verdict.{verdict}
 use Rattle.solver.specs.Propagate.{propagate}

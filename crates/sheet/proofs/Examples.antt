@@ -11,7 +11,7 @@ use Rattle.prelude.specs.Bytes.{ascii}
 use Rattle.text.specs.Lines.{lineFeed}
 use Rattle.text.specs.Number.{isNumber, inRange}
 use Rattle.refusal.specs.Refusal.{numberOf}
-use Rattle.sheet.specs.Rows.{sectionRefusal, eventRefusal, signalRefusal, ruleRefusal}
+use Rattle.line.specs.Rows.{sectionRefusal, eventRefusal, signalRefusal, ruleRefusal}
 use Rattle.sheet.specs.Reading.{Progress, Stop, Go, progress}
 
 -- lines of text, each with its line feed

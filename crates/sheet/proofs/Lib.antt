@@ -1,16 +1,12 @@
--- Laws of the sheet's definitions, in reading order: tests and places; numbers; a line's refusal; what each line keeps; the lines of a
--- section; the whole sheet; and examples.
-pub mod Checks
+-- Laws of the sheet's definitions, in reading order: places and a line's tests; what each line keeps; the lines of a section; the whole
+-- sheet; and examples.
 pub mod Places
-pub mod Numbers
-pub mod Refusals
 pub mod RowTests
 pub mod Rows
 pub mod Stages
 pub mod SignalStage
 pub mod RuleStage
 pub mod Turns
-pub mod Answered
 pub mod Lines
 pub mod WellFormed
 pub mod Sections

@@ -12,22 +12,22 @@ use Rattle.network.specs.Limits as L
 use Rattle.network.specs.Build.{withEvent}
 use Rattle.network.specs.declared.Network.{Network}
 use Rattle.names.specs.Found.{NamesIn}
-use Rattle.sheet.specs.Rows.{eventRefusal}
-use Rattle.sheet.specs.Reading.{Progress, Stop}
-use Rattle.sheet.specs.Sections.{rowsOf}
-use Rattle.sheet.specs.Stage.{ToCome, Stage}
-use Rattle.sheet.specs.Answers.{entryOf, added}
-use Rattle.sheet.specs.declared.section.Section.{Section}
-use Rattle.sheet.specs.declared.section.Section.the-variants.{Events, Signals, Rules}
-use Rattle.sheet.specs.declared.row.Entry.{Entry}
-use Rattle.sheet.specs.declared.row.Entry.the-variants as E
-use Rattle.sheet.specs.declared.row.Row.the-variants as R
-use Rattle.sheet.proofs.Checks.{all-hold}
+use Rattle.line.specs.Rows.{eventRefusal}
+use Rattle.line.specs.Sections.{rowsOf}
+use Rattle.line.specs.Answers.{entryOf, added}
+use Rattle.line.specs.declared.Section.{Section}
+use Rattle.line.specs.declared.Section.the-variants.{Events, Signals, Rules}
+use Rattle.line.specs.declared.row.Entry.{Entry}
+use Rattle.line.specs.declared.row.Entry.the-variants as E
+use Rattle.line.specs.declared.row.Row.the-variants as R
+use Rattle.line.proofs.Checks.{all-hold}
+use Rattle.line.proofs.Answered.{row-answer-refused, row-answer, answerAt, row-at}
 use Rattle.sheet.proofs.Places.{line-inside, only-field}
+use Rattle.sheet.proofs.RowTests.{eventTests}
+use Rattle.sheet.specs.Reading.{Progress, Stop}
+use Rattle.sheet.specs.Stage.{ToCome, Stage}
 use Rattle.sheet.proofs.Rows.{refusalAt, Passes, passes}
 use Rattle.sheet.proofs.Turns.{Before, RowsLeft, reads-stop, reads-on}
-use Rattle.sheet.proofs.Answered.{row-answer-refused, row-answer, answerAt, row-at}
-use Rattle.sheet.proofs.RowTests.{eventTests}
 
 -- the events of the network are named by parts of the sheet
 pub names-in : {sheet : List ℕ} {t : ToCome} {Γ : Network} {at k : ℕ} → Stage sheet t Γ at k

@@ -20,7 +20,7 @@ use Rattle.network.specs.declared.Network.{Network}
 use Rattle.names.specs.Names.{isName, isOneLetter, isLabel, labelOf, lettersOf}
 use Rattle.names.specs.Defined.{placeOf, allDefined}
 use Rattle.names.proofs.Finds.{finds-nothing}
-use Rattle.sheet.specs.Rows.{eventOf, isObservation, kindOf}
+use Rattle.line.specs.Rows.{eventOf, isObservation, kindOf}
 
 -- whether event v has this name
 abbrev pub isNamed : List ℕ → Network → List ℕ → ℕ → Bool

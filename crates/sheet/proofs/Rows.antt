@@ -12,9 +12,9 @@ use Rattle.refusal.specs.declared.Cause.{Cause}
 use Rattle.refusal.specs.declared.Cause.the-variants as C
 use Rattle.refusal.specs.declared.Refusal.{Refusal}
 use Rattle.network.specs.declared.Network.{Network}
-use Rattle.sheet.specs.Rows.{Row}
+use Rattle.line.specs.Rows.{Row}
+use Rattle.line.specs.Answers.{endsOr, lineRefusal}
 use Rattle.sheet.specs.Reading.{Progress, Stop, Go, andThen, readLine, readRows}
-use Rattle.sheet.specs.Answers.{endsOr, lineRefusal}
 
 -- a refusal is no network
 pub stop-not-go {ℓ} : {A : Type ℓ} (r : Refusal) (Γ : Network) (at k : ℕ) → Stop r ≡ Go Γ at k → A

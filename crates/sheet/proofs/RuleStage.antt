@@ -21,13 +21,13 @@ use Rattle.names.specs.Names.{labelOf, lettersOf}
 use Rattle.names.specs.Defined.{allDefined}
 use Rattle.names.proofs.Finds.{finds-answer}
 use Rattle.names.proofs.Labels.{sum-is}
-use Rattle.sheet.specs.Rows.{eventOf, ruleRefusal, ruleOf, ruleRow}
-use Rattle.sheet.specs.Stage.{toCome, Stage}
-use Rattle.sheet.specs.declared.section.Section.the-variants.{Rules}
-use Rattle.sheet.proofs.Checks.{all-hold}
+use Rattle.line.specs.Rows.{eventOf, ruleRefusal, ruleOf, ruleRow}
+use Rattle.line.specs.declared.Section.the-variants.{Rules}
+use Rattle.line.proofs.Checks.{all-hold}
 use Rattle.sheet.proofs.Places.{line-inside}
-use Rattle.sheet.proofs.Rows.{Passes}
 use Rattle.sheet.proofs.RowTests.{isNamed, ruleTests}
+use Rattle.sheet.specs.Stage.{toCome, Stage}
+use Rattle.sheet.proofs.Rows.{Passes}
 
 -- a limit by its size
 neg-limits : (m : ℕ) → m ≤ L.horizon → InLimits (negℤ (pos m))

@@ -18,15 +18,16 @@ use Rattle.refusal.specs.declared.Cause.the-variants as C
 use Rattle.network.specs.Limits as L
 use Rattle.network.specs.Build.{empty}
 use Rattle.network.specs.declared.Network.{Network}
-use Rattle.sheet.specs.Rows.{sectionRefusal, sectionCount}
+use Rattle.line.specs.Rows.{sectionRefusal, sectionCount}
+use Rattle.line.specs.Sections.{Heading, headingOf, rowsOf}
+use Rattle.line.specs.Answers.{wordRefusal, sectionAnswer, sectionAt, headingAt}
+use Rattle.line.specs.declared.Section.{Section}
+use Rattle.line.specs.declared.SectionRow.the-variants as S
+use Rattle.sheet.proofs.Places.{line-inside}
 use Rattle.sheet.specs.Reading.{Progress, Stop, Go, andThen, readLine, readRows, readHorizon}
 use Rattle.sheet.specs.Reading.{readEvents, readSignals, readRules, readEnd, longest, progress, answered, read}
-use Rattle.sheet.specs.Sections.{Heading, headingOf, rowsOf, readOf}
+use Rattle.sheet.specs.Sections.{readOf}
 use Rattle.sheet.specs.Stage.{toCome, whole, Stage}
-use Rattle.sheet.specs.Answers.{wordRefusal, sectionAnswer, sectionAt, headingAt}
-use Rattle.sheet.specs.declared.section.Section.{Section}
-use Rattle.sheet.specs.declared.SectionRow.the-variants as S
-use Rattle.sheet.proofs.Places.{line-inside}
 use Rattle.sheet.proofs.Rows.{refusalAt, passes, readLine-stop, readLine-on}
 use Rattle.sheet.proofs.Stages.{stage-section}
 use Rattle.sheet.proofs.WellFormed.{counted, sections}

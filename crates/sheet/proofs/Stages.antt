@@ -13,13 +13,13 @@ use Rattle.text.specs.Lines.{lineAt, endsAt, afterLine, fields, field}
 use Rattle.network.specs.Build.{withEvent}
 use Rattle.network.specs.declared.Network.{Network}
 use Rattle.names.specs.Names.{isName}
-use Rattle.sheet.specs.Rows.{eventRefusal}
-use Rattle.sheet.specs.Sections.{headingOf}
-use Rattle.sheet.specs.Stage.{ToCome, toCome, whole, Stage}
-use Rattle.sheet.specs.declared.section.Section.{Section}
-use Rattle.sheet.specs.declared.section.Section.the-variants.{Events, Signals, Rules}
-use Rattle.sheet.proofs.Checks.{all-hold}
+use Rattle.line.specs.Rows.{eventRefusal}
+use Rattle.line.specs.Sections.{headingOf}
+use Rattle.line.specs.declared.Section.{Section}
+use Rattle.line.specs.declared.Section.the-variants.{Events, Signals, Rules}
+use Rattle.line.proofs.Checks.{all-hold}
 use Rattle.sheet.proofs.Places.{first-field, line-inside}
+use Rattle.sheet.specs.Stage.{ToCome, toCome, whole, Stage}
 use Rattle.sheet.proofs.Rows.{Passes}
 use Rattle.names.proofs.Tokens.{name-short}
 use Rattle.sheet.proofs.RowTests.{eventTests}

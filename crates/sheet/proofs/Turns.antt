@@ -10,11 +10,11 @@ use Rattle.text.specs.Lines.{fields, lineAt, afterLine}
 use Rattle.refusal.specs.Refusal.{refusal}
 use Rattle.refusal.specs.declared.Cause.{Cause}
 use Rattle.network.specs.declared.Network.{Network}
+use Rattle.line.specs.Sections.{rowsOf}
+use Rattle.line.specs.declared.Section.{Section}
+use Rattle.line.specs.declared.Section.the-variants.{Events, Signals, Rules}
 use Rattle.sheet.specs.Reading.{Progress, Stop, Go, readRows}
-use Rattle.sheet.specs.Sections.{rowsOf}
 use Rattle.sheet.specs.Stage.{toCome, Stage}
-use Rattle.sheet.specs.declared.section.Section.{Section}
-use Rattle.sheet.specs.declared.section.Section.the-variants.{Events, Signals, Rules}
 use Rattle.sheet.proofs.Rows.{refusalAt, passes, readLine-stop, readLine-on, Keeps}
 use Rattle.sheet.proofs.Stages.{stage-event}
 use Rattle.sheet.proofs.SignalStage.{stage-signal}

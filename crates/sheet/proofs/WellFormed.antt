@@ -21,17 +21,18 @@ use Rattle.network.specs.Limits as L
 use Rattle.network.specs.Build.{empty, noConstraint}
 use Rattle.network.specs.WellFormed.{WellFormed, Named}
 use Rattle.network.specs.declared.Network.{Network}
-use Rattle.sheet.specs.Rows.{sectionRefusal, sectionCount}
+use Rattle.line.specs.Rows.{sectionRefusal, sectionCount}
+use Rattle.line.specs.Sections.{headingOf, rowsOf}
+use Rattle.line.specs.declared.Section.{Section}
+use Rattle.line.specs.declared.Section.the-variants.{Events, Signals, Rules}
+use Rattle.line.proofs.Checks.{all-hold}
+use Rattle.sheet.proofs.Places.{line-inside}
 use Rattle.sheet.specs.Reading.{longest, Progress, Stop, Go, andThen, readRows, readHorizon}
 use Rattle.sheet.specs.Reading.{readEvents, readSignals, readRules, readEnd, progress, read, answered}
-use Rattle.sheet.specs.Sections.{headingOf, rowsOf, readOf}
+use Rattle.sheet.specs.Sections.{readOf}
 use Rattle.sheet.specs.Stage.{toCome, whole, Stage}
 use Rattle.sheet.specs.Reached.{Ready}
 use Rattle.sheet.specs.declared.Outcome.the-variants.{Accepted}
-use Rattle.sheet.specs.declared.section.Section.{Section}
-use Rattle.sheet.specs.declared.section.Section.the-variants.{Events, Signals, Rules}
-use Rattle.sheet.proofs.Checks.{all-hold}
-use Rattle.sheet.proofs.Places.{line-inside}
 use Rattle.sheet.proofs.Rows.{stop-not-go, came, went, rows-keep}
 use Rattle.sheet.proofs.Stages.{stage-section}
 use Rattle.sheet.proofs.Turns.{Before, stage-keeps}

@@ -1,32 +1,12 @@
 -- The sections behind the horizon, by the code's `Section`: each is one of Reading's.
 use mathlib.Core.List.{List}
 use Prim.Native.Nat.{ℕ}
-use Prim.Native.String.{String}
-use Rattle.network.specs.Limits as L
 use Rattle.network.specs.declared.Network.{Network}
-use Rattle.sheet.specs.Rows.{Row, eventRow, signalRow, ruleRow}
+use Rattle.line.specs.Sections.{headingOf, rowsOf}
+use Rattle.line.specs.declared.Section.{Section}
 use Rattle.sheet.specs.Reading.{Progress, readSection}
-use Rattle.sheet.specs.declared.section.Section.{Section}
-use Rattle.sheet.specs.declared.section.Section.the-variants.{Events, Signals, Rules}
-
--- the line that a section begins with: its word, and the range of its count
-pub record Heading : Type 0 where
-  pub word : String
-  pub least : ℕ
-  pub most : ℕ
-
-abbrev pub headingOf : Section → Heading
-headingOf Events = record { word = "events"; least = 1; most = L.events }
-headingOf Signals = record { word = "signals"; least = 0; most = L.signals }
-headingOf Rules = record { word = "rules"; least = 0; most = L.rules }
 
 module _ (sheet : List ℕ) where
-  -- its lines
-  abbrev pub rowsOf : Section → Row
-  rowsOf Events = eventRow sheet
-  rowsOf Signals = signalRow sheet
-  rowsOf Rules = ruleRow sheet
-
   -- the whole section: `readEvents`, `readSignals` and `readRules`
   abbrev pub readOf : Section → Network → ℕ → ℕ → Progress
-  readOf s = readSection sheet (headingOf s .word) (headingOf s .least) (headingOf s .most) (rowsOf s)
+  readOf s = readSection sheet (headingOf s .word) (headingOf s .least) (headingOf s .most) (rowsOf sheet s)

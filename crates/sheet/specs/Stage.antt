@@ -7,9 +7,9 @@ use Rattle.network.specs.Limits as L
 use Rattle.network.specs.Build.{observation, constraint}
 use Rattle.network.specs.WellFormed.{Proper, Arrays, Named}
 use Rattle.network.specs.declared.Network.{Network}
-use Rattle.sheet.specs.Sections.{headingOf}
-use Rattle.sheet.specs.declared.section.Section.{Section}
-use Rattle.sheet.specs.declared.section.Section.the-variants.{Events, Signals, Rules}
+use Rattle.line.specs.Sections.{headingOf}
+use Rattle.line.specs.declared.Section.{Section}
+use Rattle.line.specs.declared.Section.the-variants.{Events, Signals, Rules}
 
 -- how many lines of each section are still to come, at most
 pub record ToCome : Type 0 where

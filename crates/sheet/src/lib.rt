@@ -2,15 +2,12 @@
 ghost use mathlib.Core.Path.{_≡_};
 ghost use Rattle.sheet.specs.Reading.{read};
 
-mod field;
-mod row;
 mod section;
 
-use network::Kind;
+use line::Section;
 use network::Network;
 use refusal::Cause;
 use refusal::Refusal;
-use section::Section;
 
 // The most bytes of a sheet.
 const LONGEST: usize = 4096;
@@ -24,36 +21,6 @@ pub enum Outcome {
 pub struct Reading {
     pub outcome: Outcome,
     pub network: Network,
-}
-
-// A test with the cause of its failure, and what comes of several.
-struct Test {
-    passes: bool,
-    cause: Cause,
-}
-
-enum Check {
-    Passed,
-    Refused(Cause),
-}
-
-// The first field of a rule.
-enum KindField {
-    Is(Kind),
-    Other,
-}
-
-// The limit of a rule, in minutes.
-enum Limit {
-    IllFormed,
-    Beyond,
-    Minutes(i32),
-}
-
-// The line that a section begins with: why it is refused, or its count, and how long it is without its line feed.
-enum SectionRow {
-    Refused(Cause),
-    Count { count: u32, length: usize },
 }
 
 // How far the reader has come: refused, or the place of the next line and its number, with the network so far.

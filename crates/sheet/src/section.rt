@@ -3,29 +3,24 @@
 ghost use mathlib.Core.Path.{_≡_};
 ghost use Prim.Native.Nat.{_≤_};
 ghost use lib.ListN.{length, drop};
-ghost use Rattle.sheet.specs.Reading.{longest, Stop, andThen, readRows, readHorizon, readEnd, answered};
 ghost use Rattle.refusal.specs.Refusal.{refusal};
-ghost use Rattle.sheet.specs.Sections.{rowsOf, readOf};
+ghost use Rattle.line.specs.Sections.{rowsOf};
+ghost use Rattle.sheet.specs.Reading.{longest, Stop, andThen, readRows, readHorizon, readEnd, answered};
+ghost use Rattle.sheet.specs.Sections.{readOf};
 ghost use Rattle.sheet.specs.Stage.{Stage, toCome, whole};
 ghost use Rattle.sheet.specs.Reached.{progressOf, Ready};
 use super::Outcome;
 use super::Reached;
 use super::Reading;
-use super::SectionRow;
 use super::Step;
-use crate::row;
-use crate::row::Entry;
-use crate::row::Row;
+use line::Section;
+use line::SectionRow;
+use line::row;
+use line::row::Entry;
+use line::row::Row;
 use network::Network;
 use refusal::Cause;
 use refusal::Refusal;
-
-// The sections behind the horizon, in the order of the sheet.
-pub(crate) enum Section {
-    Events,
-    Signals,
-    Rules,
-}
 
 // The m lines of a section, from line k on, which begins at this place. What a line holds is stored in place: a function of the
 // network by value would copy it at each line.

@@ -3,9 +3,9 @@ use borrow.Author.Needs.{needs}
 use mathlib.Core.Path.{_∙_}
 use mathlib.Core.List.{List}
 use Prim.Native.Nat.{ℕ}
+use Rattle.line.specs.declared.Section.the-variants.{Events, Signals, Rules}
 use Rattle.sheet.specs.Stage.{whole}
 use Rattle.sheet.specs.Reached.{progressOf, Ready}
-use Rattle.sheet.specs.declared.section.Section.the-variants.{Events, Signals, Rules}
 use Rattle.sheet.proofs.WellFormed.{horizon-ready, section-ready}
 use Rattle.sheet.proofs.Sections.{read-too-long, read-whole}
 use Rattle.sheet.proofs.read.Statement.{statement}

@@ -4,9 +4,9 @@ use borrow.Author.Needs.{needs}
 use mathlib.Core.Path.{_≡_, refl, sym, _∙_}
 use mathlib.Core.Logic.{inl, inr}
 use native.Mathlib.Omega.{arith}
+use Rattle.line.specs.Sections.{rowsOf}
+use Rattle.line.specs.Answers.{added}
 use Rattle.sheet.specs.Reading.{readRows}
-use Rattle.sheet.specs.Sections.{rowsOf}
-use Rattle.sheet.specs.Answers.{added}
 use Rattle.sheet.proofs.Turns.{RowsLeft, reads-end}
 use Rattle.sheet.proofs.Lines.{names-in, row-stop, RowTurn, row-turn}
 use Rattle.sheet.proofs.section.read_rows.Statement.{statement}

@@ -1,0 +1,88 @@
+-- Lines and why they are refused, by their fields: refusals 3 to 9, and lines that pass. One table, which one theorem covers by
+-- computation. Assumes nothing.
+use mathlib.Core.Path.{_≡_, refl}
+use mathlib.Core.Bool.{Bool, true, _&&_}
+use mathlib.Core.Option.{Option, none, some}
+use mathlib.Core.List.{List, [], _∷_}
+use Prim.Native.Nat.{ℕ}
+use Prim.Native.String.{String}
+use lib.Dec.{eqb}
+use Rattle.prelude.specs.Bytes.{ascii}
+use Rattle.text.specs.Lines.{fields}
+use Rattle.text.specs.Number.{isNumber, inRange}
+use Rattle.refusal.specs.Refusal.{numberOf}
+use Rattle.refusal.specs.declared.Cause.{Cause}
+use Rattle.network.specs.Limits as L
+use Rattle.network.specs.declared.Network.{Network}
+use Rattle.line.specs.Rows.{sectionRefusal, eventRefusal, signalRefusal, ruleRefusal}
+use Rattle.line.specs.Answers.{partsOf}
+
+-- two events by their names, of which the second gives the signal p
+abbrev names : List ℕ
+names = ascii "startdoor"
+
+abbrev before : Network
+before = partsOf 2 (0 ∷ 5 ∷ []) (5 ∷ 4 ∷ []) 1 (ascii "p") (1 ∷ [])
+
+-- the number of a line's refusal, or 0, and the refusal
+abbrev Example : Type 0
+Example = ℕ × Option Cause
+
+abbrev events : ℕ → String → Example
+events n l = (n, sectionRefusal "events" 1 L.events (fields (ascii l)))
+
+abbrev event : ℕ → String → Example
+event n l = (n, eventRefusal names before (fields (ascii l)))
+
+abbrev signal : ℕ → String → Example
+signal n l = (n, signalRefusal names before (fields (ascii l)))
+
+abbrev rule : ℕ → String → Example
+rule n l = (n, ruleRefusal names before (fields (ascii l)))
+
+abbrev examples : List Example
+examples =
+    -- a section's line
+    events 3 "event,1"
+    ∷ events 4 "events,01"
+    ∷ events 5 "events,0"
+    ∷ events 5 "events,17"
+    ∷ events 0 "events,16"
+    -- an event
+    ∷ event 3 "lock,0"
+    ∷ event 6 "Lock"
+    ∷ event 7 "door"
+    ∷ event 0 "lock"
+    -- a signal; two faults: the lowest number
+    ∷ signal 3 "q"
+    ∷ signal 6 "pq,door"
+    ∷ signal 7 "p,start"
+    ∷ signal 7 "q,door"
+    ∷ signal 8 "q,lock"
+    ∷ signal 7 "p,lock"
+    ∷ signal 0 "q,start"
+    -- a rule; two faults: the lowest number
+    ∷ rule 3 "most,start,door,5,-"
+    ∷ rule 4 "max,start,door,-0,-"
+    ∷ rule 5 "max,start,door,10081,-"
+    ∷ rule 6 "max,start,door,5,p!"
+    ∷ rule 8 "max,start,lock,5,-"
+    ∷ rule 8 "max,start,door,5,q"
+    ∷ rule 9 "max,start,door,5,p!p"
+    ∷ rule 8 "max,start,door,5,ppq"
+    ∷ rule 0 "min,door,start,-10080,!p"
+    -- a rule from an event to itself
+    ∷ rule 0 "max,start,start,0,-"
+    ∷ []
+
+abbrev number : Option Cause → ℕ
+number none = 0
+number (some c) = numberOf c
+
+abbrev allAre : List Example → Bool
+allAre [] = true
+allAre (x ∷ xs) = eqb (number (x .1)) (x .0) && allAre xs
+
+pub examples-are : allAre examples ≡ true
+unfolding isNumber inRange sectionRefusal eventRefusal signalRefusal ruleRefusal
+examples-are = refl

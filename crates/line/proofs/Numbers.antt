@@ -1,0 +1,155 @@
+-- Laws of numbers in fields: what reading one says of its bytes, of the ranges of counts, and of limits with their signs.
+-- Assumes nothing.
+use mathlib.Core.Path.{_≡_, refl, _∙_}
+use mathlib.Core.Logic.{inl, inr}
+use mathlib.Core.Bool.{Bool, true, false, cond, and-false}
+use mathlib.Core.Option.{Option, none, some}
+use mathlib.Core.List.{List, [], _∷_}
+use Prim.Native.Nat.{ℕ, zero, suc, _+_, _≤_, _<_, min}
+use native.Mathlib.Omega.{arith}
+use borrow.Author.Tests.{le-leb, lt-leb}
+use lib.IntN.{pos, negℤ, _-ℤ_, +ℤ-idl}
+use mir.Syntax.{w32}
+use mir.Val.{SFits, toZ, ofZ}
+use mir.ValLaws.{toZ-pos, toZ-ofZ}
+use Rattle.prelude.specs.Checks.{firstFailing}
+use Rattle.prelude.proofs.Tests.{lt-or-ge, by-cond}
+use Rattle.text.specs.Number.{isNumber, isNegative, inRange, magnitude, valueOf}
+use Rattle.text.specs.ReadNumber.{capped, numberOf}
+use Rattle.text.specs.declared.Number.the-variants as Num
+use Rattle.refusal.specs.declared.Cause.{Cause}
+use Rattle.refusal.specs.declared.Cause.the-variants as C
+use Rattle.network.specs.Limits as L
+use Rattle.line.specs.Answers.{limitOf}
+use Rattle.line.specs.declared.Limit.the-variants as M
+
+-- what a number that was read says of its bytes
+pub record ReadAs (most : ℕ) (f : List ℕ) (negative : Bool) (v : ℕ) : Type 0 where
+  pub well-formed : isNumber f ≡ true
+  pub sign : isNegative f ≡ negative
+  pub size : min (magnitude f) (most + 1) ≡ v
+
+by-ill : (k m : Bool) (a : ℕ) → cond k (cond m (Num.Minus a) (Num.Plus a)) Num.IllFormed ≡ Num.IllFormed → k ≡ false
+by-ill false m a e = refl
+by-ill true true a e = absurd (let z : _≡_ {A = ℕ} 0 1 = cc in omega arith)
+by-ill true false a e = absurd (let z : _≡_ {A = ℕ} 0 1 = cc in omega arith)
+
+by-plus : (k m : Bool) (a v : ℕ) → cond k (cond m (Num.Minus a) (Num.Plus a)) Num.IllFormed ≡ Num.Plus v
+    → (k ≡ true) × (m ≡ false) × (a ≡ v)
+by-plus false m a v e = absurd (let z : _≡_ {A = ℕ} 0 1 = cc in omega arith)
+by-plus true true a v e = absurd (let z : _≡_ {A = ℕ} 0 1 = cc in omega arith)
+by-plus true false a v e = (refl, refl, cc)
+
+by-minus : (k m : Bool) (a v : ℕ) → cond k (cond m (Num.Minus a) (Num.Plus a)) Num.IllFormed ≡ Num.Minus v
+    → (k ≡ true) × (m ≡ true) × (a ≡ v)
+by-minus false m a v e = absurd (let z : _≡_ {A = ℕ} 0 1 = cc in omega arith)
+by-minus true true a v e = (refl, refl, cc)
+by-minus true false a v e = absurd (let z : _≡_ {A = ℕ} 0 1 = cc in omega arith)
+
+module _ (most : ℕ) (f : List ℕ) where
+  pub number-ill : numberOf most f ≡ Num.IllFormed → isNumber f ≡ false
+  unfolding numberOf
+  number-ill e = by-ill (isNumber f) (isNegative f) (capped most (magnitude f)) e
+
+  pub number-plus : (v : ℕ) → numberOf most f ≡ Num.Plus v → ReadAs most f false v
+  unfolding numberOf
+  number-plus v e =
+      let w = by-plus (isNumber f) (isNegative f) (capped most (magnitude f)) v e in
+      record { well-formed = w .0; sign = w .1; size = w .2 }
+
+  pub number-minus : (v : ℕ) → numberOf most f ≡ Num.Minus v → ReadAs most f true v
+  unfolding numberOf
+  number-minus v e =
+      let w = by-minus (isNumber f) (isNegative f) (capped most (magnitude f)) v e in
+      record { well-formed = w .0; sign = w .1; size = w .2 }
+
+-- the count of a section
+module _ (lo hi : ℕ) (f : List ℕ) where
+  abbrev pub countTests : Option Cause
+  countTests = firstFailing ((isNumber f, C.IllFormedNumber) ∷ (inRange lo hi f, C.OutOfRange) ∷ [])
+
+  pub count-ill : numberOf hi f ≡ Num.IllFormed → countTests ≡ some C.IllFormedNumber
+  count-ill e = rw (number-ill hi f e)
+
+  out-of-range : isNumber f ≡ true → inRange lo hi f ≡ false → countTests ≡ some C.OutOfRange
+  out-of-range e n = rw (e, n)
+
+  pub count-minus : (v : ℕ) → numberOf hi f ≡ Num.Minus v → countTests ≡ some C.OutOfRange
+  unfolding inRange
+  count-minus v e = let w = number-minus hi f v e in out-of-range (w .well-formed) (rw (w .sign))
+
+  pub count-low : (v : ℕ) → numberOf hi f ≡ Num.Plus v → v < lo → countTests ≡ some C.OutOfRange
+  unfolding inRange
+  count-low v e h =
+      let w = number-plus hi f v e in
+      let size = w .size in
+      elim (lt-or-ge (magnitude f) lo) [
+        | inl p ↦ out-of-range (w .well-formed) (rw (lt-leb lo (magnitude f) p, and-false))
+        | inr p ↦ out-of-range (w .well-formed) (rw (lt-leb (magnitude f) hi (omega arith), and-false, and-false))
+      ]
+
+  pub count-high : (v : ℕ) → numberOf hi f ≡ Num.Plus v → hi < v → countTests ≡ some C.OutOfRange
+  unfolding inRange
+  count-high v e h =
+      let w = number-plus hi f v e in
+      let size = w .size in
+      out-of-range (w .well-formed) (rw (lt-leb (magnitude f) hi (omega arith), and-false, and-false))
+
+  pub count-in : (v : ℕ) → numberOf hi f ≡ Num.Plus v → lo ≤ v → v ≤ hi → (countTests ≡ none) × (magnitude f ≡ v)
+  unfolding inRange
+  count-in v e l h =
+      let w = number-plus hi f v e in
+      let size = w .size in (
+        rw (w .well-formed, le-leb lo (magnitude f) (omega arith), le-leb (magnitude f) hi (omega arith), w .sign),
+        omega arith,
+      )
+
+-- a size as an i32, with either sign
+pub signed-plus : (v : ℕ) → v ≤ L.horizon → toZ w32 v ≡ pos v
+signed-plus v h = toZ-pos w32 v (omega arith)
+
+negated : (v : ℕ) → v ≤ L.horizon → pos 0 -ℤ toZ w32 v ≡ negℤ (pos v)
+negated v h = rw (signed-plus v h) (+ℤ-idl (negℤ (pos v)))
+
+negative-fits : (v : ℕ) → v ≤ L.horizon → SFits w32 (negℤ (pos v))
+negative-fits zero h = record { sfits = omega arith }
+negative-fits (suc v) h = record { sfits = omega arith }
+
+positive-fits : (v : ℕ) → v ≤ L.horizon → SFits w32 (pos v)
+positive-fits v h = record { sfits = omega arith }
+
+-- a limit fits an i32
+pub value-fits : (f : List ℕ) → magnitude f ≤ L.horizon → SFits w32 (valueOf f)
+value-fits f h =
+    by-cond (SFits w32) (isNegative f) (negℤ (pos (magnitude f))) (pos (magnitude f))
+    (λ e. negative-fits (magnitude f) h) (λ e. positive-fits (magnitude f) h)
+
+pub negated-fits : (v : ℕ) → v ≤ L.horizon → SFits w32 (pos 0 -ℤ toZ w32 v)
+negated-fits v h = rw (negated v h) (negative-fits v h)
+
+pub signed-minus : (v : ℕ) → v ≤ L.horizon → toZ w32 (ofZ w32 (pos 0 -ℤ toZ w32 v)) ≡ negℤ (pos v)
+signed-minus v h = toZ-ofZ w32 (pos 0 -ℤ toZ w32 v) (negated-fits v h) ∙ negated v h
+
+-- the limit of a rule
+module _ (f : List ℕ) where
+  pub limit-ill : numberOf L.horizon f ≡ Num.IllFormed → limitOf f ≡ M.IllFormed
+  unfolding limitOf
+  limit-ill e = rw (number-ill L.horizon f e)
+
+  pub limit-beyond : (s : Bool) (v : ℕ) → ReadAs L.horizon f s v → L.horizon < v → limitOf f ≡ M.Beyond
+  unfolding limitOf
+  limit-beyond s v w h = let size = w .size in rw (w .well-formed, lt-leb (magnitude f) L.horizon (omega arith))
+
+  pub limit-plus : (v : ℕ) → ReadAs L.horizon f false v → v ≤ L.horizon → limitOf f ≡ M.Minutes (pos v)
+  unfolding limitOf
+  limit-plus v w h =
+      let size = w .size in
+      let e : magnitude f ≡ v = omega arith in
+      rw (w .well-formed, le-leb (magnitude f) L.horizon (omega arith), e, w .sign)
+
+  pub limit-minus : (v : ℕ) → ReadAs L.horizon f true v → v ≤ L.horizon → limitOf f ≡ M.Minutes (negℤ (pos v))
+  unfolding limitOf
+  limit-minus v w h =
+      let size = w .size in
+      let e : magnitude f ≡ v = omega arith in
+      rw (w .well-formed, le-leb (magnitude f) L.horizon (omega arith), e, w .sign)

@@ -1,0 +1,78 @@
+-- The three words are tried in the order of the definition. Assumes nothing.
+use borrow.Author.Needs.{needs}
+use mathlib.Core.Path.{sym, _∙_}
+use Rattle.line.specs.Rows.{kindOf}
+use Rattle.line.proofs.field.kind_of.Statement.{statement}
+use Rattle.line.proofs.field.kind_of.Tie as tie
+
+slice-aggregate-equal : tie.Need-slice-aggregate-equal
+slice-aggregate-equal c = search needs
+
+equal-requires : tie.Need-equal-requires
+equal-requires c κs = search needs
+
+returns : tie.Need-returns
+returns c = sym (rw (sym (c .before .equal .ensures) ∙ c .if1 .taken, kindOf))
+
+slice-aggregate-equal-2 : tie.Need-slice-aggregate-equal-2
+slice-aggregate-equal-2 c = search needs
+
+equal-requires-2 : tie.Need-equal-requires-2
+equal-requires-2 c κs = search needs
+
+returns-2 : tie.Need-returns-2
+returns-2 c =
+    let equal = c .before .before .before .before .equal in
+    sym (rw (
+      sym (equal .ensures) ∙ c .before .before .before .if1 .left,
+      sym (c .before .equal2 .ensures) ∙
+          c .if2 .taken,
+      kindOf,
+    ))
+
+slice-aggregate-equal-3 : tie.Need-slice-aggregate-equal-3
+slice-aggregate-equal-3 c = search needs
+
+equal-requires-3 : tie.Need-equal-requires-3
+equal-requires-3 c κs = search needs
+
+returns-3 : tie.Need-returns-3
+returns-3 c =
+    let equal = c .before .before .before .before .before .before .before .equal in
+    let if1 = c .before .before .before .before .before .before .if1 in
+    let equal2 = c .before .before .before .before .equal2 in
+    sym (rw (
+      sym (equal .ensures) ∙ if1 .left,
+      sym (equal2 .ensures) ∙ c .before .before .before .if2 .left,
+      sym
+          (c .before .equal3 .ensures) ∙ c .if3 .taken,
+      kindOf,
+    ))
+
+returns-4 : tie.Need-returns-4
+returns-4 c =
+    let equal = c .before .before .before .before .before .before .before .equal in
+    let if1 = c .before .before .before .before .before .before .if1 in
+    let equal2 = c .before .before .before .before .equal2 in
+    sym (rw (
+      sym (equal .ensures) ∙ if1 .left,
+      sym (equal2 .ensures) ∙ c .before .before .before .if2 .left,
+      sym
+          (c .before .equal3 .ensures) ∙ c .if3 .left,
+      kindOf,
+    ))
+
+pub kind-of-spec : {M : Type 1} → statement M
+kind-of-spec =
+    tie.close
+    (tie.spec
+    slice-aggregate-equal
+    equal-requires
+    returns
+    slice-aggregate-equal-2
+    equal-requires-2
+    returns-2
+    slice-aggregate-equal-3
+    equal-requires-3
+    returns-3
+    returns-4)

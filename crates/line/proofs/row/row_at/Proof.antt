@@ -1,0 +1,98 @@
+-- The line ends at the first line feed, or is missing where there is none; what stands before it is read as a line of its section.
+-- Assumes nothing.
+use borrow.Author.Needs.{needs}
+use mathlib.Core.Path.{sym, _∙_}
+use lib.ListN.{take}
+use lib.Seq.{length-take-le}
+use Rattle.line.specs.Answers.{partsOf}
+use Rattle.line.specs.declared.Section.the-variants.{Events, Signals, Rules}
+use Rattle.line.proofs.Refusals.{line-missing, line-le}
+use Rattle.line.proofs.Answered.{event-parts, rule-parts, row-ends}
+use Rattle.line.proofs.row.row_at.Statement.{statement}
+use Rattle.line.proofs.row.row_at.Tie as tie
+
+until-requires : tie.Need-until-requires
+until-requires c κs = search needs
+
+returns : tie.Need-returns
+returns c =
+    let args = c .before .before .before .before .args in
+    let until = c .before .until in
+    sym (rw (line-missing (args .rest .now) (until .result) (until .ensures) (c .if1 .taken)))
+
+slice-aggregate-line : tie.Need-slice-aggregate-line
+slice-aggregate-line c =
+    let args = c .before .before .before .before .before .args in
+    let until = c .before .before .until in
+    sym (length-take-le (until .result) (args .rest .now)
+    (line-le (args .rest .now) (until .result) (until .ensures)))
+
+enum-told : tie.Need-enum-told
+enum-told c = search needs
+
+event-fields-requires : tie.Need-event-fields-requires
+event-fields-requires c κs = search needs
+
+enum-told-2 : tie.Need-enum-told-2
+enum-told-2 c = search needs
+
+signal-fields-requires : tie.Need-signal-fields-requires
+signal-fields-requires c κs = search needs
+
+enum-told-3 : tie.Need-enum-told-3
+enum-told-3 c = search needs
+
+rule-fields-requires : tie.Need-rule-fields-requires
+rule-fields-requires c κs = search needs
+
+returns-2 : tie.Need-returns-2
+returns-2 c =
+    let args = c .before .before .before .before .before .before .before .before .args in
+    let until = c .before .before .before .before .before .until in
+    let Γ = partsOf (args .n) (args .starts .now) (args .lengths .now) (args .k) (args .letters .now)
+    (args .observations .now) in
+    rw (c .before .enum-told .given .1)
+    (c .event-fields .ensures
+    ∙ event-parts (args .sheet .now) Γ (take (until .result) (args .rest .now))
+    ∙ row-ends (args .sheet .now) Γ (args .rest .now) (until .result) (until .ensures)
+    (c .before .before .before .before .if1 .left) Events)
+
+returns-3 : tie.Need-returns-3
+returns-3 c =
+    let args = c .before .before .before .before .before .before .before .before .args in
+    let until = c .before .before .before .before .before .until in
+    let Γ = partsOf (args .n) (args .starts .now) (args .lengths .now) (args .k) (args .letters .now)
+    (args .observations .now) in
+    rw (c .before .enum-told2 .given .1)
+    (c .signal-fields .ensures
+    ∙ row-ends (args .sheet .now) Γ (args .rest .now) (until .result) (until .ensures)
+    (c .before .before .before .before .if1 .left) Signals)
+
+returns-4 : tie.Need-returns-4
+returns-4 c =
+    let args = c .before .before .before .before .before .before .before .before .args in
+    let until = c .before .before .before .before .before .until in
+    let Γ = partsOf (args .n) (args .starts .now) (args .lengths .now) (args .k) (args .letters .now)
+    (args .observations .now) in
+    rw (c .before .enum-told3 .given .1)
+    (c .rule-fields .ensures
+    ∙ rule-parts (args .sheet .now) Γ (take (until .result) (args .rest .now))
+    ∙ row-ends (args .sheet .now) Γ (args .rest .now) (until .result) (until .ensures)
+    (c .before .before .before .before .if1 .left) Rules)
+
+pub row-at-spec : {M : Type 1} → statement M
+row-at-spec =
+    tie.close
+    (tie.spec
+    until-requires
+    returns
+    slice-aggregate-line
+    enum-told
+    event-fields-requires
+    enum-told-2
+    signal-fields-requires
+    enum-told-3
+    rule-fields-requires
+    returns-2
+    returns-3
+    returns-4)

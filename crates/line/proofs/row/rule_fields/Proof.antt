@@ -1,0 +1,176 @@
+-- Count, kind and limit are tested in the order of `ruleRefusal`; the ends and the label follow. Assumes nothing.
+use borrow.Author.Needs.{needs}
+use mathlib.Core.Path.{_≡_, sym, _∙_, ap}
+use mathlib.Core.Option.{some}
+use mathlib.Core.List.{List, []}
+use Prim.Native.Nat.{ℕ}
+use lib.IntN.{ℤ}
+use lib.ListN.{length}
+use Rattle.text.specs.Lines.{fields, field}
+use Rattle.network.specs.declared.Network.{Network}
+use Rattle.line.specs.Answers.{endsAnswer, partsOf, kindFound, limitOf}
+use Rattle.line.specs.Rows.{kindOf}
+use Rattle.line.proofs.Refusals.{limit-fits, ends-row, rule-count, rule-other, rule-ill}
+use Rattle.line.proofs.Refusals.{rule-beyond, kind-some, kind-none, limit-minutes, limit-over, limit-none}
+use Rattle.line.proofs.row.rule_fields.Statement.{statement}
+use Rattle.line.proofs.row.rule_fields.Tie as tie
+
+-- the network by its parts
+abbrev parts : tie.Start → Network
+parts d = partsOf (d .args .n) (d .args .starts .now) (d .args .lengths .now) (d .args .k) (d .args .letters .now) []
+
+abbrev parted : tie.Start → List (List ℕ)
+parted d = fields (d .args .line .now)
+
+cut-requires : tie.Need-cut-requires
+cut-requires c κs = search needs
+
+returns : tie.Need-returns
+returns c =
+    let d = c .before .before .before .before .before in
+    sym (rw (rule-count (d .args .sheet .now) (parts d) (parted d)
+    (λ h. c .if1 .taken (c .before .before .cut .ensures .counted ∙ h))))
+
+field-requires : tie.Need-field-requires
+field-requires c κs = search needs
+
+kind-of-requires : tie.Need-kind-of-requires
+kind-of-requires c κs = search needs
+
+enum-known-found : tie.Need-enum-known-found
+enum-known-found c = search needs
+
+enum-told : tie.Need-enum-told
+enum-told c = search needs
+
+-- where the function begins, seen from where the kind is known
+abbrev start : tie.After-kind-of → tie.Start
+start d = d .before .before .before .before .before .before .before
+
+-- the kind that was found is that of the first field, and the line has five
+kind-is : (d : tie.After-kind-of) → kindFound (kindOf (field 0 (parted (start d)))) ≡ d .kind-of .result
+kind-is d =
+    ap (λ (f : List ℕ). kindFound (kindOf f)) (sym (d .before .field .ensures .text)) ∙ sym (d .kind-of .ensures)
+
+abbrev kind-at : tie.After-known-told → tie.After-kind-of
+kind-at d = d .before .before .before
+
+kind : (d : tie.After-known-told) → kindOf (field 0 (parted (start (kind-at d)))) ≡ some (d .before .found .given .0 .0)
+kind d =
+    let found = d .before .found in
+    kind-some (kindOf (field 0 (parted (start (kind-at d))))) (found .given .0 .0) (kind-is (kind-at d) ∙ found .given .1)
+
+five : (d : tie.After-known-told) → length (parted (start (kind-at d))) ≡ 5
+five d =
+    sym (d .before .before .before .before .before .before .before .cut .ensures .counted)
+    ∙ d .before .before .before .before .before .if1 .left
+
+returns-2 : tie.Need-returns-2
+returns-2 c =
+    let d = c .before .before in
+    let fs = parted (start d) in
+    let other = kind-none (kindOf (field 0 fs)) (kind-is d ∙ c .enum-told .given .1) in
+    sym (rw (rule-other (start d .args .sheet .now) (parts (start d)) fs other))
+
+field-requires-2 : tie.Need-field-requires-2
+field-requires-2 c κs = search needs
+
+limit-of-requires : tie.Need-limit-of-requires
+limit-of-requires c κs = search needs
+
+enum-told-2 : tie.Need-enum-told-2
+enum-told-2 c = search needs
+
+enum-told-3 : tie.Need-enum-told-3
+enum-told-3 c = search needs
+
+enum-known-limit : tie.Need-enum-known-limit
+enum-known-limit c = search needs
+
+field-requires-3 : tie.Need-field-requires-3
+field-requires-3 c κs = search needs
+
+field-requires-4 : tie.Need-field-requires-4
+field-requires-4 c κs = search needs
+
+field-requires-5 : tie.Need-field-requires-5
+field-requires-5 c κs = search needs
+
+rule-ends-requires : tie.Need-rule-ends-requires
+rule-ends-requires c κs = search needs
+
+-- where the kind is known, seen from where the limit is
+abbrev told-at : tie.After-limit-of → tie.After-known-told
+told-at d = d .before .before
+
+abbrev begun : tie.After-limit-of → tie.Start
+begun d = start (kind-at (told-at d))
+
+limit-is : (d : tie.After-limit-of) → limitOf (field 3 (parted (begun d))) ≡ d .limit-of .result
+limit-is d = ap limitOf (sym (d .before .field2 .ensures .text)) ∙ sym (d .limit-of .ensures)
+
+returns-3 : tie.Need-returns-3
+returns-3 c =
+    let d = c .before .before in
+    let fs = parted (begun d) in
+    let told = told-at d in
+    let ill = limit-none (field 3 fs) (limit-is d ∙ c .enum-told2 .given .1) in
+    sym (rw (rule-ill (begun d .args .sheet .now) (parts (begun d)) fs (told .before .found .given .0 .0) (five told)
+    (kind told) ill))
+
+returns-4 : tie.Need-returns-4
+returns-4 c =
+    let d = c .before .before in
+    let fs = parted (begun d) in
+    let told = told-at d in
+    let over = limit-over (field 3 fs) (limit-is d ∙ c .enum-told3 .given .1) in
+    sym (rw (rule-beyond (begun d .args .sheet .now) (parts (begun d)) fs (told .before .found .given .0 .0) (five told)
+    (kind told) (over .0) (over .1)))
+
+returns-5 : tie.Need-returns-5
+returns-5 c =
+    let d = c .before .before .before .before .before .before .before in
+    let told = told-at d in
+    let field3 = c .before .before .before .field3 in
+    let field4 = c .before .before .field4 in
+    let field5 = c .before .field5 in
+    let was-limit = c .before .before .before .before .before .limit in
+    let sheet = begun d .args .sheet .now in
+    let Γ = parts (begun d) in
+    let fs = parted (begun d) in
+    let k = told .before .found .given .0 .0 in
+    let z = was-limit .given .0 .0 in
+    let n = length (begun d .args .line .now) in
+    let limit = limit-minutes (field 3 fs) z (limit-is d ∙ was-limit .given .1) in
+    c .rule-ends .ensures
+    ∙ ap (λ (y : ℤ). endsAnswer sheet Γ (field3 .result .now) (field4 .result .now) (field5 .result .now) k y n)
+    (limit-fits (field 3 fs) z limit)
+    ∙ ap (λ (f : List ℕ). endsAnswer sheet Γ f (field4 .result .now) (field5 .result .now) k z n)
+    (field3 .ensures .text)
+    ∙ ap (λ (f : List ℕ). endsAnswer sheet Γ (field 1 fs) f (field5 .result .now) k z n) (field4 .ensures .text)
+    ∙ ap (λ (f : List ℕ). endsAnswer sheet Γ (field 1 fs) (field 2 fs) f k z n) (field5 .ensures .text)
+    ∙ ends-row sheet Γ fs k z n (five told) (kind told) limit
+
+pub rule-fields-spec : {M : Type 1} → statement M
+rule-fields-spec =
+    tie.close
+    (tie.spec
+    cut-requires
+    returns
+    field-requires
+    kind-of-requires
+    enum-known-found
+    enum-told
+    returns-2
+    field-requires-2
+    limit-of-requires
+    enum-told-2
+    enum-told-3
+    enum-known-limit
+    field-requires-3
+    field-requires-4
+    field-requires-5
+    rule-ends-requires
+    returns-3
+    returns-4
+    returns-5)

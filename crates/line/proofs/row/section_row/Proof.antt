@@ -1,0 +1,43 @@
+-- The line ends at the first line feed, or is missing where there is none. Assumes nothing.
+use borrow.Author.Needs.{needs}
+use mathlib.Core.Path.{sym, _∙_}
+use lib.Seq.{length-take-le}
+use Rattle.line.proofs.Refusals.{line-missing, line-ends, line-le, line-is}
+use Rattle.line.proofs.row.section_row.Statement.{statement}
+use Rattle.line.proofs.row.section_row.Tie as tie
+
+until-requires : tie.Need-until-requires
+until-requires c κs = search needs
+
+returns : tie.Need-returns
+returns c =
+    let args = c .before .before .before .before .args in
+    let until = c .before .until in
+    sym (rw (line-missing (args .rest .now) (until .result) (until .ensures) (c .if1 .taken)))
+
+slice-aggregate-section-fields : tie.Need-slice-aggregate-section-fields
+slice-aggregate-section-fields c =
+    let args = c .before .before .before .before .before .args in
+    let until = c .before .before .until in
+    sym (length-take-le (until .result) (args .rest .now)
+    (line-le (args .rest .now) (until .result) (until .ensures)))
+
+section-fields-requires : tie.Need-section-fields-requires
+section-fields-requires c κs = search needs
+
+returns-2 : tie.Need-returns-2
+returns-2 c =
+    let args = c .before .before .before .before .before .before .args in
+    let until = c .before .before .before .until in
+    rw (line-ends (args .rest .now) (until .result) (until .ensures) (c .before .before .if1 .left))
+    (c .section-fields .ensures ∙ rw (line-is (args .rest .now) (until .result) (until .ensures)))
+
+pub section-row-spec : {M : Type 1} → statement M
+section-row-spec =
+    tie.close
+    (tie.spec
+    until-requires
+    returns
+    slice-aggregate-section-fields
+    section-fields-requires
+    returns-2)
