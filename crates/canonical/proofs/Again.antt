@@ -27,7 +27,7 @@ use Rattle.canonical.proofs.Faithful.{faithful, names-held, signals-hel
 use Rattle.canonical.proofs.Keeping.{labels-few, house-keeps}
 use Rattle.canonical.proofs.Short.{length-text}
 use Rattle.canonical.proofs.Back.{rows-back, agrees-back}
-use Rattle.canonical.proofs.Likeness.{house-same, text-same}
+use Rattle.canonical.proofs.Likeness.{text-same}
 
 -- the form is the text of what it contains
 text-is : (sheet : List ℕ) (Γ : Network) → houseText sheet Γ ≡ textOf (houseOf sheet Γ)
@@ -81,9 +81,6 @@ module _ (sheet : List ℕ) (a : read sheet .outcome ≡ Accepted) (few : length
     signals = signals-held form-contains;
     rows = form-remaining;
   }
-
-  pub form-house : houseOf form Δ ≡ houseOf sheet Γ
-  form-house = house-same form-same (faithful form form-accepted)
 
   pub form-again : houseText form Δ ≡ form
   form-again = text-same form-same (faithful form form-accepted)

@@ -16,9 +16,8 @@ use Rattle.network.specs.declared.Constraint.{Constraint}
 use Rattle.network.specs.declared.Network.{Network}
 use Rattle.layout.specs.Layout.{Signal, textOf}
 use Rattle.tighten.specs.Tightest.{remainingOf}
-use Rattle.canonical.specs.House.{literalAt, literalsOf, signalAt, asRule, houseOf, houseText}
+use Rattle.canonical.specs.House.{literalBy, literalAt, literalsOf, signalAt, asRule, houseOf, houseText}
 use Rattle.canonical.specs.Same.{Same}
-use Rattle.canonical.proofs.Signs.{literalBy}
 use Rattle.canonical.proofs.Faithful.{Faithful}
 use Rattle.canonical.proofs.Keeping.{Row, remaining-rows}
 

@@ -2,13 +2,11 @@
 -- Assumes nothing.
 use mathlib.Core.Path.{_≡_, refl, _∙_, ap}
 use mathlib.Core.Bool.{Bool, true, false}
-use mathlib.Core.Option.{some}
 use mathlib.Core.List.{List, [], _∷_, _++_}
 use Prim.Native.Nat.{ℕ, zero, suc}
 use native.Mathlib.Omega.{arith}
 use lib.ListN.{length, length-append}
 use Rattle.prelude.specs.Bytes.{ascii}
-use Rattle.prelude.specs.Search.{when}
 use Rattle.prelude.specs.Gather.{ahead, gatherFrom}
 use Rattle.page.specs.Joined.{joinFrom}
 use Rattle.network.specs.Build.{letter}
@@ -17,8 +15,7 @@ use Rattle.network.specs.declared.Label.{Label}
 use Rattle.network.specs.declared.Network.{Network}
 use Rattle.names.specs.Names.{Literal}
 use Rattle.layout.specs.Layout.{signText, literalsText, labelText}
-use Rattle.canonical.specs.House.{literal, literalAt, literalsOf}
-use Rattle.canonical.specs.Parts.{literalText}
+use Rattle.canonical.specs.House.{literalBy, literalAt, literalsOf}
 
 -- the letters of a label have no text only where there are none
 some-text : (l : Literal) (ls : List Literal) → length (literalsText (l ∷ ls)) ≡ 0 → ⊥
@@ -34,9 +31,7 @@ labelText-some (l ∷ ls) h = refl
 
 -- one letter, before others
 literal-first : (b : ℕ) (positive negative : Bool) (ls : List Literal)
-    → literalsText
-    (ahead (elim positive [ true ↦ some (literal b true) | false ↦ when negative (literal b false) ]) ls)
-    ≡ literalText b positive negative ++ literalsText ls
+    → literalsText (ahead (literalBy b positive negative) ls) ≡ literalsText (ahead (literalBy b positive negative) []) ++ literalsText ls
 literal-first b true negative ls = refl
 literal-first b false true ls = refl
 literal-first b false false ls = refl
@@ -44,7 +39,7 @@ literal-first b false false ls = refl
 module _ (Γ : Network) (ℓ : Label) where
   -- what is written for signal p
   abbrev pub literalTextAt : ℕ → List ℕ
-  literalTextAt p = literalText (letter Γ p) (truth (ℓ .positive) p) (truth (ℓ .negative) p)
+  literalTextAt p = literalsText (ahead (literalAt Γ ℓ p) [])
 
   literals-join : (i n : ℕ) → literalsText (gatherFrom i n (literalAt Γ ℓ)) ≡ joinFrom i n literalTextAt
   literals-join i zero = refl

@@ -3,14 +3,13 @@
 -- label asks for with it, signal by signal. Assumes nothing.
 use mathlib.Core.Path.{_≡_, refl, sym, _∙_, ap}
 use mathlib.Core.Bool.{Bool, true, false, cond}
-use mathlib.Core.Option.{Option, some}
+use mathlib.Core.Option.{some}
 use mathlib.Core.List.{List, []}
 use Prim.Native.Nat.{ℕ, zero, suc, _^_, _≤_, _<_}
 use native.Mathlib.Omega.{arith}
 use lib.ListN.{length, getD, length-map, List·getD-map}
 use Rattle.prelude.specs.Bounded.{sumBelow}
 use Rattle.prelude.specs.Gather.{ahead, gather}
-use Rattle.prelude.specs.Search.{when}
 use Rattle.prelude.specs.Lists.{In, Distinct, Each}
 use Rattle.prelude.proofs.Tests.{clash}
 use Rattle.prelude.proofs.Lists.{distinct-of-later}
@@ -25,7 +24,7 @@ use Rattle.names.specs.Names.{Literal, lettersOf}
 use Rattle.names.specs.Defined.{weight, weights, maskOf}
 use Rattle.names.proofs.Apart.{Apart}
 use Rattle.names.proofs.Sums.{weight-of, weights-append, weightIn, truths-sum}
-use Rattle.canonical.specs.House.{literal, literalAt, literalsOf}
+use Rattle.canonical.specs.House.{literal, literalBy, literalAt, literalsOf}
 
 -- k signals of the network have these letters, which are distinct
 pub record LettersAre (Γ : Network) (k : ℕ) (bs : List ℕ) : Type 0 where
@@ -34,10 +33,6 @@ pub record LettersAre (Γ : Network) (k : ℕ) (bs : List ℕ) : Type 0 where
   pub few : k ≤ L.signals
   pub are : (p : ℕ) → p < k → letter Γ p ≡ getD bs p 0
   pub once : Distinct bs 0
-
--- what a label asks of a letter b, by whether it asks that it is true and whether that it is false
-abbrev pub literalBy : ℕ → Bool → Bool → Option Literal
-literalBy b s t = elim s [ true ↦ some (literal b true) | false ↦ when t (literal b false) ]
 
 letter-by : (b : ℕ) (s t : Bool) (l : Literal) → literalBy b s t ≡ some l → l .letter ≡ b
 letter-by b true t l e = cc

@@ -21,14 +21,15 @@ use Rattle.tighten.specs.Tightest.{remainingOf}
 abbrev pub literal : ℕ → Bool → Literal
 literal b v = record { letter = b; value = v }
 
+-- what a label asks of the letter b, if it does: by whether it asks that it is true, and whether that it is false
+abbrev pub literalBy : ℕ → Bool → Bool → Option Literal
+literalBy b true negative = some (literal b true)
+literalBy b false negative = when negative (literal b false)
+
 module _ (Γ : Network) (ℓ : Label) where
   -- what the label asks of signal p, if it does
   abbrev pub literalAt : ℕ → Option Literal
-  literalAt p =
-      elim (truth (ℓ .positive) p) [
-        | true ↦ some (literal (letter Γ p) true)
-        | false ↦ when (truth (ℓ .negative) p) (literal (letter Γ p) false)
-      ]
+  literalAt p = literalBy (letter Γ p) (truth (ℓ .positive) p) (truth (ℓ .negative) p)
 
   -- its letters in signal order
   abbrev pub literalsOf : List Literal

@@ -1,5 +1,4 @@
--- Read in this order: the form; when two are the same; a part of it; how long each part is at most.
+-- Read in this order: the form; when two are the same; how long each part is at most.
 pub mod House
 pub mod Same
-pub mod Parts
 pub mod Most

@@ -5,17 +5,17 @@ ghost use mathlib.Core.Bool.{true};
 ghost use mathlib.Core.List.{[], _∷_, map};
 ghost use Prim.Native.Nat.{_+_, _≤_, _<_};
 ghost use lib.ListN.{length};
+ghost use Rattle.prelude.specs.Gather.{ahead};
 ghost use Rattle.text.specs.Lines.{comma};
 ghost use Rattle.text.specs.Decimal.{decimal};
 ghost use Rattle.page.specs.Appended.{Appended};
 ghost use Rattle.page.specs.Written.{WrittenIs};
 ghost use Rattle.network.specs.Build.{nameOf};
 ghost use Rattle.network.specs.WellFormed.{InLimits, Proper, WellFormed, Named};
-ghost use Rattle.layout.specs.Layout.{line, section, signalLine, ruleLine, signedText, labelText};
+ghost use Rattle.layout.specs.Layout.{line, section, signalLine, ruleLine, signedText, literalsText, labelText};
 ghost use Rattle.tighten.specs.Tightest.{remainingOf};
 ghost use Rattle.tighten.specs.Held.{RowsAre};
-ghost use Rattle.canonical.specs.House.{literalsOf, namesOf, signalsOf, asRule, houseText};
-ghost use Rattle.canonical.specs.Parts.{literalText};
+ghost use Rattle.canonical.specs.House.{literalBy, literalsOf, namesOf, signalsOf, asRule, houseText};
 ghost use Rattle.canonical.specs.Most.{mostCount, mostEvents, mostSignals, mostLabel, mostRule, mostRules};
 use network::Constraint;
 use network::Label;
@@ -91,7 +91,8 @@ fn push_limit(page: &mut [u8], at: usize, bound: i32) -> usize
 // What a label asks of one letter, if it does.
 fn push_literal(page: &mut [u8], at: usize, letter: u8, positive: bool, negative: bool) -> usize
     requires { ⌜ at + 2 ≤ length (now page) ⌝ }
-    ensures { λ r. ⌜ Appended 2 (now (page .entry)) at (literalText letter positive negative) (now (page .exit)) r ⌝ }
+    ensures { λ r. ⌜ Appended 2 (now (page .entry)) at
+        (literalsText (ahead (literalBy letter positive negative) [])) (now (page .exit)) r ⌝ }
 {
     if positive {
         return page::push(page, at, letter);

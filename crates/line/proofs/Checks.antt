@@ -1,7 +1,7 @@
 -- Laws of tests in checking order. Assumes nothing.
 use mathlib.Core.Path.{_≡_, refl, _∙_, ap}
 use mathlib.Core.Bool.{Bool, true, false}
-use mathlib.Core.Option.{none, some}
+use mathlib.Core.Option.{none}
 use mathlib.Core.List.{List, [], _∷_}
 use Prim.Native.Nat.{ℕ, zero, suc}
 use Rattle.prelude.specs.Checks.{firstFailing}
@@ -20,13 +20,6 @@ module _ {A : Type 0} where
   all-hold ((true, c) ∷ ts) e zero = refl
   all-hold ((true, c) ∷ ts) e (suc i) = all-hold ts e i
   all-hold ((false, c) ∷ ts) e i = some-not-none c e
-
-  -- the first test fails, or it holds and the others decide
-  pub failing : (b : Bool) (c : A) (ts : List (Bool × A)) → b ≡ false → firstFailing ((b, c) ∷ ts) ≡ some c
-  failing b c ts e = rw e
-
-  pub passing : (b : Bool) (c : A) (ts : List (Bool × A)) → b ≡ true → firstFailing ((b, c) ∷ ts) ≡ firstFailing ts
-  passing b c ts e = rw e
 
   -- three tests by their values
   pub three-same : (a b c d e f : Bool) (x y z : A) → a ≡ d → b ≡ e → c ≡ f

@@ -4,7 +4,7 @@ use mathlib.Core.Path.{_≡_, _∙_, ap}
 use Prim.Native.Nat.{ℕ, zero, suc, _+_, _-_, _≤_, _<_}
 use native.Mathlib.Omega.{arith}
 use borrow.Author.Tests.{le-ltb, lt-ltb}
-use lib.Dec.{T, ltb, leb→le, le→leb}
+use lib.Dec.{T, ltb, le→leb}
 use lib.IntN.{ℤ, pos, negsuc, _+ℤ_, _-ℤ_, negℤ, natAbs, +ℤ-idl}
 use lib.Signed.{nonNeg, _≤ℤ_}
 use mir.Syntax.{w16, w32}
@@ -88,13 +88,7 @@ module _ (v : ℕ) (h : v < 65536) where
   pub less-value : toZ w32 (ofZ w32 (toZ w32 v -ℤ pos 10080)) ≡ lowered v
   less-value = toZ-ofZ less-fits ∙ less-is
 
--- the raised limits are ordered as the limits
-pub raised-le : (v w : ℤ) → InLimits v → InLimits w → v ≤ℤ w → raised v ≤ raised w
-raised-le (pos v) (pos w) h l k = omega (arith, leb→le v w (k .le))
-raised-le (pos v) (negsuc w) h l k = absurd (k .le)
-raised-le (negsuc v) (pos w) h l k = omega arith
-raised-le (negsuc v) (negsuc w) h l k = omega (arith, leb→le w v (k .le))
-
+-- limits are ordered as they are raised
 pub le-raised : (v w : ℤ) → InLimits v → InLimits w → raised v ≤ raised w → v ≤ℤ w
 le-raised (pos v) (pos w) h l k = record { le = le→leb v w (omega arith) }
 le-raised (pos v) (negsuc w) h l k = absurd (omega arith)

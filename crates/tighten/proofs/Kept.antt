@@ -1,7 +1,7 @@
 -- The rules hold in a table exactly where their rows do: a rule admits two times exactly when each of its rows does, and covers the
 -- scenarios that they cover. Assumes nothing.
 use mathlib.Core.Path.{_≡_, sym, _∙_}
-use mathlib.Core.Logic.{inl, inr, _↔_}
+use mathlib.Core.Logic.{inl, inr}
 use mathlib.Core.Bool.{true}
 use mathlib.Core.List.{List, [], _∷_}
 use Prim.Native.Nat.{ℕ, _<_}
@@ -61,9 +61,6 @@ module _ (t : ℕ → ℕ) (c : Constraint) where
       and-both (atMost a b (c .bound)) (atLeast a b (c .bound))
       (below-of (e .each 0 (omega arith)))
       (above-of (e .each 1 (omega arith)))
-
-  pub admits-uppers : (k : Kind) → (admits k a b (c .bound) ≡ true) ↔ Each (Admits t) (uppers k c) noConstraint
-  admits-uppers k = (uppers-of-admits k, admits-of-uppers k)
 
 module _ (Γ : Network) (σ : List ℕ) (s : ℕ) where
   -- a row holds in s
