@@ -7,7 +7,7 @@ use Rattle.sheet.proofs.WellFormed.{accepted-well-formed}
 use Rattle.layout.proofs.Accepted.{accepted-iff}
 use Rattle.checker.proofs.Judged.{judged, breach-first}
 use Rattle.solver.specs.Solve.{solve}
-use Rattle.solver.proofs.Hyperarcs.{hyperarcs-agree}
+use Rattle.rounds.proofs.Hyperarcs.{hyperarcs-agree}
 use Rattle.solver.proofs.Least.{solve-least, solve-none}
 use Rattle.opening.specs.Demands.{Reads, Demands}
 use Rattle.opening.proofs.Promises.{solving-keeps, listing-keeps, bench-keeps, judges, refuses, solves}

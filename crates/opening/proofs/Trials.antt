@@ -16,7 +16,7 @@ use Rattle.network.specs.Strategy.{reaction}
 use Rattle.line.specs.Rows.{sectionRefusal, eventRefusal, signalRefusal, ruleRefusal}
 use Rattle.sheet.specs.Reading.{progress}
 use Rattle.checker.specs.Verdict.{verdict}
-use Rattle.solver.specs.Propagate.{propagate}
+use Rattle.rounds.specs.Propagate.{propagate}
 use Rattle.solver.specs.Solve.{solve}
 use Rattle.dispatch.specs.Due.{due}
 use Rattle.dispatch.specs.declared.Heard.{Heard}

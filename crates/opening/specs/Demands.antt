@@ -22,7 +22,7 @@ use Rattle.checker.specs.Verdict.{verdict}
 use Rattle.checker.specs.First.{First}
 use Rattle.checker.specs.declared.Breach.{Breach}
 use Rattle.checker.specs.declared.Verdict.the-variants.{Pass, Breach as Breached}
-use Rattle.solver.specs.Hyperarcs.{Dynamic, Hyperarcs}
+use Rattle.rounds.specs.Hyperarcs.{Dynamic, Hyperarcs}
 use Rattle.solver.specs.Solve.{solve}
 use Rattle.opening.specs.Calls.{withoutLine, countsOf, summary, SummaryValues, noCounts, summaryValues, judgement, Left, solving, listed}
 use Rattle.opening.specs.Bench.{benchSolving}

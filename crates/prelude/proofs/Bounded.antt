@@ -63,9 +63,10 @@ allBelow-same f g zero h = refl
 allBelow-same f g (suc n) h = rw (allBelow-same f g n (λ k l. h k (omega arith)), h n (omega arith))
 
 module _ (f g : ℕ → ℕ) where
-  pub maxBelow-mono : (n : ℕ) → ((k : ℕ) → k < n → f k ≤ g k) → maxBelow n f ≤ maxBelow n g
-  maxBelow-mono zero h = omega arith
-  maxBelow-mono (suc n) h = omega (arith, h n (omega arith), maxBelow-mono n (λ k l. h k (omega arith)))
+  -- where no value is more than c above its fellow, the greatest is not
+  pub maxBelow-near : (c n : ℕ) → ((k : ℕ) → k < n → f k ≤ g k + c) → maxBelow n f ≤ maxBelow n g + c
+  maxBelow-near c zero h = omega arith
+  maxBelow-near c (suc n) h = omega (arith, h n (omega arith), maxBelow-near c n (λ k l. h k (omega arith)))
 
   pub sumBelow-mono : (n : ℕ) → ((k : ℕ) → k < n → f k ≤ g k) → sumBelow n f ≤ sumBelow n g
   sumBelow-mono zero h = omega arith

@@ -15,8 +15,9 @@ use Rattle.network.specs.declared.Kind.{Kind}
 use Rattle.network.specs.declared.Kind.the-variants.{Max, Min}
 use Rattle.network.specs.declared.Constraint.{Constraint}
 use Rattle.network.specs.declared.Network.{Network}
-use Rattle.solver.specs.Propagate.{leastFrom, leastTo, propagate}
-use Rattle.solver.specs.Solve.{floor, cap, solve}
+use Rattle.rounds.specs.Propagate.{leastFrom, leastTo, propagate}
+use Rattle.rounds.specs.Cap.{cap}
+use Rattle.solver.specs.Solve.{floor, solve}
 
 abbrev all : List Bool → Bool
 all [] = true

@@ -27,14 +27,15 @@ use Rattle.rows.specs.Framed.{Framed}
 use Rattle.rows.proofs.Packed.{sixteen, length-packed, packed-at}
 use Rattle.bounds.specs.Listed.{Lists}
 use Rattle.solver.specs.declared.Solved.the-variants.{Found, Inconsistent}
-use Rattle.solver.specs.declared.Outcome.{Outcome}
-use Rattle.solver.specs.declared.Outcome.the-variants.{Passes, Rests, Rises}
-use Rattle.solver.specs.Propagate.{propagate}
-use Rattle.solver.specs.Solve.{floor, cap, solve}
+use Rattle.rounds.specs.declared.Outcome.{Outcome}
+use Rattle.rounds.specs.declared.Outcome.the-variants.{Passes, Rests, Rises}
+use Rattle.rounds.specs.Propagate.{propagate}
+use Rattle.rounds.specs.Cap.{cap}
+use Rattle.solver.specs.Solve.{floor, solve}
 use Rattle.solver.specs.Solved.{SolvedIs}
-use Rattle.solver.specs.Rounds.{outcome, outcomeOf, Rounded}
-use Rattle.solver.proofs.Rising.{rising}
-use Rattle.solver.proofs.Ends.{length-cap}
+use Rattle.rounds.specs.Rounds.{outcome, outcomeOf, Rounded}
+use Rattle.rounds.proofs.Rising.{rising}
+use Rattle.rounds.proofs.Ends.{length-cap}
 
 -- what an outcome tells of the two tests
 passes-false : (a b : Bool) → Passes ≡ outcome a b → a ≡ false

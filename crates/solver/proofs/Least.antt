@@ -22,10 +22,11 @@ use Rattle.network.specs.Solution.{OnTime, Solution}
 use Rattle.network.specs.Least.{Least, Inconsistent}
 use Rattle.network.specs.WellFormed.{WellFormed}
 use Rattle.network.specs.declared.Network.{Network}
-use Rattle.solver.specs.Propagate.{propagate}
-use Rattle.solver.specs.Solve.{floor, cap, solve}
-use Rattle.solver.proofs.Hyperarcs.{hyperarcs-agree}
-use Rattle.solver.proofs.Rising.{rising, closed-of, viable-of, hyperarcs-of}
+use Rattle.rounds.specs.Propagate.{propagate}
+use Rattle.rounds.specs.Cap.{cap}
+use Rattle.solver.specs.Solve.{floor, solve}
+use Rattle.rounds.proofs.Hyperarcs.{hyperarcs-agree}
+use Rattle.rounds.proofs.Rising.{rising, closed-of, viable-of, hyperarcs-of}
 
 module _ (Γ : Network) where
   -- the limit of a cell: nothing for the origin, and else the horizon

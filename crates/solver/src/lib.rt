@@ -7,9 +7,7 @@ ghost use Rattle.network.specs.Build.{cells};
 ghost use Rattle.network.specs.WellFormed.{WellFormed};
 ghost use Rattle.solver.specs.Solved.{SolvedIs};
 use network::Network;
-
-mod compile;
-mod rounds;
+use rounds::Outcome;
 
 // The answer, with the count of rounds.
 pub enum Solved {
@@ -17,13 +15,6 @@ pub enum Solved {
     Found { rounds: u32 },
     // No strategy solves the network.
     Inconsistent { rounds: u32 },
-}
-
-// What a round says of the table that it made: a time is over its limit; no time was raised; or times were raised, within limits.
-pub enum Outcome {
-    Passes,
-    Rests,
-    Rises,
 }
 
 // The least solution into the first cells of the table, or that there is none; the count of rounds either way.
@@ -34,7 +25,7 @@ pub fn solve(network: Network, table: &mut [u16]) -> Solved
     let frame = rows::frame_of(network);
     let mut counts: [usize; 16] = [0; 16];
     let mut lists: [u16; 6144] = [0; 6144];
-    compile::list_constraints(network, frame, &mut counts, &mut lists);
+    rounds::compile::list_constraints(network, frame, &mut counts, &mut lists);
     let mut a: [u16; 256] = [0; 256];
     let mut b: [u16; 256] = [0; 256];
     let mut rounds: u32 = 0;

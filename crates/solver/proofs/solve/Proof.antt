@@ -7,9 +7,9 @@ use native.Mathlib.Omega.{arith}
 use borrow.Author.Needs.{needs}
 use lib.ListN.{length}
 use Rattle.bounds.proofs.Halves.{scenarios-few}
-use Rattle.solver.specs.declared.Outcome.the-variants.{Rises}
-use Rattle.solver.specs.Rounds.{Rounded}
-use Rattle.solver.specs.Compiled.{Compiled}
+use Rattle.rounds.specs.declared.Outcome.the-variants.{Rises}
+use Rattle.rounds.specs.Rounds.{Rounded}
+use Rattle.rounds.specs.Compiled.{Compiled}
 use Rattle.solver.proofs.Going.{Going, left, going-start, going-next, room-taken, count-few, solved-passing, solved-resting}
 use Rattle.solver.proofs.Going.{rounded-as, times-framed, cells-framed, copied-framed, copied-length, zero-lists, zeros-at}
 use Rattle.solver.proofs.solve.Statement.{statement}

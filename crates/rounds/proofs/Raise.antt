@@ -1,0 +1,73 @@
+-- How a row is raised: by the bounds of its scenario, then by the other scenarios in the order of their differences. Assumes nothing.
+use mathlib.Core.Path.{_≡_, sym, _∙_, ap}
+use mathlib.Core.List.{List}
+use Prim.Native.Nat.{ℕ, _+_, _-_, _*_, _^_, _≤_, _<_, max, min}
+use native.Mathlib.Numerals.{add-one}
+use native.Mathlib.Omega.{arith}
+use lib.Bits.{bitXor, xor-zero-r}
+use lib.ListN.{getD}
+use Rattle.prelude.specs.Bounded.{maxBelow}
+use Rattle.rows.specs.declared.Frame.{Frame}
+use Rattle.rows.specs.declared.Seen.{Seen}
+use Rattle.rows.specs.Rows.{rowOf, Row, Stored}
+use Rattle.rows.specs.Known.{First}
+use Rattle.rows.proofs.Packed.{row-at}
+use Rattle.bounds.specs.Listed.{listed}
+use Rattle.bounds.proofs.Listed.{maxBelow-ext}
+use Rattle.rounds.specs.Compiled.{raisedAt}
+
+-- what the first d differences ask
+abbrev pub across : List ℕ → List ℕ → ℕ → ℕ → ℕ → ℕ
+across t first s d u = maxBelow d (λ e. min (getD t (bitXor s e * 16 + u) 0) (getD first e 0))
+
+module _ (counts lists t : List ℕ) (s : ℕ) where
+  -- what the scenario's own bounds ask
+  abbrev pub ruled : ℕ → ℕ
+  ruled u = max (getD t (s * 16 + u) 0) (listed counts lists s (rowOf t s) u - 10080)
+
+  pub ruled-is : {row a b o : List ℕ} → row ≡ rowOf t s → Row a (λ u. getD row u 0 + 10080)
+      → Row b (λ u. max (getD a u 0) (listed counts lists s row u)) → Row o (λ u. getD b u 0 - 10080) → Row o ruled
+  ruled-is e h i j = record {
+    sized = j .sized;
+    is = λ u l. omega (arith, j .is u l, (rw e at i) .is u l, (rw e at h) .is u l, row-at t s u l);
+  }
+
+  pub across-start : {o : List ℕ} (first : List ℕ) → Row o ruled → Row o (λ u. max (getD o u 0) (across t first s 1 u))
+  across-start first h = record { sized = h .sized; is = λ u l. rw (xor-zero-r s) (omega (arith, h .is u l)) }
+
+  pub across-next : (first o₀ : List ℕ) (d : ℕ) {o o′ : List ℕ} → Row o (λ u. max (getD o₀ u 0) (across t first s d u))
+      → Row o′ (λ u. max (getD o u 0) (min (getD t (bitXor s d * 16 + u) 0) (getD first d 0)))
+      → Row o′ (λ u. max (getD o₀ u 0) (across t first s (d + 1) u))
+  across-next first o₀ d h i = record { sized = i .sized; is = λ u b. rw add-one (omega (arith, i .is u b, h .is u b)) }
+
+  -- a raised row is not below the row before
+  pub rises : {row o₀ o : List ℕ} (f : ℕ → ℕ) → row ≡ rowOf t s → Row o₀ ruled → Row o (λ u. max (getD o₀ u 0) (f u))
+      → (u : ℕ) → u < 16 → getD row u 0 ≤ getD o u 0
+  rises f e h i u l = rw e (omega (arith, h .is u l, i .is u l, row-at t s u l))
+
+  pub raised-row : {first o₀ o : List ℕ} (frame : Frame) → frame .scenarios ≡ 2 ^ frame .signals
+      → First (frame .signals) (λ p. getD (rowOf t s) (getD (frame .observations) p 0) 0 + 1) first → Row o₀ ruled
+      → Row o (λ u. max (getD o₀ u 0) (across t first s (frame .scenarios) u)) → Row o (λ u. raisedAt frame counts lists t s u)
+  unfolding raisedAt
+  raised-row frame c F h i = record {
+    sized = i .sized;
+    is =
+        λ u l.
+        omega (
+          arith,
+          i .is u l,
+          h .is u l,
+          maxBelow-ext _ _ (frame .scenarios)
+              (λ d m. ap (λ (x : ℕ). min (getD t (bitXor s d * 16 + u) 0) x) (F .is d (rw c at m))),
+        );
+  }
+
+-- rows that are the same are stored the same
+pub stored-ext : {t t′ : List ℕ} {s : ℕ} {seen seen′ : Seen} (f f′ g g′ : ℕ → ℕ) → ((u : ℕ) → u < 16 → f u ≡ f′ u)
+    → ((u : ℕ) → u < 16 → g u ≡ g′ u) → Stored t t′ s f g seen seen′ → Stored t t′ s f′ g′ seen seen′
+stored-ext f f′ g g′ p q h = record {
+  wrote = record { sized = h .wrote .sized; here = λ u l. h .wrote .here u l ∙ q u l; other = h .wrote .other };
+  climb = rw (maxBelow-ext (λ u. g′ u - f′ u) (λ u. g u - f u) 16 (λ u l. omega (arith, p u l, q u l))) (h .climb);
+  highest = rw (maxBelow-ext g′ g 16 (λ u l. sym (q u l))) (h .highest);
+  origin = rw (← q 0 (omega arith)) (h .origin);
+}

@@ -1,0 +1,184 @@
+-- The row is read, raised by its own bounds and then, turn by turn, by the scenario that differs from s by d. The invariant: the row
+-- is raised by the first d differences; difference 0, which is s itself, asks nothing new. Assumes nothing.
+use mathlib.Core.Path.{_≡_, refl}
+use mathlib.Core.List.{List}
+use Prim.Native.Nat.{ℕ, _+_, _-_, _*_, _≤_, _<_, max}
+use native.Mathlib.Omega.{arith}
+use borrow.Author.Needs.{needs}
+use lib.Bits.{xor-lt}
+use lib.ListN.{getD}
+use Rattle.rows.specs.Known.{First}
+use Rattle.rows.specs.Rows.{rowOf, Row}
+use Rattle.rows.proofs.Packed.{row-is}
+use Rattle.rounds.specs.Compiled.{raisedAt}
+use Rattle.rounds.proofs.Raise.{across, ruled, ruled-is, across-start, across-next, rises, raised-row, stored-ext}
+use Rattle.rounds.proofs.Usable.{powers, signals-in, scenarios-in, observed-in, lists-in, short-in}
+use Rattle.rounds.proofs.raise_row.Statement.{statement}
+use Rattle.rounds.proofs.raise_row.Tie as tie
+
+abbrev Inv-loop : tie.InvT-loop
+Inv-loop t new s counts lists seen row first o₀ scenarios d₀ o d =
+    (1 ≤ d) × (d ≤ scenarios) × Row o (λ u. max (getD o₀ u 0) (across t first s d u))
+
+abbrev μ-loop : tie.MeasureT-loop
+μ-loop t new s counts lists seen row first o₀ scenarios d₀ o d = scenarios - d
+
+s-in : (c : tie.Start Inv-loop μ-loop) → c .args .s < 16
+s-in c = omega (arith, c .pre .0, scenarios-in (c .pre .1))
+
+-- the row that was read, and the row that the bounds have raised
+abbrev read : tie.After-read-row Inv-loop μ-loop → List ℕ
+read c = c .read-row .last .1 .1 .0
+
+abbrev start : tie.After-lower Inv-loop μ-loop → tie.Start Inv-loop μ-loop
+start c = c .before .before .before .before .before .before .before .before .before .before .before .before .before
+
+abbrev reading : tie.After-lower Inv-loop μ-loop → tie.After-read-row Inv-loop μ-loop
+reading c = c .before .before .before .before .before .before .before .before .before .before .before
+
+row-of : (c : tie.After-read-row Inv-loop μ-loop) → read c ≡ rowOf (c .before .before .args .t .now) (c .before .before .args .s)
+row-of c =
+    let z = c .before .before in
+    row-is (z .args .t .now) (z .args .s) (read c) (z .pre .2 .sized) (s-in z) (c .read-row .ensures)
+
+row-few : (c : tie.After-read-row Inv-loop μ-loop) → (u : ℕ) → u < 16 → getD (read c) u 0 ≤ 10080
+row-few c u l = let z = c .before .before in omega (arith, c .read-row .ensures .is u l, z .pre .2 .few (z .args .s) u (z .pre .0) l)
+
+abbrev firsts : tie.After-lower Inv-loop μ-loop → List ℕ
+firsts c = c .before .before .before .before .before .before .before .before .first-known .last .1 .1 .0
+
+known-first : (c : tie.After-lower Inv-loop μ-loop)
+    → First (start c .args .frame .signals)
+    (λ p. getD (rowOf (start c .args .t .now) (start c .args .s)) (getD (start c .args .frame .observations) p 0) 0 + 1) (firsts c)
+known-first c =
+    let first-known = c .before .before .before .before .before .before .before .before .first-known in
+    rw (row-of (reading c)) at (first-known .ensures)
+
+by-bounds : (c : tie.After-lower Inv-loop μ-loop)
+    → Row (c .lower .last .0) (ruled (start c .args .counts .now) (start c .args .lists .now) (start c .args .t .now) (start c .args .s))
+by-bounds c =
+    let lift = c .before .before .before .before .before .lift in
+    let raise-by-bounds = c .before .before .raise-by-bounds in
+    let a = start c .args in
+    ruled-is (a .counts .now) (a .lists .now) (a .t .now) (a .s) (row-of (reading c)) (lift .ensures)
+    (raise-by-bounds .ensures) (c .lower .ensures)
+
+read-row-requires : tie.Need-read-row-requires Inv-loop μ-loop
+read-row-requires c κs = (s-in (c .before), refl)
+
+first-known-requires : tie.Need-first-known-requires Inv-loop μ-loop
+first-known-requires c κs =
+    let U = c .before .before .before .before .pre .1 in
+    (signals-in U, observed-in U, row-few (c .before .before), refl)
+
+lift-requires : tie.Need-lift-requires Inv-loop μ-loop
+lift-requires c κs = (row-few (c .before .before .before .before .before), refl)
+
+raise-by-bounds-requires : tie.Need-raise-by-bounds-requires Inv-loop μ-loop
+raise-by-bounds-requires c κs =
+    let r = c .before .before .before .before .before .before .before .before in
+    let U = c .before .before .before .before .before .before .before .before .before .before .pre .1 in
+    (s-in (r .before .before), lists-in U, short-in U, row-few r, c .before .before .lift .ensures .sized)
+
+lower-requires : tie.Need-lower-requires Inv-loop μ-loop
+lower-requires c κs =
+    let lift = c .before .before .before .before .lift in
+    (λ u l. omega (arith, c .before .raise-by-bounds .ensures .is u l, lift .ensures .is u l), c .before .raise-by-bounds .ensures .sized)
+
+loop-holds : tie.Need-loop-holds Inv-loop μ-loop
+loop-holds c =
+    let pre = c .before .before .before .before .before .before .before .before .before .before .before .before .before .pre in
+    let a = start c .args in (
+      omega arith,
+      omega (arith, pre .0),
+      across-start (a .counts .now) (a .lists .now) (a .t .now) (a .s) (firsts c) (by-bounds c),
+    )
+
+mul-raise-by-scenario : tie.Need-mul-raise-by-scenario Inv-loop μ-loop
+mul-raise-by-scenario c =
+    let pre = start (c .before .before) .pre in
+    omega (arith, c .loop-test .taken, scenarios-in (pre .1))
+
+array-read-raise-by-scenario : tie.Need-array-read-raise-by-scenario Inv-loop μ-loop
+array-read-raise-by-scenario c =
+    let pre = start (c .before .before) .pre in
+    omega (arith, c .loop-test .taken, scenarios-in (pre .1))
+
+raise-by-scenario-requires : tie.Need-raise-by-scenario-requires Inv-loop μ-loop
+raise-by-scenario-requires c κs =
+    let pre = start (c .before .before .before) .pre in
+    let args = start (c .before .before .before) .args in
+    let loop = c .before .before .loop in
+    let few = scenarios-in (pre .1) in (
+      xor-lt 4 (args .s) (loop .d) (omega (arith, pre .0)) (omega (arith, c .before .loop-test .taken)),
+      loop .inv .2 .sized,
+    )
+
+add-d : tie.Need-add-d Inv-loop μ-loop
+add-d c =
+    let test = c .before .before .loop-test in
+    let pre = start (c .before .before .before .before) .pre in
+    omega (arith, test .taken, scenarios-in (pre .1))
+
+loop-less : tie.Need-loop-less Inv-loop μ-loop
+loop-less c = search needs
+
+loop-again : tie.Need-loop-again Inv-loop μ-loop
+loop-again c =
+    let test = c .before .before .loop-test in
+    let loop = c .before .before .before .loop in
+    let l = c .before .before .before in
+    let a = start (l .before) .args in (
+      omega arith,
+      omega (arith, test .taken),
+      across-next (a .counts .now) (a .lists .now) (a .t .now) (a .s) (firsts (l .before)) (l .before .lower .last .0) (loop .d)
+          (loop .inv .2) (c .raise-by-scenario .ensures),
+    )
+
+store-row-requires : tie.Need-store-row-requires Inv-loop μ-loop
+store-row-requires c κs =
+    let loop = c .before .before .before .before .loop in
+    let l = c .before .before .before .before in
+    let z = start (l .before) in
+    let a = z .args in (
+      s-in z,
+      z .pre .3,
+      rises (a .counts .now) (a .lists .now) (a .t .now) (a .s) (across (a .t .now) (firsts (l .before)) (a .s) (loop .d))
+          (row-of (reading (l .before))) (by-bounds (l .before)) (loop .inv .2),
+    )
+
+returns : tie.Need-returns Inv-loop μ-loop
+returns c =
+    let loop = c .before .before .before .before .before .loop in
+    let test = c .before .before .before .before .loop-test in
+    let l = c .before .before .before .before .before in
+    let z = start (l .before) in
+    let a = z .args in
+    let e : loop .d ≡ a .frame .scenarios = omega (arith, test .left) in
+    let made = raised-row (a .counts .now) (a .lists .now) (a .t .now) (a .s) (a .frame) (powers (z .pre .1)) (known-first (l .before))
+    (by-bounds (l .before)) (rw e at (loop .inv .2))
+    in
+    stored-ext (λ u. getD (read (reading (l .before))) u 0) (λ u. getD (a .t .now) (a .s * 16 + u) 0) (λ u. getD (loop .o) u 0)
+    (λ u. raisedAt (a .frame) (a .counts .now) (a .lists .now) (a .t .now) (a .s) u) (reading (l .before) .read-row .ensures .is)
+    (made .is) (c .store-row .ensures)
+
+pub raise-row-spec : {M : Type 1} → statement M
+raise-row-spec =
+    tie.close
+    (tie.spec
+    Inv-loop
+    μ-loop
+    read-row-requires
+    first-known-requires
+    lift-requires
+    raise-by-bounds-requires
+    lower-requires
+    loop-holds
+    mul-raise-by-scenario
+    array-read-raise-by-scenario
+    raise-by-scenario-requires
+    add-d
+    loop-less
+    loop-again
+    store-row-requires
+    returns)

@@ -1,0 +1,75 @@
+-- One round: each time goes up to what the constraints and the hyperarcs ask of the strategy before it (004, Theorem 1:
+-- value iteration). Document 02, point 8, fixes this round.
+use mathlib.Core.Bool.{Bool, true, false, _&&_, cond}
+use mathlib.Core.List.{List}
+use Prim.Native.Nat.{ℕ, zero, suc, _+_, _-_, _/_, _%_, max, min}
+use lib.IntN.{ℤ, pos, negsuc}
+use lib.Dec.{eqb}
+use Rattle.prelude.specs.Bounded.{maxBelow, tabulate}
+use Rattle.network.specs.Build.{constraint, scenarios, cells}
+use Rattle.network.specs.Scenario.{agree}
+use Rattle.network.specs.Constraint.{covers}
+use Rattle.network.specs.Strategy.{time, knownFrom}
+use Rattle.network.specs.declared.Kind.{Kind}
+use Rattle.network.specs.declared.Kind.the-variants.{Max, Min, Fix}
+use Rattle.network.specs.declared.Constraint.{Constraint}
+use Rattle.network.specs.declared.Network.{Network}
+
+-- the least time of `from` under b - a ≤ w, and the least time of `to` under w ≤ b - a
+abbrev pub leastFrom : ℕ → ℤ → ℕ
+leastFrom b (pos w) = b - w
+leastFrom b (negsuc w) = b + suc w
+
+abbrev pub leastTo : ℕ → ℤ → ℕ
+leastTo a (pos w) = a + w
+leastTo a (negsuc w) = a - suc w
+
+-- the kinds that bound the difference from above, and from below
+abbrev pub isUpper : Kind → Bool
+isUpper Max = true
+isUpper Min = false
+isUpper Fix = true
+
+abbrev pub isLower : Kind → Bool
+isLower Max = false
+isLower Min = true
+isLower Fix = true
+
+module _ (Γ : Network) (σ : List ℕ) where
+  abbrev at : ℕ → ℕ → ℕ
+  at s u = time (Γ .events) σ s u
+
+  -- what one constraint asks of event u in scenario s, by its upper half and by its lower one
+  abbrev pub upperBound : ℕ → ℕ → Constraint → ℕ
+  upperBound s u c =
+      cond (covers Γ c s && (isUpper (c .kind) && eqb (c .from) u)) (leastFrom (at s (c .to)) (c .bound)) 0
+
+  abbrev pub lowerBound : ℕ → ℕ → Constraint → ℕ
+  lowerBound s u c =
+      cond (covers Γ c s && (isLower (c .kind) && eqb (c .to) u)) (leastTo (at s (c .from)) (c .bound)) 0
+
+  -- what the constraints ask
+  abbrev pub constraintsBound : ℕ → ℕ → ℕ
+  constraintsBound s u = maxBelow (Γ .rules) (λ c. max (upperBound s u (constraint Γ c)) (lowerBound s u (constraint Γ c)))
+
+  -- the lesser of m and the times from which on, in s, one of the k first propositions is known on which s and r differ
+  abbrev pub leastKnown : ℕ → ℕ → ℕ → ℕ → ℕ
+  leastKnown s r m zero = m
+  leastKnown s r m (suc k) = cond (agree s r k) (leastKnown s r m k) (min (leastKnown s r m k) (knownFrom Γ σ s k))
+
+  -- the hyperarc of s, r and u (004, Definition 16): "the lesser of the other case's minute and one more than the earliest
+  -- differing signal in its own case"
+  abbrev pub hyperarc : ℕ → ℕ → ℕ → ℕ
+  hyperarc s r u = leastKnown s r (at r u) (Γ .signals)
+
+  -- what all hyperarcs ask
+  abbrev pub hyperarcsBound : ℕ → ℕ → ℕ
+  hyperarcsBound s u = maxBelow (scenarios Γ) (λ r. hyperarc s r u)
+
+  -- "each cell takes the greatest of its own value and each bound" (02, point 8)
+  abbrev pub raised : ℕ → ℕ → ℕ
+  raised s u = max (at s u) (max (constraintsBound s u) (hyperarcsBound s u))
+
+  -- every cell from the strategy before the round
+  unfoldable pub propagate : List ℕ
+  propagate = tabulate (cells Γ) (λ i. raised (i / Γ .events) (i % Γ .events))

@@ -1,0 +1,86 @@
+// One round of value iteration (004, Theorem 1): every time from the table before it, in rows of sixteen times. The constraints are first
+// compiled into lists of difference bounds, one for each scenario.
+ghost use mathlib.Core.Path.{_≡_};
+ghost use Prim.Native.Nat.{_+_, _*_, _<_};
+ghost use lib.ListN.{length, getD};
+ghost use Rattle.network.specs.declared.Network.{Network};
+ghost use Rattle.rows.specs.Rows.{Times, Stored};
+ghost use Rattle.rounds.specs.Compiled.{Compiled, Usable, raisedAt};
+ghost use Rattle.rounds.specs.Rounds.{Rounded};
+use rows::Frame;
+use rows::Seen;
+use rows::known;
+
+pub mod compile;
+
+// What a round says of the table that it made: a time is over its limit; no time was raised; or times were raised, within limits.
+pub enum Outcome {
+    Passes,
+    Rests,
+    Rises,
+}
+
+// Row s of new: the times of scenario s in t, raised to what constraints and hyperarcs ask.
+fn raise_row(
+    t: &[u16; 256],
+    new: &mut [u16; 256],
+    s: usize,
+    frame: Frame,
+    counts: &[usize; 16],
+    lists: &[u16; 6144],
+    seen: Seen,
+) -> Seen
+    requires { ⌜ (s < frame .scenarios) × Usable frame (now counts) (now lists)
+        × Times (frame .events) (frame .scenarios) (now t) × (length (now new) ≡ 256) ⌝ }
+    ensures { λ r. ⌜ Stored (now (new .entry)) (now (new .exit)) s (λ u. getD (now (t .entry)) (s * 16 + u) 0)
+        (λ u. raisedAt frame (now (counts .entry)) (now (lists .entry)) (now (t .entry)) s u) seen r ⌝ }
+{
+    let mut row: [u16; 16] = [0; 16];
+    rows::read_row(t, s, &mut row);
+    let mut first: [u16; 16] = [0; 16];
+    known::first_known(&row, frame, &mut first);
+    let mut o: [u16; 16] = [0; 16];
+    bounds::lift(&row, &mut o);
+    bounds::raise_by_bounds(s, counts, lists, &row, &mut o);
+    bounds::lower(&mut o);
+    let scenarios = frame.scenarios;
+    let mut d: usize = 1;
+    while d < scenarios {
+        rows::raise_by_scenario(t, s ^ d, first[d], &mut o);
+        d += 1;
+    }
+    rows::store_row(new, s, &row, &o, seen)
+}
+
+// The table after t, and what is to be said of it.
+pub fn round(
+    t: &[u16; 256],
+    new: &mut [u16; 256],
+    frame: Frame,
+    counts: &[usize; 16],
+    lists: &[u16; 6144],
+) -> Outcome
+    requires { ⌜ Usable frame (now counts) (now lists) × Times (frame .events) (frame .scenarios) (now t)
+        × (length (now new) ≡ 256) ⌝ }
+    ensures { λ r. ⌜ ((Γ : Network) → Compiled Γ frame (now (counts .entry)) (now (lists .entry))
+        → Rounded Γ (now (t .entry)) (now (new .exit)) r) ⌝ }
+{
+    let scenarios = frame.scenarios;
+    let mut seen = Seen {
+        climb: 0,
+        highest: 0,
+        origin: 0,
+    };
+    let mut s: usize = 0;
+    while s < scenarios {
+        seen = raise_row(t, new, s, frame, counts, lists, seen);
+        s += 1;
+    }
+    if frame.horizon < seen.highest || 0 < seen.origin {
+        return Outcome::Passes;
+    }
+    if seen.climb == 0 {
+        return Outcome::Rests;
+    }
+    Outcome::Rises
+}
