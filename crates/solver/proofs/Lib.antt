@@ -1,4 +1,6 @@
--- In reading order: a run of rounds ends at the least solution, or there is none; examples; and that the code makes this run.
+-- In reading order: a run of rounds ends at the least solution, or there is none; examples; what the loop of `run` keeps and where it
+-- ends; and that a run from all zeros with its budget is the solver's.
 pub mod Least
 pub mod Examples
-pub mod Going
+pub mod Underway
+pub mod Solving

@@ -1,13 +1,17 @@
-// The least solution of a network by value iteration, or that there is none (004, Theorem 1). The constraints are first compiled
-// into lists of difference bounds, one for each scenario; then rounds go from one table to another and back, in rows of sixteen
-// times, until a round raises nothing or a limit is passed.
-ghost use Prim.Native.Nat.{_≤_};
+// The least solution of a network by value iteration, or that there is none (004, Theorem 1). Rounds go on from a table until one raises
+// nothing or passes a limit, or the budget is used up; where they are seen to repeat, some are passed over at once (docs/LEAP.md).
+ghost use mathlib.Core.Path.{_≡_};
+ghost use Prim.Native.Nat.{_*_, _≤_};
 ghost use lib.ListN.{length};
 ghost use Rattle.network.specs.Build.{cells};
 ghost use Rattle.network.specs.WellFormed.{WellFormed};
+ghost use Rattle.rows.specs.Rows.{Times};
+ghost use Rattle.rounds.specs.Compiled.{Compiled, Usable};
 ghost use Rattle.solver.specs.Solved.{SolvedIs};
+ghost use Rattle.solver.specs.Run.{RunIs, Kept};
 use network::Network;
 use rounds::Outcome;
+use rows::Frame;
 
 // The answer, with the count of rounds.
 pub enum Solved {
@@ -17,7 +21,105 @@ pub enum Solved {
     Inconsistent { rounds: u32 },
 }
 
-// The least solution into the first cells of the table, or that there is none; the count of rounds either way.
+// How a run ended, and after how many rounds: the last raised nothing; it took a time over its limit; the budget is used up. A turn makes
+// one round, and may pass over others.
+pub enum Ended {
+    Rests { rounds: u32, turns: u32 },
+    Passes { rounds: u32, turns: u32 },
+    Spent { rounds: u32, turns: u32 },
+}
+
+fn cells_of(frame: Frame) -> usize
+    requires { ⌜ frame .scenarios ≤ 16 ⌝ }
+    ensures { λ r. ⌜ (r ≡ frame .scenarios * 16) × (r ≤ 256) ⌝ }
+{
+    frame.scenarios * 16
+}
+
+// The table that periods are counted from, and in which round it was reached: where it is to be kept anew, a, reached here.
+fn keep(anew: bool, a: &[u16; 256], base: &mut [u16; 256], at: u32, here: u32, cells: usize) -> u32
+    requires { ⌜ (cells ≤ 256) × (length (now base) ≡ 256) ⌝ }
+    ensures { λ r. ⌜ Kept (now (a .entry)) (now (base .entry)) (now (base .exit)) cells at here r ⌝ }
+{
+    if !anew {
+        return at;
+    }
+    moves::copy(a, base, cells);
+    here
+}
+
+// At most `budget` rounds from what a holds. Where no limit is passed, a then holds what they reached.
+pub fn run(
+    a: &mut [u16; 256],
+    budget: u32,
+    frame: Frame,
+    counts: &[usize; 16],
+    lists: &[u16; 6144],
+) -> Ended
+    requires { ⌜ Usable frame (now counts) (now lists) × Times (frame .events) (frame .scenarios) (now a) ⌝ }
+    ensures { λ r. ⌜ (length (now (a .exit)) ≡ 256) × ((Γ : Network) → Compiled Γ frame (now (counts .entry)) (now (lists .entry))
+        → RunIs Γ budget (now (a .entry)) (now (a .exit)) r) ⌝ }
+{
+    let cells = cells_of(frame);
+    let mut b: [u16; 256] = [0; 256];
+    let mut base = *a;
+    let mut at: u32 = 0;
+    let mut mark: [u16; 256] = [0; 256];
+    let mut w = guess::first_watch();
+    let mut since: [u16; 256] = [0; 256];
+    let mut v = guess::first_pace();
+    let mut turns: u32 = 0;
+    let mut rounds: u32 = 0;
+    while rounds < budget {
+        rounds += 1;
+        turns = std::num::wrapping_add_u32(turns, 1);
+        match rounds::round(a, &mut b, frame, counts, lists) {
+            Outcome::Passes => return Ended::Passes {
+                rounds: rounds,
+                turns: turns,
+            },
+            Outcome::Rests => return Ended::Rests {
+                rounds: rounds,
+                turns: turns,
+            },
+            Outcome::Rises => {}
+        }
+        w = guess::watch(w, turns, rounds, rounds - at, &mut mark, a, &b, cells);
+        v = guess::follow(v, turns, &mut since, a, &b, cells);
+        moves::copy(&b, a, cells);
+        at = keep(w.keep, a, &mut base, at, rounds, cells);
+        let tries = w.tries;
+        let made = leap::pass::pass_over_if(
+            &mut base,
+            a,
+            rounds - at,
+            tries,
+            budget - rounds,
+            frame,
+            counts,
+            lists,
+        );
+        rounds += made;
+        at += made;
+        w = guess::after_tries(w, turns, made);
+        let p = v.period;
+        let last = leap::pace::finish_if(a, &since, p, budget - rounds, frame, counts, lists);
+        if 0 < last {
+            rounds += last;
+            return Ended::Passes {
+                rounds: rounds,
+                turns: turns,
+            };
+        }
+    }
+    Ended::Spent {
+        rounds: rounds,
+        turns: turns,
+    }
+}
+
+// The least solution into the first cells of the table, or that there is none; the count of rounds either way. The budget is one more than
+// 256 cells have room for.
 pub fn solve(network: Network, table: &mut [u16]) -> Solved
     requires { ⌜ WellFormed network × (cells network ≤ length (now table)) ⌝ }
     ensures { λ r. ⌜ SolvedIs network (now (table .entry)) (now (table .exit)) r ⌝ }
@@ -27,26 +129,13 @@ pub fn solve(network: Network, table: &mut [u16]) -> Solved
     let mut lists: [u16; 6144] = [0; 6144];
     rounds::compile::list_constraints(network, frame, &mut counts, &mut lists);
     let mut a: [u16; 256] = [0; 256];
-    let mut b: [u16; 256] = [0; 256];
-    let mut rounds: u32 = 0;
-    loop {
-        rounds += 1;
-        match rounds::round(&a, &mut b, frame, &counts, &lists) {
-            Outcome::Passes => return Solved::Inconsistent { rounds: rounds },
-            Outcome::Rests => {
-                rows::copy_out(&a, network.events, frame.scenarios, table);
-                return Solved::Found { rounds: rounds };
-            }
-            Outcome::Rises => {}
-        }
-        rounds += 1;
-        match rounds::round(&b, &mut a, frame, &counts, &lists) {
-            Outcome::Passes => return Solved::Inconsistent { rounds: rounds },
-            Outcome::Rests => {
-                rows::copy_out(&b, network.events, frame.scenarios, table);
-                return Solved::Found { rounds: rounds };
-            }
-            Outcome::Rises => {}
+    let ended = run(&mut a, 2580481, frame, &counts, &lists);
+    match ended {
+        Ended::Passes { rounds, turns: _ } => Solved::Inconsistent { rounds: rounds },
+        Ended::Spent { rounds, turns: _ } => Solved::Inconsistent { rounds: rounds },
+        Ended::Rests { rounds, turns: _ } => {
+            rows::copy_out(&a, network.events, frame.scenarios, table);
+            Solved::Found { rounds: rounds }
         }
     }
 }

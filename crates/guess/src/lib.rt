@@ -1,0 +1,382 @@
+// How periods are guessed. A guess is tested before it is used, so nothing is promised of it but that its numbers are small; what is
+// written here decides how soon and how often rounds are passed over, and nothing else.
+ghost use mathlib.Core.Path.{_≡_};
+ghost use Prim.Native.Nat.{_≤_, _<_};
+ghost use lib.ListN.{length};
+
+// A round that raises as the marked one did ends a period. From round `from` on a round is marked, and another after `window` rounds in
+// which none was alike. What is to be done next: `keep` the table as the one that periods are counted from; `tries`, how often to try.
+pub struct Watching {
+    pub from: u32,
+    pub window: u32,
+    pub marked: bool,
+    pub keep: bool,
+    pub tries: u32,
+}
+
+enum Sight {
+    Nothing,
+    Mark,
+    Again,
+}
+
+// Sheets that take fewer rounds are not watched.
+pub fn first_watch() -> Watching {
+    Watching {
+        from: 64,
+        window: 32,
+        marked: false,
+        keep: false,
+        tries: 0,
+    }
+}
+
+// Whether a round raised as mark says.
+fn alike(mark: &[u16; 256], before: &[u16; 256], after: &[u16; 256], cells: usize) -> bool
+    requires { ⌜ cells ≤ 256 ⌝ }
+{
+    let mut i: usize = 0;
+    while i < cells {
+        if std::num::wrapping_sub_u16(after[i], before[i]) != mark[i] {
+            return false;
+        }
+        i += 1;
+    }
+    true
+}
+
+// How far a round raised.
+fn remember(mark: &mut [u16; 256], before: &[u16; 256], after: &[u16; 256], cells: usize)
+    requires { ⌜ (cells ≤ 256) × (length (now mark) ≡ 256) ⌝ }
+    ensures { λ _. ⌜ length (now (mark .exit)) ≡ 256 ⌝ }
+{
+    let mut i: usize = 0;
+    while i < cells {
+        mark[i] = std::num::wrapping_sub_u16(after[i], before[i]);
+        i += 1;
+    }
+}
+
+fn look(
+    w: Watching,
+    turns: u32,
+    age: u32,
+    mark: &[u16; 256],
+    before: &[u16; 256],
+    after: &[u16; 256],
+    cells: usize,
+) -> Sight
+    requires { ⌜ cells ≤ 256 ⌝ }
+{
+    if turns < w.from {
+        return Sight::Nothing;
+    }
+    if !w.marked {
+        return Sight::Mark;
+    }
+    if alike(mark, before, after, cells) {
+        return Sight::Again;
+    }
+    if w.window < age {
+        return Sight::Mark;
+    }
+    Sight::Nothing
+}
+
+// One try, and one more for each time that p rounds are an eighth of those made; none where they are more.
+fn tries_of(rounds: u32, p: u32) -> u32 {
+    if p == 0 {
+        return 0;
+    }
+    let shares = rounds / 8 / p;
+    if shares == 0 {
+        return 0;
+    }
+    std::num::wrapping_add_u32(shares, 1)
+}
+
+fn doubled(window: u32, marked: bool) -> u32 {
+    if marked {
+        return std::num::wrapping_add_u32(window, window);
+    }
+    window
+}
+
+// The watch after a round from before to after: the last of so many turns, after which so many rounds are made, `age` of them since
+// the table was kept.
+pub fn watch(
+    w: Watching,
+    turns: u32,
+    rounds: u32,
+    age: u32,
+    mark: &mut [u16; 256],
+    before: &[u16; 256],
+    after: &[u16; 256],
+    cells: usize,
+) -> Watching
+    requires { ⌜ (cells ≤ 256) × (length (now mark) ≡ 256) ⌝ }
+    ensures { λ _. ⌜ length (now (mark .exit)) ≡ 256 ⌝ }
+{
+    match look(w, turns, age, mark, before, after, cells) {
+        Sight::Nothing => Watching {
+            from: w.from,
+            window: w.window,
+            marked: w.marked,
+            keep: false,
+            tries: 0,
+        },
+        Sight::Again => {
+            let tries = tries_of(rounds, age);
+            Watching {
+                from: w.from,
+                window: w.window,
+                marked: true,
+                keep: tries == 0,
+                tries: tries,
+            }
+        }
+        Sight::Mark => {
+            remember(mark, before, after, cells);
+            Watching {
+                from: w.from,
+                window: doubled(w.window, w.marked),
+                marked: true,
+                keep: true,
+                tries: 0,
+            }
+        }
+    }
+}
+
+// The watch after tries that passed over so many rounds: after none not soon.
+pub fn after_tries(w: Watching, turns: u32, made: u32) -> Watching {
+    if w.tries == 0 {
+        return w;
+    }
+    let mut from = turns;
+    if made == 0 {
+        from = std::num::wrapping_add_u32(turns, turns);
+    }
+    Watching {
+        from: from,
+        window: 32,
+        marked: false,
+        keep: false,
+        tries: 0,
+    }
+}
+
+// The pace of the fastest times: the cell whose time is the latest is watched until it has risen as often as is wanted, or until the turn
+// `until`, when another is chosen; `period` is how many turns that took, or 0.
+pub struct Pace {
+    pub cell: usize,
+    pub want: u32,
+    pub until: u32,
+    pub rises: u32,
+    pub start: u32,
+    pub period: u32,
+}
+
+// Event 0 does not rise, so nothing is told before another cell is chosen.
+pub fn first_pace() -> Pace
+    ensures { λ r. ⌜ r .cell < 256 ⌝ }
+{
+    Pace {
+        cell: 0,
+        want: 16,
+        until: 1024,
+        rises: 0,
+        start: 0,
+        period: 0,
+    }
+}
+
+// The later of the times at two places.
+fn later_of(t: &[u16; 256], r: usize, i: usize) -> usize
+    requires { ⌜ (r < 256) × (i < 256) ⌝ }
+    ensures { λ k. ⌜ k < 256 ⌝ }
+{
+    if t[r] < t[i] {
+        return i;
+    }
+    r
+}
+
+// Where the latest time is.
+fn latest(t: &[u16; 256], cells: usize) -> usize
+    requires { ⌜ cells ≤ 256 ⌝ }
+    ensures { λ k. ⌜ k < 256 ⌝ }
+{
+    let mut r: usize = 0;
+    let mut i: usize = 0;
+    while i < cells {
+        r = later_of(t, r, i);
+        i += 1;
+    }
+    r
+}
+
+// A cell is chosen; the period of the one before it is p.
+fn choose(want: u32, p: u32, turns: u32, after: &[u16; 256], cells: usize) -> Pace
+    requires { ⌜ cells ≤ 256 ⌝ }
+    ensures { λ r. ⌜ r .cell < 256 ⌝ }
+{
+    let cell = latest(after, cells);
+    Pace {
+        cell: cell,
+        want: want,
+        until: std::num::wrapping_add_u32(turns, turns),
+        rises: 0,
+        start: turns,
+        period: p,
+    }
+}
+
+// The cell has risen as often as was wanted. A period that is long for the turns made is not told, and is watched again.
+fn tell(w: Pace, turns: u32, after: &[u16; 256], cells: usize) -> Pace
+    requires { ⌜ cells ≤ 256 ⌝ }
+    ensures { λ r. ⌜ r .cell < 256 ⌝ }
+{
+    let p = std::num::wrapping_sub_u32(turns, w.start);
+    if turns / 8 < p {
+        return choose(w.want, 0, turns, after, cells);
+    }
+    choose(
+        std::num::wrapping_add_u32(w.want, w.want),
+        p,
+        turns,
+        after,
+        cells,
+    )
+}
+
+fn rose(before: &[u16; 256], after: &[u16; 256], cell: usize) -> bool
+    requires { ⌜ cell < 256 ⌝ }
+{
+    before[cell] < after[cell]
+}
+
+// The cell has risen so often since the turn `start`.
+fn counted(w: Pace, rises: u32, start: u32) -> Pace
+    requires { ⌜ w .cell < 256 ⌝ }
+    ensures { λ r. ⌜ r .cell < 256 ⌝ }
+{
+    Pace {
+        cell: w.cell,
+        want: w.want,
+        until: w.until,
+        rises: rises,
+        start: start,
+        period: 0,
+    }
+}
+
+// The pace after a round from before to after, the last of so many turns; `since` is the table after the cell's first rise.
+pub fn follow(
+    w: Pace,
+    turns: u32,
+    since: &mut [u16; 256],
+    before: &[u16; 256],
+    after: &[u16; 256],
+    cells: usize,
+) -> Pace
+    requires { ⌜ (cells ≤ 256) × (length (now since) ≡ 256) × (w .cell < 256) ⌝ }
+    ensures { λ r. ⌜ (length (now (since .exit)) ≡ 256) × (r .cell < 256) ⌝ }
+{
+    let cell = w.cell;
+    if w.until < turns {
+        return choose(w.want, 0, turns, after, cells);
+    }
+    if !rose(before, after, cell) {
+        return counted(w, w.rises, w.start);
+    }
+    if w.rises == 0 {
+        moves::copy(after, since, cells);
+        return counted(w, 1, turns);
+    }
+    if w.rises <= w.want {
+        return counted(w, std::num::wrapping_add_u32(w.rises, 1), w.start);
+    }
+    tell(w, turns, after, cells)
+}
+
+// The lesser of j and how often d may be added to t, and once more within the horizon.
+fn fewer(j: u32, t: u16, d: u16, horizon: u16) -> u32
+    ensures { λ r. ⌜ r ≤ j ⌝ }
+{
+    if d == 0 {
+        return j;
+    }
+    if horizon < t {
+        return 0;
+    }
+    let k = (horizon - t) as u32 / d as u32;
+    if k == 0 {
+        return 0;
+    }
+    if k - 1 < j {
+        return k - 1;
+    }
+    j
+}
+
+// How often the rises d may be added to t, and once more within the horizon, by at most so many rounds, p each time.
+pub fn most(t: &[u16; 256], d: &[u16; 256], horizon: u16, p: u32, left: u32, cells: usize) -> u32
+    requires { ⌜ cells ≤ 256 ⌝ }
+    ensures { λ r. ⌜ r ≤ 10080 ⌝ }
+{
+    let mut j: u32 = affordable(p, left);
+    let mut i: usize = 0;
+    while i < cells {
+        j = fewer(j, t[i], d[i], horizon);
+        i += 1;
+    }
+    j
+}
+
+// How often p rounds are among those left, at most the longest horizon.
+fn affordable(p: u32, left: u32) -> u32
+    ensures { λ r. ⌜ r ≤ 10080 ⌝ }
+{
+    if p == 0 {
+        return 0;
+    }
+    let k = left / p;
+    if 10080 < k {
+        return 10080;
+    }
+    k
+}
+
+fn greater_below(r: u16, d: u16, limit: u16) -> u16 {
+    if d < limit && r < d {
+        return d;
+    }
+    r
+}
+
+// The highest rise below the limit.
+pub fn highest_below(d: &[u16; 256], limit: u16, cells: usize) -> u16
+    requires { ⌜ cells ≤ 256 ⌝ }
+{
+    let mut r: u16 = 0;
+    let mut i: usize = 0;
+    while i < cells {
+        r = greater_below(r, d[i], limit);
+        i += 1;
+    }
+    r
+}
+
+// A rise and one more, if it is not 0: cells that have another period may rise once more in some p rounds than in others.
+pub fn margin(m: u16) -> u16
+    ensures { λ r. ⌜ r ≤ 10080 ⌝ }
+{
+    if m == 0 {
+        return 0;
+    }
+    if 10080 <= m {
+        return 10080;
+    }
+    m + 1
+}

@@ -1,0 +1,110 @@
+use mathlib.Core.Path.{_≡_, refl}
+use mathlib.Core.Bool.{false}
+use Prim.Native.Nat.{_+_, _*_, _≤_, _<_}
+use native.Mathlib.Omega.{arith}
+use borrow.Author.Tests.{not-false}
+use Rattle.leap.proofs.Passing.{passing-of}
+use borrow.Author.Needs.{needs}
+use Rattle.leap.proofs.pace.passes_after.Statement.{statement}
+use Rattle.leap.proofs.pace.passes_after.Tie as tie
+use Rattle.leap.proofs.pace.passes_after.Reads as reads
+use Rattle.leap.proofs.pace.passes_after.Lts as lts
+use Rattle.leap.proofs.pace.closing.Reads as closing-reads
+use Rattle.leap.proofs.pace.total.Reads as total-reads
+use Rattle.leap.proofs.test.advance.Reads as advance-reads
+use Rattle.leap.proofs.test.at_least.Reads as at-least-reads
+use Rattle.leap.proofs.test.at_most.Reads as at-most-reads
+use Rattle.leap.proofs.test.far.Reads as far-reads
+
+-- src/pace.rt:72:9
+far-requires : tie.Need-far-requires
+far-requires c κs = (c .before .pre .0, c .before .pre .1, c .before .pre .3, omega arith, c .before .pre .4, refl)
+
+-- src/pace.rt:73:9
+returns : tie.Need-returns
+returns c = (omega arith, λ h. absurd (omega arith))
+
+-- src/pace.rt:76:9
+advance-requires : tie.Need-advance-requires
+advance-requires c κs = (c .before .before .before .before .before .pre .0, c .before .before .before .before .before .pre .1)
+
+-- src/pace.rt:77:9
+returns-2 : tie.Need-returns-2
+returns-2 c = (omega arith, λ h. absurd (omega arith))
+
+-- src/pace.rt:79:9
+at-most-requires : tie.Need-at-most-requires
+at-most-requires c κs =
+    let high = c .before .before .before .before .before .before .before .far .ensures .1 (not-false _ (c .before .before .before .before .before .before .if1 .left)) in
+    (c .before .before .before .before .before .before .before .before .before .pre .0, c .before .before .before .before .before .before .before .before .before .pre .1, c .before .before .before .before .before .before .before .before .before .pre .3, c .before .before .before .before .before .before .before .before .before .pre .4, c .before .before .before .advance .ensures .1 (not-false _ (c .before .before .if2 .left)), high)
+
+-- src/pace.rt:80:9
+returns-3 : tie.Need-returns-3
+returns-3 c = (omega arith, λ h. absurd (omega arith))
+
+-- src/pace.rt:83:9
+far-requires-2 : tie.Need-far-requires-2
+far-requires-2 c κs = (c .before .before .before .before .before .before .before .before .before .before .before .before .pre .0, c .before .before .before .before .before .before .before .before .before .before .before .before .pre .1, c .before .before .before .before .before .before .before .before .before .before .before .before .pre .2, omega arith, c .before .before .before .before .before .before .before .before .before .before .before .before .pre .4, refl)
+
+-- src/pace.rt:84:9
+returns-4 : tie.Need-returns-4
+returns-4 c = (omega arith, λ h. absurd (omega arith))
+
+-- src/pace.rt:86:9
+at-least-requires : tie.Need-at-least-requires
+at-least-requires c κs = (c .before .before .before .before .before .before .before .before .before .before .before .before .before .before .before .pre .0, c .before .before .before .before .before .before .before .before .before .before .before .before .before .before .before .pre .1, c .before .before .before .before .before .before .before .before .before .before .before .before .before .before .before .pre .2, c .before .before .before .before .before .before .before .before .before .before .before .before .before .before .before .pre .4, c .before .before .far2 .ensures .1 (not-false _ (c .before .if4 .left)))
+
+-- src/pace.rt:87:9
+returns-5 : tie.Need-returns-5
+returns-5 c = (omega arith, λ h. absurd (omega arith))
+
+-- src/pace.rt:89:9
+closing-requires : tie.Need-closing-requires
+closing-requires c κs =
+    let high = c .before .before .before .before .before .before .before .before .before .before .before .before .before .before .before .before .before .far .ensures .1 (not-false _ (c .before .before .before .before .before .before .before .before .before .before .before .before .before .before .before .before .if1 .left)) in
+    let low = c .before .before .before .before .before .before .far2 .ensures .1 (not-false _ (c .before .before .before .before .before .if4 .left)) in
+    (c .before .before .before .before .before .before .before .before .before .before .before .before .before .before .before .before .before .before .before .pre .0, low .times, high .times)
+
+-- src/pace.rt:91:9
+returns-6 : tie.Need-returns-6
+returns-6 c = (omega arith, λ h. absurd (omega arith))
+
+-- src/pace.rt:93:9
+total-requires : tie.Need-total-requires
+total-requires c κs = (c .before .before .before .before .before .before .before .before .before .before .before .before .before .before .before .before .before .before .before .before .before .pre .4, c .before .before .before .before .before .before .before .before .before .before .before .before .before .before .before .before .before .before .before .before .before .pre .5, omega (arith, c .before .closing .ensures .0, c .before .before .before .before .before .before .before .before .before .before .before .before .before .before .before .before .before .before .before .before .before .pre .5))
+
+-- src/pace.rt:95:9
+returns-7 : tie.Need-returns-7
+returns-7 c = (omega arith, λ h. absurd (omega arith))
+
+-- src/pace.rt:55:1
+returns-8 : tie.Need-returns-8
+returns-8 c =
+    let high = c .before .before .before .before .before .before .before .before .before .before .before .before .before .before .before .before .before .before .before .before .before .far .ensures .1 (not-false _ (c .before .before .before .before .before .before .before .before .before .before .before .before .before .before .before .before .before .before .before .before .if1 .left)) in
+    let low = c .before .before .before .before .before .before .before .before .before .before .far2 .ensures .1 (not-false _ (c .before .before .before .before .before .before .before .before .before .if4 .left)) in
+    let most = c .before .before .before .before .before .before .before .before .before .before .before .before .before .at-most .ensures (not-false _ (c .before .before .before .before .before .before .before .before .before .before .before .before .if3 .left)) in
+    let least = c .before .before .before .before .before .before .before .at-least .ensures (not-false _ (c .before .before .before .before .before .before .if5 .left)) in (
+      omega (arith, c .if7 .left),
+      λ _. rw (c .before .total .ensures)
+          (passing-of _ _ _ _ _ _ _ _ (c .before .before .before .before .before .before .before .before .before .before .before .before .before .before .before .before .before .before .before .before .before .before .before .pre .3) (c .before .before .before .before .before .before .before .before .before .before .before .before .before .before .before .before .before .before .before .before .before .before .before .pre .2) most least high low (c .before .before .before .closing .ensures .3 (omega (arith, c .before .before .if6 .left))) (omega (arith, c .before .before .if6 .left))),
+    )
+
+pub passes-after-spec : {M : Type 1} → statement M
+passes-after-spec =
+    tie.close
+    (tie.spec
+    far-requires
+    returns
+    advance-requires
+    returns-2
+    at-most-requires
+    returns-3
+    far-requires-2
+    returns-4
+    at-least-requires
+    returns-5
+    closing-requires
+    returns-6
+    total-requires
+    returns-7
+    returns-8)

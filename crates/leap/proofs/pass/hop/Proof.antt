@@ -1,0 +1,100 @@
+use mathlib.Core.Path.{_≡_, refl}
+use mathlib.Core.Bool.{false}
+use Prim.Native.Nat.{_*_, _≤_}
+use native.Mathlib.Omega.{arith}
+use borrow.Author.Tests.{not-false}
+use Rattle.rounds.proofs.Usable.{scenarios-in}
+use Rattle.moves.proofs.Moves.{placed-times}
+use Rattle.leap.proofs.Tables.{horizon-few, advanced-none, far-of}
+use Rattle.leap.proofs.Hop.{advanced-hop}
+use borrow.Author.Needs.{needs}
+use Rattle.leap.proofs.pass.hop.Statement.{statement}
+use Rattle.leap.proofs.pass.hop.Tie as tie
+use Rattle.leap.proofs.pass.hop.Reads as reads
+use Rattle.leap.proofs.pass.hop.Lts as lts
+use Rattle.leap.proofs.pass.product.Reads as product-reads
+use Rattle.leap.proofs.test.advance.Reads as advance-reads
+use Rattle.leap.proofs.test.at_least.Reads as at-least-reads
+use Rattle.leap.proofs.test.at_most.Reads as at-most-reads
+use Rattle.moves.proofs.place.Reads as place-reads
+
+-- src/pass.rt:38:9
+product-requires : tie.Need-product-requires
+product-requires c κs = search needs
+
+-- src/pass.rt:40:9
+returns : tie.Need-returns
+returns c = (omega arith, advanced-none (c .before .before .pre .1), c .before .before .pre .6)
+
+-- src/pass.rt:43:56
+mul-place : tie.Need-mul-place
+mul-place c = omega (arith, scenarios-in (c .before .before .before .before .pre .0))
+
+-- src/pass.rt:43:9
+place-requires : tie.Need-place-requires
+place-requires c κs = (omega (arith, scenarios-in (c .before .before .before .before .before .pre .0)), refl, c .before .before .before .before .before .pre .3, omega arith)
+
+-- src/pass.rt:44:9
+returns-2 : tie.Need-returns-2
+returns-2 c = (omega arith, advanced-none (c .before .before .before .before .before .before .before .pre .1), c .before .before .before .before .before .before .before .pre .6)
+
+-- src/pass.rt:47:9
+advance-requires : tie.Need-advance-requires
+advance-requires c κs =
+    let placed = c .before .before .place .ensures .1 (not-false _ (c .before .if2 .left)) in
+    (c .before .before .before .before .before .before .before .before .pre .0, placed-times (c .before .before .before .before .before .before .before .before .pre .1) (c .before .before .before .before .before .before .before .before .pre .2) placed (c .before .before .place .ensures .0) (horizon-few (c .before .before .before .before .before .before .before .before .pre .0)))
+
+-- src/pass.rt:48:9
+returns-3 : tie.Need-returns-3
+returns-3 c = (omega arith, advanced-none (c .before .before .before .before .before .before .before .before .before .before .pre .1), c .before .before .before .before .before .before .before .before .before .before .pre .6)
+
+-- src/pass.rt:50:9
+at-most-requires : tie.Need-at-most-requires
+at-most-requires c κs =
+    let placed = c .before .before .before .before .before .before .before .place .ensures .1 (not-false _ (c .before .before .before .before .before .before .if2 .left)) in
+    let led = c .before .before .before .before .advance .ensures .1 (not-false _ (c .before .before .before .if3 .left)) in
+    (c .before .before .before .before .before .before .before .before .before .before .before .before .before .pre .0, c .before .before .before .before .before .before .before .before .before .before .before .before .before .pre .1, c .before .before .before .before .before .before .before .before .before .before .before .before .before .pre .2, c .before .before .before .before .before .before .before .before .before .before .before .before .before .pre .3, c .before .before .before .before .before .before .before .before .before .before .before .before .before .pre .6, far-of placed led)
+
+-- src/pass.rt:51:9
+returns-4 : tie.Need-returns-4
+returns-4 c = (omega arith, advanced-none (c .before .before .before .before .before .before .before .before .before .before .before .before .before .before .before .pre .1), c .before .before .before .before .before .before .before .before .before .before .before .before .before .before .before .pre .6)
+
+-- src/pass.rt:53:9
+at-least-requires : tie.Need-at-least-requires
+at-least-requires c κs =
+    let placed = c .before .before .before .before .before .before .before .before .before .before .before .place .ensures .1 (not-false _ (c .before .before .before .before .before .before .before .before .before .before .if2 .left)) in
+    let led = c .before .before .before .before .before .before .before .before .advance .ensures .1 (not-false _ (c .before .before .before .before .before .before .before .if3 .left)) in
+    (c .before .before .before .before .before .before .before .before .before .before .before .before .before .before .before .before .before .pre .0, c .before .before .before .before .before .before .before .before .before .before .before .before .before .before .before .before .before .pre .1, c .before .before .before .before .before .before .before .before .before .before .before .before .before .before .before .before .before .pre .2, c .before .before .before .before .before .before .before .before .before .before .before .before .before .before .before .before .before .pre .3, far-of placed led)
+
+-- src/pass.rt:54:9
+returns-5 : tie.Need-returns-5
+returns-5 c = (omega arith, advanced-none (c .before .before .before .before .before .before .before .before .before .before .before .before .before .before .before .before .before .before .before .pre .1), c .before .before .before .before .before .before .before .before .before .before .before .before .before .before .before .before .before .before .before .pre .6)
+
+-- src/pass.rt:21:1
+returns-6 : tie.Need-returns-6
+returns-6 c =
+    let placed = c .before .before .before .before .before .before .before .before .before .before .before .before .before .place .ensures .1 (not-false _ (c .before .before .before .before .before .before .before .before .before .before .before .before .if2 .left)) in
+    let led = c .before .before .before .before .before .before .before .before .before .before .advance .ensures .1 (not-false _ (c .before .before .before .before .before .before .before .before .before .if3 .left)) in
+    let most = c .before .before .before .before .before .at-most .ensures (not-false _ (c .before .before .before .before .if4 .left)) in
+    let least = c .before .at-least .ensures (not-false _ (c .if5 .left)) in (
+      omega (arith, c .before .before .before .before .before .before .before .before .before .before .before .before .before .before .before .before .before .if1 .left),
+      rw (c .before .before .before .before .before .before .before .before .before .before .before .before .before .before .before .before .before .before .product .ensures) (advanced-hop _ _ (c .before .before .before .before .before .before .before .before .before .before .before .before .before .before .before .before .before .before .before .pre .0) (c .before .before .before .before .before .before .before .before .before .before .before .before .before .before .before .before .before .before .before .pre .1) (c .before .before .before .before .before .before .before .before .before .before .before .before .before .before .before .before .before .before .before .pre .2) (c .before .before .before .before .before .before .before .before .before .before .before .before .before .place .ensures .0) (c .before .before .before .before .before .before .before .before .before .before .before .before .before .before .before .before .before .before .before .pre .5) placed most least),
+      led,
+    )
+
+pub hop-spec : {M : Type 1} → statement M
+hop-spec =
+    tie.close
+    (tie.spec
+    product-requires
+    returns
+    mul-place
+    place-requires
+    returns-2
+    advance-requires
+    returns-3
+    at-most-requires
+    returns-4
+    at-least-requires
+    returns-5
+    returns-6)

@@ -1,0 +1,120 @@
+use borrow.Author.Needs.{needs}
+use mathlib.Core.Path.{_≡_, refl}
+use Prim.Native.Nat.{_+_, _*_, _-_, _≤_}
+use native.Mathlib.Omega.{arith}
+use Rattle.rounds.proofs.Usable.{scenarios-in}
+use Rattle.moves.proofs.Moves.{wrote-times}
+use Rattle.moves.proofs.Levels.{some-of}
+use Rattle.leap.specs.Tables.{Advanced}
+use Rattle.leap.proofs.Tables.{advanced-none, advanced-join}
+use Rattle.leap.proofs.pass.pass_over.Statement.{statement}
+use Rattle.leap.proofs.pass.pass_over.Tie as tie
+use Rattle.leap.proofs.pass.pass_over.Reads as reads
+use Rattle.leap.proofs.pass.pass_over.Lts as lts
+use Rattle.guess.proofs.most.Reads as most-reads
+use Rattle.leap.proofs.pass.hop.Reads as hop-reads
+use Rattle.moves.proofs.next_level.Reads as next-level-reads
+use Rattle.moves.proofs.rise.Reads as rise-reads
+
+abbrev Inv-loop : tie.InvT-loop
+Inv-loop a₀ x₀ p tries left frame counts lists cells d j₀ made₀ tried₀ a x j made tried =
+    (made ≤ left) × (j ≤ 10080) × (tried ≤ tries) × Advanced frame counts lists made a₀ a × Advanced frame counts lists p a x
+
+abbrev μ-loop : tie.MeasureT-loop
+μ-loop a₀ x₀ p tries left frame counts lists cells d j₀ made₀ tried₀ a x j made tried = tries - tried
+
+-- src/pass.rt:79:9
+returns : tie.Need-returns Inv-loop μ-loop
+returns c = (omega arith, advanced-none (c .before .pre .1), c .before .pre .2)
+
+-- src/pass.rt:81:17
+mul-cells : tie.Need-mul-cells Inv-loop μ-loop
+mul-cells c = omega (arith, scenarios-in (c .before .before .pre .0))
+
+-- src/pass.rt:83:5
+rise-requires : tie.Need-rise-requires Inv-loop μ-loop
+rise-requires c κs = (omega (arith, scenarios-in (c .before .before .before .before .before .pre .0)), refl)
+
+-- src/pass.rt:84:8
+next-level-requires : tie.Need-next-level-requires Inv-loop μ-loop
+next-level-requires c κs = omega (arith, scenarios-in (c .before .before .before .before .before .before .before .pre .0))
+
+-- src/pass.rt:85:9
+returns-2 : tie.Need-returns-2 Inv-loop μ-loop
+returns-2 c = (omega arith, advanced-none (c .before .before .before .before .before .before .before .before .before .pre .1), c .before .before .before .before .before .before .before .before .before .pre .2)
+
+-- src/pass.rt:87:9
+most-requires : tie.Need-most-requires Inv-loop μ-loop
+most-requires c κs = omega (arith, scenarios-in (c .before .before .before .before .before .before .before .before .before .before .before .pre .0))
+
+-- src/pass.rt:90:5
+loop-holds : tie.Need-loop-holds Inv-loop μ-loop
+loop-holds c = (omega arith, c .most .ensures, omega arith, advanced-none (c .before .before .before .before .before .before .before .before .before .before .before .before .pre .1), c .before .before .before .before .before .before .before .before .before .before .before .before .pre .2)
+
+-- src/pass.rt:92:13
+returns-3 : tie.Need-returns-3 Inv-loop μ-loop
+returns-3 c = (c .before .before .loop .inv .0, c .before .before .loop .inv .3, c .before .before .loop .inv .4)
+
+-- src/pass.rt:94:37
+sub-hop : tie.Need-sub-hop Inv-loop μ-loop
+sub-hop c = omega (arith, c .before .before .before .before .before .loop .inv .0)
+
+-- src/pass.rt:94:17
+hop-requires : tie.Need-hop-requires Inv-loop μ-loop
+hop-requires c κs = (
+  c .before .before .before .before .before .before .before .before .before .before .before .before .before .before .before .before .before .before .pre .0,
+  c .before .before .before .before .before .loop .inv .3 .times,
+  wrote-times _ (c .before .before .before .before .before .before .before .before .before .before .before .before .before .before .before .before .before .before .pre .2 .times) refl (c .before .before .before .before .before .before .before .before .before .before .before .before .rise .ensures) (λ i. omega arith),
+  c .before .before .before .before .before .loop .inv .1,
+  omega (arith, c .before .before .before .before .before .before .before .before .before .before .before .before .before .before .before .before .before .if1 .left),
+  some-of (c .before .before .before .before .before .before .before .before .before .before .next-level .ensures) (c .before .before .before .before .before .before .before .before .before .if2 .left),
+  c .before .before .before .before .before .loop .inv .4,
+)
+
+-- src/pass.rt:94:9
+add-made : tie.Need-add-made Inv-loop μ-loop
+add-made c = omega (arith, c .before .before .before .before .before .before .loop .inv .0, c .hop .ensures .0, c .before .before .before .before .before .before .before .before .before .before .before .before .before .before .before .before .before .before .before .fits .left)
+
+-- src/pass.rt:96:9
+add-tried : tie.Need-add-tried Inv-loop μ-loop
+add-tried c = omega (arith, c .before .before .before .before .before .loop-test .taken, c .before .before .before .before .before .before .before .before .before .before .before .before .before .before .before .before .before .before .before .fits .tries)
+
+-- src/pass.rt:90:5
+loop-less : tie.Need-loop-less Inv-loop μ-loop
+loop-less c = omega (arith, c .before .before .before .before .before .loop-test .taken)
+
+-- src/pass.rt:90:5
+loop-again : tie.Need-loop-again Inv-loop μ-loop
+loop-again c = (
+  omega (arith, c .before .before .before .before .before .before .loop .inv .0, c .hop .ensures .0),
+  omega (arith, c .before .before .before .before .before .before .loop .inv .1),
+  omega (arith, c .before .before .before .before .before .loop-test .taken),
+  advanced-join (c .before .before .before .before .before .before .loop .inv .3) (c .hop .ensures .1),
+  c .hop .ensures .2,
+)
+
+-- src/pass.rt:63:1
+returns-4 : tie.Need-returns-4 Inv-loop μ-loop
+returns-4 c = (c .before .loop .inv .0, c .before .loop .inv .3, c .before .loop .inv .4)
+
+pub pass-over-spec : {M : Type 1} → statement M
+pass-over-spec =
+    tie.close
+    (tie.spec
+    Inv-loop
+    μ-loop
+    returns
+    mul-cells
+    rise-requires
+    next-level-requires
+    returns-2
+    most-requires
+    loop-holds
+    returns-3
+    sub-hop
+    hop-requires
+    add-made
+    add-tried
+    loop-less
+    loop-again
+    returns-4)

@@ -1,0 +1,97 @@
+use borrow.Author.Needs.{needs}
+use mathlib.Core.Path.{_≡_, refl}
+use mathlib.Core.Bool.{false}
+use Prim.Native.Nat.{_*_, _-_, _≤_, _<_}
+use native.Mathlib.Nat.{mul-le-mul}
+use native.Mathlib.Omega.{arith}
+use borrow.Author.Tests.{not-false}
+use Rattle.prelude.proofs.Tests.{clash}
+use Rattle.network.specs.declared.Network.{Network}
+use Rattle.rounds.specs.Compiled.{Compiled}
+use Rattle.rounds.proofs.Usable.{scenarios-in}
+use Rattle.leap.specs.Levels.{Slower}
+use Rattle.leap.proofs.Held.{cell-few}
+use Rattle.leap.proofs.Levels.{Lower, lower-start, lower-next}
+use Rattle.leap.proofs.Tested.{next-framed, at-least-of}
+use Rattle.leap.proofs.test.at_least.Statement.{statement}
+use Rattle.leap.proofs.test.at_least.Tie as tie
+use Rattle.leap.proofs.test.at_least.Reads as reads
+use Rattle.leap.proofs.test.at_least.Lts as lts
+use Rattle.leap.proofs.test.slower_hold.Reads as slower-hold-reads
+use Rattle.moves.proofs.between.Reads as between-reads
+use Rattle.moves.proofs.next_level.Reads as next-level-reads
+use Rattle.moves.proofs.reached.Reads as reached-reads
+
+abbrev Inv-loop : tie.InvT-loop
+Inv-loop t d o j p frame counts lists cells l₀ l = (l ≤ 10080) × ((Γ : Network) → Compiled Γ frame counts lists → Lower Γ d l (Slower Γ p j t d))
+
+abbrev μ-loop : tie.MeasureT-loop
+μ-loop t d o j p frame counts lists cells l₀ l = 10080 - l
+
+-- src/test.rt:197:17
+mul-cells : tie.Need-mul-cells Inv-loop μ-loop
+mul-cells c = omega (arith, scenarios-in (c .before .pre .0))
+
+-- src/test.rt:199:5
+loop-holds : tie.Need-loop-holds Inv-loop μ-loop
+loop-holds c = (omega arith, λ Γ C. lower-start)
+
+-- src/test.rt:200:13
+next-level-requires : tie.Need-next-level-requires Inv-loop μ-loop
+next-level-requires c κs = omega (arith, scenarios-in (c .before .before .pre .0))
+
+-- src/test.rt:202:17
+reached-requires : tie.Need-reached-requires Inv-loop μ-loop
+reached-requires c κs = (c .before .before .loop .inv .0, c .before .before .before .before .pre .3)
+
+-- src/test.rt:203:13
+between-requires : tie.Need-between-requires Inv-loop μ-loop
+between-requires c κs =
+    let h : c .before .before .before .before .before .args .j * c .before .before .before .loop .l ≤ 10080 * 10080 = mul-le-mul (c .before .before .before .before .before .pre .3) (c .before .before .before .loop .inv .0) in
+    (omega (arith, scenarios-in (c .before .before .before .before .before .pre .0)), omega (arith, c .reached .ensures, c .before .before .before .loop .inv .0), omega arith)
+
+-- src/test.rt:203:13
+returns : tie.Need-returns Inv-loop μ-loop
+returns c = λ e Γ C. at-least-of C (c .before .before .before .before .before .before .pre .2) (c .before .before .before .next-level .ensures) (c .before .before .if1 .taken) (c .before .reached .ensures) (c .before .before .before .before .loop .inv .1 Γ C) (c .before .before .before .before .before .before .pre .4) (c .between .ensures e)
+
+-- src/test.rt:205:13
+slower-hold-requires : tie.Need-slower-hold-requires Inv-loop μ-loop
+slower-hold-requires c κs = (c .before .before .before .before .pre .0, c .before .before .before .before .pre .1, c .before .before .before .before .pre .2, c .before .before .before .before .pre .3, c .before .before .loop .inv .0)
+
+-- src/test.rt:206:13
+returns-2 : tie.Need-returns-2 Inv-loop μ-loop
+returns-2 c = λ e. clash false e refl
+
+-- src/test.rt:199:5
+loop-less : tie.Need-loop-less Inv-loop μ-loop
+loop-less c =
+    let next = c .before .before .before .next-level .ensures in
+    let w = next .found (c .before .before .if1 .left) in
+    omega (arith, next .more (c .before .before .if1 .left), w .2, cell-few (c .before .before .before .before .before .before .pre .2) (scenarios-in (c .before .before .before .before .before .before .pre .0)) (w .0) (w .1))
+
+-- src/test.rt:199:5
+loop-again : tie.Need-loop-again Inv-loop μ-loop
+loop-again c =
+    let next = c .before .before .before .next-level .ensures in
+    let w = next .found (c .before .before .if1 .left) in
+    let known = c .before .slower-hold .ensures (not-false _ (c .if2 .left)) in (
+      omega (arith, w .2, cell-few (c .before .before .before .before .before .before .pre .2) (scenarios-in (c .before .before .before .before .before .before .pre .0)) (w .0) (w .1)),
+      λ Γ C. lower-next (C .formed .events) (c .before .before .before .before .loop .inv .1 Γ C) (known Γ C) (next-framed C next) (c .before .before .if1 .left),
+    )
+
+pub at-least-spec : {M : Type 1} → statement M
+at-least-spec =
+    tie.close
+    (tie.spec
+    Inv-loop
+    μ-loop
+    mul-cells
+    loop-holds
+    next-level-requires
+    reached-requires
+    between-requires
+    returns
+    slower-hold-requires
+    returns-2
+    loop-less
+    loop-again)

@@ -1,0 +1,93 @@
+use borrow.Author.Needs.{needs}
+use mathlib.Core.Path.{_≡_, refl}
+use mathlib.Core.Bool.{false}
+use Prim.Native.Nat.{_*_, _-_, _≤_, _<_}
+use native.Mathlib.Omega.{arith}
+use borrow.Author.Tests.{not-false}
+use Rattle.prelude.proofs.Tests.{clash}
+use Rattle.network.specs.declared.Network.{Network}
+use Rattle.rounds.specs.Compiled.{Compiled}
+use Rattle.rounds.proofs.Usable.{scenarios-in}
+use Rattle.leap.specs.Levels.{Faster}
+use Rattle.leap.proofs.Held.{cell-few}
+use Rattle.leap.proofs.Levels.{Lower, lower-start, lower-next}
+use Rattle.leap.proofs.Tested.{next-framed, at-most-of}
+use Rattle.leap.proofs.test.at_most.Statement.{statement}
+use Rattle.leap.proofs.test.at_most.Tie as tie
+use Rattle.leap.proofs.test.at_most.Reads as reads
+use Rattle.leap.proofs.test.at_most.Lts as lts
+use Rattle.leap.proofs.test.faster_hold.Reads as faster-hold-reads
+use Rattle.moves.proofs.between.Reads as between-reads
+use Rattle.moves.proofs.next_level.Reads as next-level-reads
+
+abbrev Inv-loop : tie.InvT-loop
+Inv-loop t d x o j p frame counts lists cells l₀ l = (l ≤ 10080) × ((Γ : Network) → Compiled Γ frame counts lists → Lower Γ d l (Faster Γ p j t d))
+
+abbrev μ-loop : tie.MeasureT-loop
+μ-loop t d x o j p frame counts lists cells l₀ l = 10080 - l
+
+-- src/test.rt:141:17
+mul-cells : tie.Need-mul-cells Inv-loop μ-loop
+mul-cells c = omega (arith, scenarios-in (c .before .pre .0))
+
+-- src/test.rt:143:5
+loop-holds : tie.Need-loop-holds Inv-loop μ-loop
+loop-holds c = (omega arith, λ Γ C. lower-start)
+
+-- src/test.rt:144:13
+next-level-requires : tie.Need-next-level-requires Inv-loop μ-loop
+next-level-requires c κs = omega (arith, scenarios-in (c .before .before .pre .0))
+
+-- src/test.rt:146:47
+cast-between : tie.Need-cast-between Inv-loop μ-loop
+cast-between c = search needs
+
+-- src/test.rt:146:13
+between-requires : tie.Need-between-requires Inv-loop μ-loop
+between-requires c κs = (omega (arith, scenarios-in (c .before .before .before .before .pre .0)), omega arith, omega (arith, c .before .before .loop .inv .0))
+
+-- src/test.rt:146:13
+returns : tie.Need-returns Inv-loop μ-loop
+returns c = λ e Γ C. at-most-of C (c .before .before .before .before .before .pre .2) (c .before .before .next-level .ensures) (c .before .if1 .taken) (c .before .before .before .loop .inv .1 Γ C) (c .before .before .before .before .before .pre .4) (c .between .ensures e)
+
+-- src/test.rt:148:13
+faster-hold-requires : tie.Need-faster-hold-requires Inv-loop μ-loop
+faster-hold-requires c κs = (c .before .before .before .before .pre .0, c .before .before .before .before .pre .1, c .before .before .before .before .pre .2, c .before .before .before .before .pre .3, c .before .before .loop .inv .0, c .before .before .before .before .pre .5)
+
+-- src/test.rt:149:13
+returns-2 : tie.Need-returns-2 Inv-loop μ-loop
+returns-2 c = λ e. clash false e refl
+
+-- src/test.rt:143:5
+loop-less : tie.Need-loop-less Inv-loop μ-loop
+loop-less c =
+    let next = c .before .before .before .next-level .ensures in
+    let w = next .found (c .before .before .if1 .left) in
+    omega (arith, next .more (c .before .before .if1 .left), w .2, cell-few (c .before .before .before .before .before .before .pre .2) (scenarios-in (c .before .before .before .before .before .before .pre .0)) (w .0) (w .1))
+
+-- src/test.rt:143:5
+loop-again : tie.Need-loop-again Inv-loop μ-loop
+loop-again c =
+    let next = c .before .before .before .next-level .ensures in
+    let w = next .found (c .before .before .if1 .left) in
+    let known = c .before .faster-hold .ensures (not-false _ (c .if2 .left)) in (
+      omega (arith, w .2, cell-few (c .before .before .before .before .before .before .pre .2) (scenarios-in (c .before .before .before .before .before .before .pre .0)) (w .0) (w .1)),
+      λ Γ C. lower-next (C .formed .events) (c .before .before .before .before .loop .inv .1 Γ C) (known Γ C) (next-framed C next) (c .before .before .if1 .left),
+    )
+
+pub at-most-spec : {M : Type 1} → statement M
+at-most-spec =
+    tie.close
+    (tie.spec
+    Inv-loop
+    μ-loop
+    mul-cells
+    loop-holds
+    next-level-requires
+    cast-between
+    between-requires
+    returns
+    faster-hold-requires
+    returns-2
+    loop-less
+    loop-again)

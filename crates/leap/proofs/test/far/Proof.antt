@@ -1,0 +1,43 @@
+use borrow.Author.Needs.{needs}
+use mathlib.Core.Path.{_≡_, refl}
+use mathlib.Core.Bool.{false}
+use Prim.Native.Nat.{_*_, _≤_}
+use native.Mathlib.Omega.{arith}
+use borrow.Author.Tests.{not-false}
+use Rattle.prelude.proofs.Tests.{clash}
+use Rattle.rounds.proofs.Usable.{scenarios-in}
+use Rattle.moves.proofs.Moves.{placed-times}
+use Rattle.leap.proofs.Tables.{horizon-few, far-of}
+use Rattle.leap.proofs.test.far.Statement.{statement}
+use Rattle.leap.proofs.test.far.Tie as tie
+use Rattle.leap.proofs.test.far.Reads as reads
+use Rattle.leap.proofs.test.far.Lts as lts
+use Rattle.leap.proofs.test.advance.Reads as advance-reads
+use Rattle.moves.proofs.place.Reads as place-reads
+
+-- src/test.rt:62:17
+mul-cells : tie.Need-mul-cells
+mul-cells c = omega (arith, scenarios-in (c .before .pre .0))
+
+-- src/test.rt:63:9
+place-requires : tie.Need-place-requires
+place-requires c κs = (omega (arith, scenarios-in (c .before .before .pre .0)), c .before .before .pre .5, c .before .before .pre .4, c .before .before .pre .3)
+
+-- src/test.rt:64:9
+returns : tie.Need-returns
+returns c = (c .before .place .ensures .0, λ e. clash false e refl)
+
+-- src/test.rt:66:5
+advance-requires : tie.Need-advance-requires
+advance-requires c κs =
+    let placed = c .before .before .place .ensures .1 (not-false _ (c .before .if1 .left)) in
+    (c .before .before .before .before .before .pre .0, placed-times (c .before .before .before .before .before .pre .1) (c .before .before .before .before .before .pre .2) placed (c .before .before .place .ensures .0) (horizon-few (c .before .before .before .before .before .pre .0)))
+
+-- src/test.rt:45:1
+returns-2 : tie.Need-returns-2
+returns-2 c =
+    let placed = c .before .before .before .place .ensures .1 (not-false _ (c .before .before .if1 .left)) in
+    (c .advance .ensures .0, λ e. far-of placed (c .advance .ensures .1 e))
+
+pub far-spec : {M : Type 1} → statement M
+far-spec = tie.close (tie.spec mul-cells place-requires returns advance-requires returns-2)

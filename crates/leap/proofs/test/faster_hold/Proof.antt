@@ -1,0 +1,36 @@
+use mathlib.Core.Path.{_≡_}
+use Prim.Native.Nat.{_*_, _≤_}
+use native.Mathlib.Omega.{arith}
+use Rattle.rounds.proofs.Usable.{scenarios-in}
+use Rattle.leap.proofs.Tested.{faster-lowest, faster-level}
+use borrow.Author.Needs.{needs}
+use Rattle.leap.proofs.test.faster_hold.Statement.{statement}
+use Rattle.leap.proofs.test.faster_hold.Tie as tie
+use Rattle.leap.proofs.test.faster_hold.Reads as reads
+use Rattle.leap.proofs.test.faster_hold.Lts as lts
+use Rattle.leap.proofs.test.at_level.Reads as at-level-reads
+use Rattle.moves.proofs.between.Reads as between-reads
+
+-- src/test.rt:117:49
+mul-between : tie.Need-mul-between
+mul-between c = omega (arith, scenarios-in (c .before .before .pre .0))
+
+-- src/test.rt:117:9
+between-requires : tie.Need-between-requires
+between-requires c κs = (omega (arith, scenarios-in (c .before .before .pre .0)), omega arith, omega arith)
+
+-- src/test.rt:117:9
+returns : tie.Need-returns
+returns c = λ e Γ C. rw (c .before .before .if1 .taken) (faster-lowest C (c .before .before .before .pre .2) (c .before .before .before .pre .5) (c .between .ensures e))
+
+-- src/test.rt:119:5
+at-level-requires : tie.Need-at-level-requires
+at-level-requires c κs = (c .before .pre .0, c .before .pre .1, c .before .pre .2, omega arith, c .before .pre .3, omega arith, omega (arith, c .before .pre .4))
+
+-- src/test.rt:99:1
+returns-2 : tie.Need-returns-2
+returns-2 c = λ e Γ C. faster-level C (c .before .before .pre .2) (c .at-level .ensures e)
+
+pub faster-hold-spec : {M : Type 1} → statement M
+faster-hold-spec =
+    tie.close (tie.spec mul-between between-requires returns at-level-requires returns-2)

@@ -1,0 +1,130 @@
+// The leap: rounds passed over at once, if p of them are seen to add the same rises again and again.
+ghost use mathlib.Core.Path.{_≡_};
+ghost use Prim.Native.Nat.{ℕ, _+_, _*_, _≤_, _<_};
+ghost use lib.ListN.{length};
+ghost use Rattle.rows.specs.Rows.{Times};
+ghost use Rattle.rounds.specs.Compiled.{Usable};
+ghost use Rattle.moves.specs.Levels.{Some};
+ghost use Rattle.leap.specs.Tables.{Advanced};
+use crate::test;
+use rows::Frame;
+
+fn product(j: u32, p: u32) -> u32
+    requires { ⌜ (j ≤ 10080) × (p ≤ 65535) ⌝ }
+    ensures { λ r. ⌜ r ≡ j * p ⌝ }
+{
+    j * p
+}
+
+// j times p rounds at once, if they are seen to add d each time, stay within the limits and are no more than are left: how many. x is
+// what p rounds make of a, before and after.
+fn hop(
+    a: &mut [u16; 256],
+    x: &mut [u16; 256],
+    d: &[u16; 256],
+    j: u32,
+    p: u32,
+    left: u32,
+    frame: Frame,
+    counts: &[usize; 16],
+    lists: &[u16; 6144],
+) -> u32
+    requires { ⌜ Usable frame (now counts) (now lists) × Times (frame .events) (frame .scenarios) (now a)
+        × Times (frame .events) (frame .scenarios) (now d) × (j ≤ 10080) × (p ≤ 65535) × Some (now d) (frame .scenarios * 16)
+        × Advanced frame (now counts) (now lists) p (now a) (now x) ⌝ }
+    ensures { λ r. ⌜ (r ≤ left) × Advanced frame (now (counts .entry)) (now (lists .entry)) r (now (a .entry)) (now (a .exit))
+        × Advanced frame (now (counts .entry)) (now (lists .entry)) p (now (a .exit)) (now (x .exit)) ⌝ }
+{
+    let made = product(j, p);
+    if left < made {
+        return 0;
+    }
+    let mut o: [u16; 256] = [0; 256];
+    if !moves::place(
+        a,
+        d,
+        0,
+        10080,
+        j,
+        frame.horizon,
+        frame.scenarios * 16,
+        &mut o,
+    ) {
+        return 0;
+    }
+    let mut y = o;
+    if !test::advance(&mut y, p, frame, counts, lists) {
+        return 0;
+    }
+    if !test::at_most(a, d, x, &y, j, p, frame, counts, lists) {
+        return 0;
+    }
+    if !test::at_least(a, d, &y, j, p, frame, counts, lists) {
+        return 0;
+    }
+    *a = o;
+    *x = y;
+    made
+}
+
+// Takes a, from which p rounds lead to x, and x with it on by rounds that all raise within the limits: how many, of those that are left.
+// So many counts of moves are tried, each half the one before.
+fn pass_over(
+    a: &mut [u16; 256],
+    x: &mut [u16; 256],
+    p: u32,
+    tries: u32,
+    left: u32,
+    frame: Frame,
+    counts: &[usize; 16],
+    lists: &[u16; 6144],
+) -> u32
+    requires { ⌜ Usable frame (now counts) (now lists) × Times (frame .events) (frame .scenarios) (now a)
+        × Advanced frame (now counts) (now lists) p (now a) (now x) ⌝ }
+    ensures { λ r. ⌜ (r ≤ left) × Advanced frame (now (counts .entry)) (now (lists .entry)) r (now (a .entry)) (now (a .exit))
+        × Advanced frame (now (counts .entry)) (now (lists .entry)) p (now (a .exit)) (now (x .exit)) ⌝ }
+{
+    if 65535 < p {
+        return 0;
+    }
+    let cells = frame.scenarios * 16;
+    let mut d: [u16; 256] = [0; 256];
+    moves::rise(a, x, &mut d, cells);
+    if moves::next_level(&d, 0, cells) == 0 {
+        return 0;
+    }
+    let mut j = guess::most(a, &d, frame.horizon, p, left, cells);
+    let mut made: u32 = 0;
+    let mut tried: u32 = 0;
+    while tried < tries {
+        if j < 4 {
+            return made;
+        }
+        made += hop(a, x, &d, j, p, left - made, frame, counts, lists);
+        j = j / 2;
+        tried += 1;
+    }
+    made
+}
+
+// The same, where anything is to be tried.
+pub fn pass_over_if(
+    a: &mut [u16; 256],
+    x: &mut [u16; 256],
+    p: u32,
+    tries: u32,
+    left: u32,
+    frame: Frame,
+    counts: &[usize; 16],
+    lists: &[u16; 6144],
+) -> u32
+    requires { ⌜ Usable frame (now counts) (now lists) × Times (frame .events) (frame .scenarios) (now a)
+        × Advanced frame (now counts) (now lists) p (now a) (now x) ⌝ }
+    ensures { λ r. ⌜ (r ≤ left) × Advanced frame (now (counts .entry)) (now (lists .entry)) r (now (a .entry)) (now (a .exit))
+        × Advanced frame (now (counts .entry)) (now (lists .entry)) p (now (a .exit)) (now (x .exit)) ⌝ }
+{
+    if tries == 0 {
+        return 0;
+    }
+    pass_over(a, x, p, tries, left, frame, counts, lists)
+}

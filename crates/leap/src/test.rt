@@ -1,0 +1,210 @@
+// Whether p rounds add the rises d to a table, and j times again, or at most, or at least d: by rounds from tables far on.
+ghost use mathlib.Core.Path.{_≡_};
+ghost use mathlib.Core.Bool.{true};
+ghost use Prim.Native.Nat.{ℕ, _+_, _*_, _≤_, _<_};
+ghost use lib.ListN.{length};
+ghost use Rattle.fixpoint.specs.Step.{iterate};
+ghost use Rattle.fixpoint.specs.Straight.{AtMost, AtLeast};
+ghost use Rattle.network.specs.declared.Network.{Network};
+ghost use Rattle.rows.specs.Rows.{Times};
+ghost use Rattle.rounds.specs.Propagate.{propagate};
+ghost use Rattle.rounds.specs.Compiled.{Compiled, Usable};
+ghost use Rattle.rounds.specs.Rounds.{held};
+ghost use Rattle.leap.specs.Tables.{Advanced, Far};
+ghost use Rattle.leap.specs.Levels.{AtLevel, Level, Faster, Slower};
+use rounds::Outcome;
+use rows::Frame;
+
+// p rounds from a on, each of which raises within the limits.
+pub fn advance(
+    a: &mut [u16; 256],
+    p: u32,
+    frame: Frame,
+    counts: &[usize; 16],
+    lists: &[u16; 6144],
+) -> bool
+    requires { ⌜ Usable frame (now counts) (now lists) × Times (frame .events) (frame .scenarios) (now a) ⌝ }
+    ensures { λ r. ⌜ (length (now (a .exit)) ≡ 256)
+        × (r ≡ true → Advanced frame (now (counts .entry)) (now (lists .entry)) p (now (a .entry)) (now (a .exit))) ⌝ }
+{
+    let mut b: [u16; 256] = [0; 256];
+    let mut i: u32 = 0;
+    while i < p {
+        match rounds::round(a, &mut b, frame, counts, lists) {
+            Outcome::Passes => return false,
+            Outcome::Rests => return false,
+            Outcome::Rises => {}
+        }
+        *a = b;
+        i += 1;
+    }
+    true
+}
+
+// o becomes what p rounds make of t moved on j times by the part of d between lo and hi; whether each of them raises within the limits.
+pub fn far(
+    t: &[u16; 256],
+    d: &[u16; 256],
+    lo: u16,
+    hi: u16,
+    j: u32,
+    p: u32,
+    frame: Frame,
+    counts: &[usize; 16],
+    lists: &[u16; 6144],
+    o: &mut [u16; 256],
+) -> bool
+    requires { ⌜ Usable frame (now counts) (now lists) × Times (frame .events) (frame .scenarios) (now t)
+        × Times (frame .events) (frame .scenarios) (now d) × (hi ≤ 10080) × (j ≤ 10080) × (length (now o) ≡ 256) ⌝ }
+    ensures { λ r. ⌜ (length (now (o .exit)) ≡ 256) × (r ≡ true → Far frame (now (counts .entry)) (now (lists .entry)) p j
+        (now (t .entry)) (now (d .entry)) lo hi (now (o .exit))) ⌝ }
+{
+    let cells = frame.scenarios * 16;
+    if !moves::place(t, d, lo, hi, j, frame.horizon, cells, o) {
+        return false;
+    }
+    advance(o, p, frame, counts, lists)
+}
+
+// Whether a cell of rise l goes at least `low` and at most `high` in p rounds from the table so moved on.
+fn at_level(
+    t: &[u16; 256],
+    d: &[u16; 256],
+    l: u16,
+    lo: u16,
+    hi: u16,
+    low: u32,
+    high: u32,
+    j: u32,
+    p: u32,
+    frame: Frame,
+    counts: &[usize; 16],
+    lists: &[u16; 6144],
+) -> bool
+    requires { ⌜ Usable frame (now counts) (now lists) × Times (frame .events) (frame .scenarios) (now t)
+        × Times (frame .events) (frame .scenarios) (now d) × (hi ≤ 10080) × (j ≤ 10080)
+        × (low ≤ 200000000) × (high ≤ 200000000) ⌝ }
+    ensures { λ r. ⌜ (r ≡ true → AtLevel frame (now (counts .entry)) (now (lists .entry)) p j (now (t .entry)) (now (d .entry)) l
+        lo hi low high) ⌝ }
+{
+    let mut o: [u16; 256] = [0; 256];
+    if !far(t, d, lo, hi, j, p, frame, counts, lists, &mut o) {
+        return false;
+    }
+    moves::between(t, d, l, low, high, &o, frame.scenarios * 16)
+}
+
+// Whether cells that are faster than l, j leads ahead, do not raise a cell of rise l by more than l. At the lowest level the table so
+// moved on is t moved on by d, of which p rounds make o.
+fn faster_hold(
+    t: &[u16; 256],
+    d: &[u16; 256],
+    l: u16,
+    o: &[u16; 256],
+    j: u32,
+    p: u32,
+    frame: Frame,
+    counts: &[usize; 16],
+    lists: &[u16; 6144],
+) -> bool
+    requires { ⌜ Usable frame (now counts) (now lists) × Times (frame .events) (frame .scenarios) (now t)
+        × Times (frame .events) (frame .scenarios) (now d) × (j ≤ 10080) × (l ≤ 10080)
+        × Far frame (now counts) (now lists) p j (now t) (now d) 0 10080 (now o) ⌝ }
+    ensures { λ r. ⌜ (r ≡ true → (Γ : Network) → Compiled Γ frame (now (counts .entry)) (now (lists .entry))
+        → Level Γ (now (d .entry)) l (Faster Γ p j (now (t .entry)) (now (d .entry)))) ⌝ }
+{
+    if l == 0 {
+        return moves::between(t, d, 0, 0, 0, o, frame.scenarios * 16);
+    }
+    at_level(t, d, l, l, 10080, 0, l as u32, j, p, frame, counts, lists)
+}
+
+// Whether p rounds add at most d to t, and j times again, level by level. At the highest level no cell is faster, and p rounds make x
+// of t.
+pub fn at_most(
+    t: &[u16; 256],
+    d: &[u16; 256],
+    x: &[u16; 256],
+    o: &[u16; 256],
+    j: u32,
+    p: u32,
+    frame: Frame,
+    counts: &[usize; 16],
+    lists: &[u16; 6144],
+) -> bool
+    requires { ⌜ Usable frame (now counts) (now lists) × Times (frame .events) (frame .scenarios) (now t)
+        × Times (frame .events) (frame .scenarios) (now d) × (j ≤ 10080) × Advanced frame (now counts) (now lists) p (now t) (now x)
+        × Far frame (now counts) (now lists) p j (now t) (now d) 0 10080 (now o) ⌝ }
+    ensures { λ r. ⌜ (r ≡ true → (Γ : Network) → Compiled Γ frame (now (counts .entry)) (now (lists .entry))
+        → AtMost (iterate p (propagate Γ)) (held Γ (now (t .entry))) (held Γ (now (d .entry))) j) ⌝ }
+{
+    let cells = frame.scenarios * 16;
+    let mut l: u16 = 0;
+    loop {
+        let next = moves::next_level(d, l, cells);
+        if next == 0 {
+            return moves::between(t, d, l, 0, l as u32, x, cells);
+        }
+        if !faster_hold(t, d, l, o, j, p, frame, counts, lists) {
+            return false;
+        }
+        l = next;
+    }
+}
+
+// Whether cells that are slower than l, j lags behind, are not what raises a cell of rise l: it still goes l further than j moves. At
+// the lowest level there is nothing to raise.
+fn slower_hold(
+    t: &[u16; 256],
+    d: &[u16; 256],
+    l: u16,
+    j: u32,
+    p: u32,
+    frame: Frame,
+    counts: &[usize; 16],
+    lists: &[u16; 6144],
+) -> bool
+    requires { ⌜ Usable frame (now counts) (now lists) × Times (frame .events) (frame .scenarios) (now t)
+        × Times (frame .events) (frame .scenarios) (now d) × (j ≤ 10080) × (l ≤ 10080) ⌝ }
+    ensures { λ r. ⌜ (r ≡ true → (Γ : Network) → Compiled Γ frame (now (counts .entry)) (now (lists .entry))
+        → Level Γ (now (d .entry)) l (Slower Γ p j (now (t .entry)) (now (d .entry)))) ⌝ }
+{
+    if l == 0 {
+        return true;
+    }
+    let low = moves::reached(l, l, j);
+    at_level(t, d, l, 0, l, low, 200000000, j, p, frame, counts, lists)
+}
+
+// Whether p rounds add at least d to t, and j times again, level by level. At the highest level the table so moved on is t moved on by
+// d, of which p rounds make o.
+pub fn at_least(
+    t: &[u16; 256],
+    d: &[u16; 256],
+    o: &[u16; 256],
+    j: u32,
+    p: u32,
+    frame: Frame,
+    counts: &[usize; 16],
+    lists: &[u16; 6144],
+) -> bool
+    requires { ⌜ Usable frame (now counts) (now lists) × Times (frame .events) (frame .scenarios) (now t)
+        × Times (frame .events) (frame .scenarios) (now d) × (j ≤ 10080)
+        × Far frame (now counts) (now lists) p j (now t) (now d) 0 10080 (now o) ⌝ }
+    ensures { λ r. ⌜ (r ≡ true → (Γ : Network) → Compiled Γ frame (now (counts .entry)) (now (lists .entry))
+        → AtLeast (iterate p (propagate Γ)) (held Γ (now (t .entry))) (held Γ (now (d .entry))) j) ⌝ }
+{
+    let cells = frame.scenarios * 16;
+    let mut l: u16 = 0;
+    loop {
+        let next = moves::next_level(d, l, cells);
+        if next == 0 {
+            let low = moves::reached(l, l, j);
+            return moves::between(t, d, l, low, 200000000, o, cells);
+        }
+        if !slower_hold(t, d, l, j, p, frame, counts, lists) {
+            return false;
+        }
+        l = next;
+    }
+}

@@ -1,0 +1,3 @@
+-- What the loops over tables keep, cell by cell.
+pub mod Moves
+pub mod Levels

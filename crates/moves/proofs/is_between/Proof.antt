@@ -1,0 +1,35 @@
+use mathlib.Core.Path.{refl}
+use mathlib.Core.Bool.{false}
+use Rattle.prelude.proofs.Tests.{clash}
+use borrow.Author.Needs.{needs}
+use Rattle.moves.proofs.is_between.Statement.{statement}
+use Rattle.moves.proofs.is_between.Tie as tie
+use Rattle.moves.proofs.is_between.Reads as reads
+use Rattle.moves.proofs.is_between.Lts as lts
+
+-- src/lib.rt:141:9
+returns : tie.Need-returns
+returns c = search needs
+
+-- src/lib.rt:143:21
+add-if2 : tie.Need-add-if2
+add-if2 c = search needs
+
+-- src/lib.rt:144:9
+returns-2 : tie.Need-returns-2
+returns-2 c = λ e. clash false e refl
+
+-- src/lib.rt:146:8
+add-if3 : tie.Need-add-if3
+add-if3 c = search needs
+
+-- src/lib.rt:147:9
+returns-3 : tie.Need-returns-3
+returns-3 c = λ e. clash false e refl
+
+-- src/lib.rt:136:1
+returns-4 : tie.Need-returns-4
+returns-4 c = search needs
+
+pub is-between-spec : {M : Type 1} → statement M
+is-between-spec = tie.close (tie.spec returns add-if2 returns-2 add-if3 returns-3 returns-4)

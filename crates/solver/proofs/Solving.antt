@@ -1,0 +1,167 @@
+-- A run from all zeros with a budget of more than the room below the limits is the solver's. Assumes nothing.
+use mathlib.Core.Path.{_≡_, refl, sym, _∙_, ap}
+use mathlib.Core.Bool.{Bool, true, false, cond}
+use mathlib.Core.List.{List, _++_}
+use Prim.Native.Nat.{ℕ, zero, suc, _+_, _-_, _*_, _%_, _≤_, _<_}
+use native.Mathlib.Nat.{mul-le-mul}
+use native.Mathlib.Omega.{arith}
+use lib.Dec.{eqb}
+use lib.ListN.{length, getD, drop, replicate, length-replicate, length-append, length-drop}
+use lib.Seq.{ext-getD}
+use Rattle.prelude.specs.Bounded.{sumBelow}
+use Rattle.prelude.proofs.Bounded.{getD-tabulate}
+use Rattle.prelude.proofs.Cells.{by-cell}
+use Rattle.fixpoint.specs.Run.{room, End, Rests, Passes, Spent, Run}
+use Rattle.fixpoint.proofs.Budget.{enough}
+use Rattle.network.specs.Build.{scenarios, cells}
+use Rattle.network.specs.WellFormed.{WellFormed}
+use Rattle.network.specs.declared.Network.{Network}
+use Rattle.rows.specs.declared.Frame.{Frame}
+use Rattle.rows.specs.Rows.{packed, Times}
+use Rattle.rows.specs.Framed.{Framed}
+use Rattle.rows.proofs.Packed.{sixteen, length-packed, packed-at}
+use Rattle.bounds.specs.Listed.{Lists}
+use Rattle.rounds.specs.Propagate.{propagate}
+use Rattle.rounds.specs.Cap.{cap}
+use Rattle.rounds.specs.Rounds.{held}
+use Rattle.rounds.proofs.Ends.{length-cap}
+use Rattle.rounds.proofs.Turns.{length-held, step-rises}
+use Rattle.solver.specs.declared.Solved.the-variants.{Found, Inconsistent}
+use Rattle.solver.specs.declared.Ended.{Ended}
+use Rattle.solver.specs.declared.Ended.the-variants as ended
+use Rattle.solver.specs.Solve.{floor, solve}
+use Rattle.solver.specs.Solved.{solvedOf, tableAfter, SolvedIs}
+use Rattle.solver.specs.Run.{endedBy, RunIs}
+
+-- tables and lists that hold nothing yet
+pub zeros-at : (n i : ℕ) → getD {A = ℕ} (replicate n 0) i 0 ≡ 0
+zeros-at zero i = refl
+zeros-at (suc n) zero = refl
+zeros-at (suc n) (suc i) = zeros-at n i
+
+pub zero-times : (n c : ℕ) → Times n c (replicate 256 0)
+zero-times n c = record {
+  sized = length-replicate {A = ℕ} 256 0;
+  few = λ s u h l. rw (zeros-at 256 (s * 16 + u)) (omega arith);
+  beyond = λ s u h l m. zeros-at 256 (s * 16 + u);
+}
+
+pub zero-lists : (n : ℕ) → 1 ≤ n → Lists n (replicate 16 0) (replicate 6144 0)
+zero-lists n h = record {
+  counts-sized = length-replicate {A = ℕ} 16 0;
+  lists-sized = length-replicate {A = ℕ} 6144 0;
+  targets = λ b. rw (zeros-at 6144 (b * 3)) h;
+  sources = λ b. rw (zeros-at 6144 (b * 3 + 1)) h;
+  weights = λ b. rw (zeros-at 6144 (b * 3 + 2)) (omega arith);
+}
+
+sumBelow-le : (f : ℕ → ℕ) (n m : ℕ) → ((k : ℕ) → k < n → f k ≤ m) → sumBelow n f ≤ n * m
+sumBelow-le f zero m h = omega arith
+sumBelow-le f (suc n) m h = omega (arith, h n (omega arith), sumBelow-le f n m (λ k l. h k (omega arith)))
+
+cond-few : (b : Bool) (h m : ℕ) → h ≤ m → cond b 0 h ≤ m
+cond-few true h m l = omega arith
+cond-few false h m l = l
+
+-- what an answer tells of the run: any end but rest finds that there is none
+ended-rests : (e : End) (m n k j : ℕ) → ended.Rests k j ≡ endedBy e m n → (e ≡ Rests) × (k ≡ m)
+ended-rests Rests m n k j z = (refl, cc)
+ended-rests Passes m n k j z = (cc, cc)
+ended-rests Spent m n k j z = (cc, cc)
+
+ended-passes : (e : End) (m n k j : ℕ) → ended.Passes k j ≡ endedBy e m n → (e ≡ Passes) × (k ≡ m)
+ended-passes Rests m n k j z = (cc, cc)
+ended-passes Passes m n k j z = (refl, cc)
+ended-passes Spent m n k j z = (cc, cc)
+
+ended-spent : (e : End) (m n k j : ℕ) → ended.Spent k j ≡ endedBy e m n → (e ≡ Spent) × (k ≡ m)
+ended-spent Rests m n k j z = (cc, cc)
+ended-spent Passes m n k j z = (cc, cc)
+ended-spent Spent m n k j z = (refl, cc)
+
+solved-none : (Γ : Network) (e : End) (k : ℕ) → solve Γ .end ≡ e → k ≡ solve Γ .rounds → (e ≡ Rests → ⊥) → (table : List ℕ)
+    → SolvedIs Γ table table (Inconsistent k)
+solved-none Γ Rests k p q n table = absurd (n refl)
+solved-none Γ Passes k p q n table = record { answer = rw (p, solvedOf, q); table = rw (p, tableAfter) }
+solved-none Γ Spent k p q n table = record { answer = rw (p, solvedOf, q); table = rw (p, tableAfter) }
+
+module _ (Γ : Network) (W : WellFormed Γ) where
+  held-zeros : held Γ (replicate 256 0) ≡ floor Γ
+  held-zeros =
+      let n : length (held Γ (replicate 256 0)) ≡ cells Γ = length-packed (Γ .events) (scenarios Γ) (replicate 256 0) in
+      ext-getD 0 (held Γ (replicate 256 0)) (floor Γ) (n ∙ sym (length-replicate {A = ℕ} (cells Γ) 0)) (λ i b.
+      by-cell (Γ .events) (scenarios Γ) (λ k. getD (held Γ (replicate 256 0)) k 0 ≡ getD (floor Γ) k 0)
+      (λ s u h l.
+      packed-at (Γ .events) (scenarios Γ) (replicate 256 0) s u h l
+      ∙ (zeros-at 256 (s * 16 + u) ∙ sym (zeros-at (cells Γ) (s * Γ .events + u))))
+      i (omega (arith, n)))
+
+  room-few : room (cap Γ) (floor Γ) ≤ 2580480
+  room-few =
+      let size : cells Γ ≤ 256 = mul-le-mul (W .events) (sixteen (Γ .signals) (W .signals)) in
+      let most : room (cap Γ) (floor Γ) ≤ length (cap Γ) * 10080 =
+      sumBelow-le (λ i. getD (cap Γ) i 0 - getD (floor Γ) i 0) (length (cap Γ)) 10080 (λ i l.
+      let at = getD-tabulate (λ j. cond (eqb (j % Γ .events) 0) 0 (Γ .horizon)) (cells Γ) i 0 (omega (arith, length-cap Γ)) in
+      omega (arith, at, cond-few (eqb (i % Γ .events) 0) (Γ .horizon) 10080 (W .horizon)))
+      in
+      omega (arith, most, length-cap Γ, size)
+
+  module _ {exit : List ℕ} {r : Ended} (A : RunIs Γ 2580481 (replicate 256 0) exit r) where
+    run-solves : A .run ≡ solve Γ
+    unfolding solve
+    run-solves =
+        A .run-is
+        ∙ rw held-zeros
+        (enough (propagate Γ) (cap Γ) (step-rises Γ) 0 (suc (room (cap Γ) (floor Γ))) 2580481 (floor Γ)
+        (ap length (sym held-zeros) ∙ length-held Γ (replicate 256 0)) (omega arith) (omega (arith, room-few)))
+
+  pub solved-resting : {exit : List ℕ} {k j : ℕ} → RunIs Γ 2580481 (replicate 256 0) exit (ended.Rests k j) → (entry after : List ℕ)
+      → after ≡ held Γ exit ++ drop (Γ .events * scenarios Γ) entry → SolvedIs Γ entry after (Found k)
+  solved-resting {exit} {k} {j} A entry after z =
+      let w = ended-rests (A .run .end) (A .run .rounds) (A .turns) k j (A .answer) in
+      let rests : solve Γ .end ≡ Rests = rw (run-solves A) at (w .0) in
+      let count : k ≡ solve Γ .rounds = rw (run-solves A) at (w .1) in
+      let here : held Γ exit ≡ solve Γ .reached = rw (run-solves A) at (A .reached (λ e.
+      let y : _≡_ {A = End} Rests Passes = sym (w .0) ∙ e in let z : _≡_ {A = ℕ} 0 1 = cc in omega arith)) in
+      let size : length (solve Γ .reached) ≡ Γ .events * scenarios Γ =
+      ap length (sym here) ∙ length-packed (Γ .events) (scenarios Γ) exit in
+      record {
+        answer = rw (rests, solvedOf, count);
+        table = z ∙ rw (rests, tableAfter, here, size);
+      }
+
+  pub solved-passing : {exit : List ℕ} {k j : ℕ} → RunIs Γ 2580481 (replicate 256 0) exit (ended.Passes k j) → (table : List ℕ)
+      → SolvedIs Γ table table (Inconsistent k)
+  solved-passing {k = k} {j} A =
+      let w = ended-passes (A .run .end) (A .run .rounds) (A .turns) k j (A .answer) in
+      solved-none Γ Passes k (rw (run-solves A) at (w .0)) (rw (run-solves A) at (w .1))
+      (λ e. let z : _≡_ {A = ℕ} 0 1 = cc in omega arith)
+
+  pub solved-spent : {exit : List ℕ} {k j : ℕ} → RunIs Γ 2580481 (replicate 256 0) exit (ended.Spent k j) → (table : List ℕ)
+      → SolvedIs Γ table table (Inconsistent k)
+  solved-spent {k = k} {j} A =
+      let w = ended-spent (A .run .end) (A .run .rounds) (A .turns) k j (A .answer) in
+      solved-none Γ Spent k (rw (run-solves A) at (w .0)) (rw (run-solves A) at (w .1))
+      (λ e. let z : _≡_ {A = ℕ} 0 1 = cc in omega arith)
+
+-- an answer that is told
+pub run-as : {Γ : Network} {n : ℕ} {t t′ : List ℕ} {r r′ : Ended} → r ≡ r′ → RunIs Γ n t t′ r → RunIs Γ n t t′ r′
+run-as e h = rw e at h
+
+-- what the frame says in place of the network
+module _ (Γ : Network) (frame : Frame) (F : Framed Γ frame) where
+  pub cells-framed : (m : ℕ) → cells Γ ≤ m → Γ .events * frame .scenarios ≤ m
+  cells-framed m h = rw (F .scenarios-are) h
+
+  -- the lent table, once t is copied into it
+  pub copied-framed : (t entry now exit : List ℕ) → now ≡ entry
+      → exit ≡ packed (Γ .events) (frame .scenarios) t ++ drop (Γ .events * frame .scenarios) now
+      → exit ≡ held Γ t ++ drop (Γ .events * scenarios Γ) entry
+  copied-framed t entry now exit e z = rw (F .scenarios-are, e) at z
+
+  pub copied-length : (t entry now exit : List ℕ) → now ≡ entry → cells Γ ≤ length entry
+      → exit ≡ packed (Γ .events) (frame .scenarios) t ++ drop (Γ .events * frame .scenarios) now → length exit ≡ length entry
+  copied-length t entry now exit e l z =
+      ap length (copied-framed t entry now exit e z)
+      ∙ (length-append (held Γ t) (drop (cells Γ) entry)
+      ∙ omega (arith, length-packed (Γ .events) (scenarios Γ) t, length-drop (cells Γ) entry))
