@@ -1,20 +1,17 @@
--- Laws of lists of bounds: one bound more, and what a list asks of a row. Assumes nothing.
-use mathlib.Core.Path.{_≡_, refl, sym, _∙_}
+-- Laws of lists of bounds: one bound more. Assumes nothing.
+use mathlib.Core.Path.{_≡_, refl, _∙_}
 use mathlib.Core.Logic.{inl, inr}
 use mathlib.Core.Bool.{true, false}
 use mathlib.Core.List.{List}
 use Prim.Native.Nat.{ℕ, zero, suc, _+_, _*_, _≤_, _<_, max}
 use native.Mathlib.Numerals.{add-one}
 use native.Mathlib.Omega.{arith}
-use borrow.Author.Tests.{eqb-true, eqb-false}
-use lib.Dec.{eqb}
 use lib.ListN.{length, getD, set, length-set}
 use lib.Seq.{getD-set-same, getD-set-other}
 use Rattle.prelude.specs.Bounded.{maxBelow}
-use Rattle.prelude.proofs.Tests.{either, eq-or-ne}
+use Rattle.prelude.proofs.Tests.{eq-or-ne}
 use Rattle.network.specs.Scenario.{satisfies}
 use Rattle.network.specs.declared.Label.{Label}
-use Rattle.rows.specs.Rows.{Row}
 use Rattle.bounds.specs.Listed.{asking, target, source, weight, listed, countAfter, listAfter, Lists, Short, Added}
 
 pub maxBelow-ext : (f g : ℕ → ℕ) (n : ℕ) → ((k : ℕ) → k < n → f k ≡ g k) → maxBelow n f ≡ maxBelow n g
@@ -178,24 +175,6 @@ module _ (ℓ : Label) (x y z : ℕ) (counts lists : List ℕ) where
             λ r l row u.
             append-other n counts′ lists′ s x y z L h room row u r (λ q. omega arith) (below r) ∙ A .later r (omega arith) row u;
       }
-
--- a row raised by one bound more of scenario s
-pub row-asked : (lists : List ℕ) (b j : ℕ) (row o₀ o : List ℕ) (v : ℕ)
-    → Row o (λ u. max (getD o₀ u 0) (maxBelow j (λ i. asking (target lists (b + i)) (source lists (b + i)) (weight lists (b + i)) row u)))
-    → target lists (b + j) < 16
-    → v ≡ max (getD o (target lists (b + j)) 0) (getD row (source lists (b + j)) 0 + weight lists (b + j))
-    → Row (set o (target lists (b + j)) v)
-    (λ u. max (getD o₀ u 0) (maxBelow (j + 1) (λ i. asking (target lists (b + i)) (source lists (b + i)) (weight lists (b + i)) row u)))
-row-asked lists b j row o₀ o v h l e =
-    let d = target lists (b + j) in
-    record {
-      sized = length-set o d v ∙ h .sized;
-      is =
-          λ u m. rw (add-one j) (elim (either (eqb d u)) [
-            | inl p ↦ rw (p, ← eqb-true d u p) (omega (arith, getD-set-same o d v 0 (omega (arith, h .sized)), h .is d l))
-            | inr q ↦ rw q (omega (arith, getD-set-other o d u v 0 (λ z. eqb-false d u q (sym z)), h .is u m))
-          ]);
-    }
 
 pub lists-wider : (n m : ℕ) (counts lists : List ℕ) → n ≤ m → Lists n counts lists → Lists m counts lists
 lists-wider n m counts lists l L = record {

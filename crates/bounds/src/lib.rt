@@ -6,7 +6,7 @@ ghost use mathlib.Core.Path.{_≡_};
 ghost use Prim.Native.Nat.{ℕ, _+_, _-_, _*_, _≤_, _<_, max};
 ghost use lib.ListN.{length, getD};
 ghost use Rattle.network.specs.WellFormed.{InLimits};
-ghost use Rattle.rows.specs.Rows.{Row};
+ghost use Rattle.rows.specs.Rows.{Few, Row};
 ghost use Rattle.bounds.specs.Listed.{Lists, Short, Bound, Added, listed, upperWeight, lowerWeight, countAfter, listAfter};
 ghost use Rattle.bounds.specs.Halves.{Listable, UpperAdded, LowerAdded};
 use network::Constraint;
@@ -98,7 +98,7 @@ pub fn list_lower(frame: Frame, c: Constraint, counts: &mut [usize; 16], lists: 
 
 // 10,080 more than each time, so that no bound needs a sign.
 pub fn lift(row: &[u16; 16], o: &mut [u16; 16])
-    requires { ⌜ ((u : ℕ) → u < 16 → getD (now row) u 0 ≤ 10080) × (length (now o) ≡ 16) ⌝ }
+    requires { ⌜ Few 10080 (now row) × (length (now o) ≡ 16) ⌝ }
     ensures { λ _. ⌜ Row (now (o .exit)) (λ u. getD (now (row .entry)) u 0 + 10080) ⌝ }
 {
     let mut u: usize = 0;
@@ -117,7 +117,7 @@ pub fn raise_by_bounds(
     o: &mut [u16; 16],
 )
     requires { ⌜ (s < 16) × Lists 16 (now counts) (now lists) × Short 128 (now counts)
-        × ((u : ℕ) → u < 16 → getD (now row) u 0 ≤ 10080) × (length (now o) ≡ 16) ⌝ }
+        × Few 10080 (now row) × (length (now o) ≡ 16) × Few 32767 (now o) ⌝ }
     ensures { λ _. ⌜ Row (now (o .exit))
         (λ u. max (getD (now (o .entry)) u 0) (listed (now (counts .entry)) (now (lists .entry)) s (now (row .entry)) u)) ⌝ }
 {

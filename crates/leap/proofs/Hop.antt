@@ -38,7 +38,7 @@ module _ {frame : Frame} {counts lists : List ℕ} where
         let here : held Γ o ≡ moved (held Γ t) j (λ i. getD (held Γ d) i 0) =
         held-moved Γ (C .formed .events) (placed-framed C P) ∙ moved-whole C t d j D in
         let some : Some d (scenarios Γ * 16) = rw (C .framed .scenarios-are) at S in
-        let w = some-cell Γ (C .formed .events) (framed-times Γ frame counts lists d C D) some in
+        let w = some-cell Γ (C .formed .events) (framed-times C D) some in
         let led = leads-leap (propagate Γ) (cap Γ) (step-rises Γ) (step-near Γ) (held Γ t) (length-held Γ t) (held Γ d) p j (M Γ C) (L Γ C)
         (rw here at (placed-within Γ (C .formed .events) (placed-framed C P)))
         (w .0) (omega (arith, w .1, length-packed (Γ .events) (scenarios Γ) t)) (w .2) in

@@ -42,7 +42,7 @@ module _ {frame : Frame} {counts lists : List ℕ} where
       moved-ext (held Γ t) j (λ i. partOf 0 10080 (getD (held Γ d) i 0)) (λ i. getD (held Γ d) i 0) (λ i b.
       omega (
         arith,
-        held-few Γ (C .formed .events) d (framed-times Γ frame counts lists d C D) i
+        held-few Γ (C .formed .events) d (framed-times C D) i
             (omega (arith, length-packed (Γ .events) (scenarios Γ) t)),
       ))
 

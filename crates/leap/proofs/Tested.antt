@@ -50,7 +50,7 @@ module _ {frame : Frame} {counts lists : List ℕ} {Γ : Network} (C : Compiled 
       pub faster-level : {l : ℕ} → AtLevel frame counts lists p j t d l l 10080 0 l → Level Γ d l (Faster Γ p j t d)
       faster-level {l} A =
           faster-by Γ few p j t d (between-framed (A .between))
-          (far-as (λ x. x - l) (A .far) (λ i b. omega (arith, held-few Γ few d (framed-times Γ frame counts lists d C D) i b))) (omega arith)
+          (far-as (λ x. x - l) (A .far) (λ i b. omega (arith, held-few Γ few d (framed-times C D) i b))) (omega arith)
 
       pub slower-level : {l least most : ℕ} → least ≡ l + j * l → AtLevel frame counts lists p j t d l 0 l least most
           → Level Γ d l (Slower Γ p j t d)
@@ -61,7 +61,7 @@ module _ {frame : Frame} {counts lists : List ℕ} {Γ : Network} (C : Compiled 
       pub faster-lowest : {o : List ℕ} → Far frame counts lists p j t d 0 10080 o → Between t d 0 0 0 o (frame .scenarios * 16)
           → Level Γ d 0 (Faster Γ p j t d)
       faster-lowest F B =
-          faster-by Γ few p j t d (between-framed B) (far-as (λ x. x - 0) F (λ i b. omega (arith, held-few Γ few d (framed-times Γ frame counts lists d C D) i b))) (omega arith)
+          faster-by Γ few p j t d (between-framed B) (far-as (λ x. x - 0) F (λ i b. omega (arith, held-few Γ few d (framed-times C D) i b))) (omega arith)
 
       -- at the highest
       module _ {l r : ℕ} (N : NextLevel d l (frame .scenarios * 16) r) (z : r ≡ 0) where
@@ -77,7 +77,7 @@ module _ {frame : Frame} {counts lists : List ℕ} {Γ : Network} (C : Compiled 
             → Between t d l least most o (frame .scenarios * 16) → Level Γ d l (Slower Γ p j t d)
         slower-highest e F B =
             slower-by Γ few p j t d (between-framed B)
-            (far-as (λ x. min x l) F (λ i b. omega (arith, held-low Γ few d l (next-framed N .none z) i b, held-few Γ few d (framed-times Γ frame counts lists d C D) i b))) (omega arith)
+            (far-as (λ x. min x l) F (λ i b. omega (arith, held-low Γ few d l (next-framed N .none z) i b, held-few Γ few d (framed-times C D) i b))) (omega arith)
 
         pub at-most-of : {x : List ℕ} → Lower Γ d l (Faster Γ p j t d) → Advanced frame counts lists p t x
             → Between t d l 0 l x (frame .scenarios * 16) → AtMost (iterate p (propagate Γ)) (held Γ t) (held Γ d) j

@@ -199,8 +199,8 @@ pub fn at_least(
     loop {
         let next = moves::next_level(d, l, cells);
         if next == 0 {
-            let low = moves::reached(l, l, j);
-            return moves::between(t, d, l, low, 200000000, o, cells);
+            let last = moves::reached(l, l, j);
+            return moves::between(t, d, l, last, 200000000, o, cells);
         }
         if !slower_hold(t, d, l, j, p, frame, counts, lists) {
             return false;

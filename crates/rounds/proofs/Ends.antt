@@ -4,8 +4,7 @@ use mathlib.Core.Path.{_≡_, sym, _∙_, ap}
 use mathlib.Core.Logic.{_⊎_, inl, inr}
 use mathlib.Core.Bool.{Bool, true, false, cond}
 use mathlib.Core.List.{List}
-use Prim.Native.Nat.{ℕ, _+_, _-_, _*_, _%_, _≤_, _<_, max}
-use native.Mathlib.Numerals.{add-one}
+use Prim.Native.Nat.{ℕ, _+_, _-_, _*_, _%_, _≤_, _<_}
 use native.Mathlib.Omega.{arith}
 use borrow.Author.Tests.{ne-eqb}
 use lib.Dec.{eqb}
@@ -22,8 +21,7 @@ use Rattle.fixpoint.proofs.Within.{within-at, within-by}
 use Rattle.network.specs.Build.{scenarios, cells}
 use Rattle.network.specs.declared.Network.{Network}
 use Rattle.rows.specs.declared.Frame.{Frame}
-use Rattle.rows.specs.declared.Seen.{Seen}
-use Rattle.rows.specs.Rows.{packed, Times, Stored}
+use Rattle.rows.specs.Rows.{packed, Times}
 use Rattle.rows.proofs.Packed.{length-packed, packed-at}
 use Rattle.rounds.specs.declared.Outcome.{Outcome}
 use Rattle.rounds.specs.declared.Outcome.the-variants.{Passes, Rests, Rises}
@@ -31,57 +29,9 @@ use Rattle.rounds.specs.Propagate.{propagate, raised}
 use Rattle.rounds.specs.Cap.{cap}
 use Rattle.rounds.specs.Compiled.{Compiled, raisedAt}
 use Rattle.rounds.specs.Rounds.{outcomeOf, Rounded}
+use Rattle.rounds.proofs.Rounding.{Rounding, greatest, le-greatest, greatest-le}
 use Rattle.rounds.proofs.Raised.{raised-is, raised-beyond}
 use Rattle.rounds.proofs.Rising.{length-propagate, time-propagate}
-
--- the greatest over c rows of sixteen
-abbrev pub grid : ℕ → (ℕ → ℕ → ℕ) → ℕ
-grid c f = maxBelow c (λ s. maxBelow 16 (f s))
-
-le-grid : (c : ℕ) (f : ℕ → ℕ → ℕ) (s u : ℕ) → s < c → u < 16 → f s u ≤ grid c f
-le-grid c f s u h l = omega (arith, le-maxBelow (λ r. maxBelow 16 (f r)) c s h, le-maxBelow (f s) 16 u l)
-
-grid-le : (c : ℕ) (f : ℕ → ℕ → ℕ) (m : ℕ) → ((s u : ℕ) → s < c → u < 16 → f s u ≤ m) → grid c f ≤ m
-grid-le c f m h = maxBelow-le (λ s. maxBelow 16 (f s)) c m (λ s l. maxBelow-le (f s) 16 m (λ u k. h s u l k))
-
-one-more : (f : ℕ → ℕ) (s a b : ℕ) → a ≡ max b (f s) → b ≡ maxBelow s f → a ≡ maxBelow (s + 1) f
-one-more f s a b p q = rw (add-one, ← q) p
-
--- the first s rows are stored: t before the round, new after it, made what each cell is to be
-pub record Rounding (made : ℕ → ℕ → ℕ) (c : ℕ) (t new : List ℕ) (seen : Seen) (s : ℕ) : Type 0 where
-  pub rows : s ≤ c
-  pub sized : length new ≡ 256
-  pub done : (r u : ℕ) → r < s → u < 16 → getD new (r * 16 + u) 0 ≡ made r u
-  pub climb : seen .climb ≡ grid s (λ r u. made r u - getD t (r * 16 + u) 0)
-  pub highest : seen .highest ≡ grid s made
-  pub origin : seen .origin ≡ maxBelow s (λ r. made r 0)
-
-module _ (made : ℕ → ℕ → ℕ) (c : ℕ) (t : List ℕ) where
-  pub rounding-none : (new : List ℕ) (seen : Seen) → length new ≡ 256 → seen .climb ≡ 0 → seen .highest ≡ 0 → seen .origin ≡ 0
-      → Rounding made c t new seen 0
-  rounding-none new seen l p q r = record {
-    rows = omega arith;
-    sized = l;
-    done = λ r u h. absurd (omega arith);
-    climb = p;
-    highest = q;
-    origin = r;
-  }
-
-  pub rounding-next : {new new′ : List ℕ} {seen seen′ : Seen} {s : ℕ} → Rounding made c t new seen s → s < c
-      → Stored new new′ s (λ u. getD t (s * 16 + u) 0) (made s) seen seen′ → Rounding made c t new′ seen′ (s + 1)
-  rounding-next {s = s} h l g = record {
-    rows = omega arith;
-    sized = g .wrote .sized ∙ h .sized;
-    done =
-        λ r u k m. elim (eq-or-ne r s) [
-          | inl q ↦ rw q (g .wrote .here u m)
-          | inr q ↦ g .wrote .other (r * 16 + u) (inl (omega arith)) ∙ h .done r u (omega arith) m
-        ];
-    climb = one-more (λ r. maxBelow 16 (λ u. made r u - getD t (r * 16 + u) 0)) s _ _ (g .climb) (h .climb);
-    highest = one-more (λ r. maxBelow 16 (made r)) s _ _ (g .highest) (h .highest);
-    origin = one-more (λ r. made r 0) s _ _ (g .origin) (h .origin);
-  }
 
 module _ (Γ : Network) where
   pub length-cap : length (cap Γ) ≡ cells Γ
@@ -97,8 +47,9 @@ cond-le : (b : Bool) (h : ℕ) → cond b 0 h ≤ h
 cond-le true h = omega arith
 cond-le false h = omega arith
 
-module _ (Γ : Network) (frame : Frame) (counts lists t new : List ℕ) (seen : Seen) (C : Compiled Γ frame counts lists)
-    (T : Times (Γ .events) (scenarios Γ) t) (R : Rounding (raisedAt frame counts lists t) (scenarios Γ) t new seen (scenarios Γ)) where
+module _ {Γ : Network} {frame : Frame} {counts lists t new climb highest : List ℕ} (C : Compiled Γ frame counts lists)
+    (T : Times (Γ .events) (scenarios Γ) t)
+    (R : Rounding (raisedAt frame counts lists t) (scenarios Γ) t new climb highest (scenarios Γ)) where
   abbrev σ : List ℕ
   σ = packed (Γ .events) (scenarios Γ) t
 
@@ -133,15 +84,18 @@ module _ (Γ : Network) (frame : Frame) (counts lists t new : List ℕ) (seen : 
       i (omega (arith, n)))
 
   -- the limits
-  within-is : seen .highest ≤ Γ .horizon → seen .origin ≡ 0 → within (cap Γ) (propagate Γ σ) ≡ true
+  origin-is : getD highest 0 0 ≡ maxBelow (scenarios Γ) (λ r. made r 0)
+  origin-is = R .highest-is .is 0 (omega arith)
+
+  within-is : greatest highest ≤ Γ .horizon → getD highest 0 0 ≤ 0 → within (cap Γ) (propagate Γ σ) ≡ true
   within-is p q =
       within-by (cap Γ) (propagate Γ σ) (λ i b.
       by-cell (Γ .events) (scenarios Γ) (λ k. getD (propagate Γ σ) k 0 ≤ getD (cap Γ) k 0)
       (λ s u h l.
       rw (made-at s u h l, cap-at Γ s u h l) (elim (eq-or-ne u 0) [
-        | inl z ↦ rw z (omega (arith, R .origin, le-maxBelow (λ r. made r 0) (scenarios Γ) s h))
+        | inl z ↦ rw z (omega (arith, origin-is, le-maxBelow (λ r. made r 0) (scenarios Γ) s h))
         | inr z ↦
-            rw (ne-eqb u 0 z) (omega (arith, R .highest, le-grid (scenarios Γ) made s u h (omega (arith, sixteen-events))))
+            rw (ne-eqb u 0 z) (omega (arith, le-greatest _ _ (R .highest-is) s u h (omega (arith, sixteen-events))))
       ]))
       i (omega (arith, length-cap Γ)))
 
@@ -155,19 +109,18 @@ module _ (Γ : Network) (frame : Frame) (counts lists t new : List ℕ) (seen : 
         cap-at Γ s u h l,
       )
 
-  highest-of : within (cap Γ) (propagate Γ σ) ≡ true → seen .highest ≤ Γ .horizon
+  highest-of : within (cap Γ) (propagate Γ σ) ≡ true → greatest highest ≤ Γ .horizon
   highest-of e =
-      rw (R .highest)
-      (grid-le (scenarios Γ) made (Γ .horizon)
+      greatest-le _ _ (R .highest-is) (Γ .horizon)
       (all-cells (λ s u. made s u ≤ Γ .horizon)
       (λ s u h l. omega (arith, limit-of e s u h l, cond-le (eqb u 0) (Γ .horizon)))
-      (λ s u h l m. omega (arith, beyond s u h l m))))
+      (λ s u h l m. omega (arith, beyond s u h l m)))
 
-  origin-of : within (cap Γ) (propagate Γ σ) ≡ true → seen .origin ≡ 0
+  origin-of : within (cap Γ) (propagate Γ σ) ≡ true → getD highest 0 0 ≤ 0
   origin-of e =
       omega (
         arith,
-        R .origin,
+        origin-is,
         maxBelow-le (λ r. made r 0) (scenarios Γ) 0 (λ s h. limit-of e s 0 h (C .formed .some-event)),
       )
 
@@ -175,7 +128,7 @@ module _ (Γ : Network) (frame : Frame) (counts lists t new : List ℕ) (seen : 
   above : (s u : ℕ) → s < scenarios Γ → u < Γ .events → getD t (s * 16 + u) 0 ≤ made s u
   above s u h l = omega (arith, made-is s u h l, packed-at (Γ .events) (scenarios Γ) t s u h l)
 
-  same-is : seen .climb ≡ 0 → same (propagate Γ σ) σ ≡ true
+  same-is : greatest climb ≡ 0 → same (propagate Γ σ) σ ≡ true
   same-is e =
       let n : length σ ≡ cells Γ = length-packed (Γ .events) (scenarios Γ) t in
       same-of-eq (propagate Γ σ) σ
@@ -186,17 +139,16 @@ module _ (Γ : Network) (frame : Frame) (counts lists t new : List ℕ) (seen : 
         arith,
         made-at s u h l,
         packed-at (Γ .events) (scenarios Γ) t s u h l,
-        R .climb,
         above s u h l,
-        le-grid (scenarios Γ) (λ r v. made r v - getD t (r * 16 + v) 0) s u h (omega (arith, sixteen-events)),
+        le-greatest _ _ (R .climb-is) s u h (omega (arith, sixteen-events)),
       ))
       i (omega (arith, length-propagate Γ σ))))
 
-  climb-of : same (propagate Γ σ) σ ≡ true → seen .climb ≡ 0
+  climb-of : same (propagate Γ σ) σ ≡ true → greatest climb ≡ 0
   climb-of e =
       let z : propagate Γ σ ≡ σ = same-true (propagate Γ σ) σ e in
-      let none : grid (scenarios Γ) (λ r v. made r v - getD t (r * 16 + v) 0) ≤ 0 =
-      grid-le (scenarios Γ) (λ r v. made r v - getD t (r * 16 + v) 0) 0
+      let none : greatest climb ≤ 0 =
+      greatest-le _ _ (R .climb-is) 0
       (all-cells (λ s u. made s u - getD t (s * 16 + u) 0 ≤ 0)
       (λ s u h l.
       omega (
@@ -207,13 +159,13 @@ module _ (Γ : Network) (frame : Frame) (counts lists t new : List ℕ) (seen : 
       ))
       (λ s u h l m. omega (arith, beyond s u h l m)))
       in
-      omega (arith, R .climb)
+      omega arith
 
   -- the three ways
   rounded : (r : Outcome) → r ≡ outcomeOf Γ σ → (r ≡ Rises → Times (Γ .events) (scenarios Γ) new) → Rounded Γ t new r
   rounded r e f = record { sized = R .sized; made = packed-made; outcome-is = e; times = f }
 
-  pub ends-passing : (Γ .horizon < seen .highest) ⊎ (0 < seen .origin) → Rounded Γ t new Passes
+  pub ends-passing : (Γ .horizon < greatest highest) ⊎ (0 < getD highest 0 0) → Rounded Γ t new Passes
   unfolding outcomeOf
   ends-passing p =
       let out : within (cap Γ) (propagate Γ σ) ≡ false =
@@ -222,12 +174,12 @@ module _ (Γ : Network) (frame : Frame) (counts lists t new : List ℕ) (seen : 
       in
       rounded Passes (rw out) (λ e. absurd (let z : _≡_ {A = ℕ} 0 1 = cc in omega arith))
 
-  module _ (low : seen .highest ≤ Γ .horizon) (zeros : seen .origin ≡ 0) where
-    pub ends-resting : seen .climb ≡ 0 → Rounded Γ t new Rests
+  module _ (low : greatest highest ≤ Γ .horizon) (zeros : getD highest 0 0 ≤ 0) where
+    pub ends-resting : greatest climb ≡ 0 → Rounded Γ t new Rests
     unfolding outcomeOf
     ends-resting e = rounded Rests (rw (within-is low zeros, same-is e)) (λ e. absurd (let z : _≡_ {A = ℕ} 0 1 = cc in omega arith))
 
-    pub ends-rising : (seen .climb ≡ 0 → ⊥) → Rounded Γ t new Rises
+    pub ends-rising : (greatest climb ≡ 0 → ⊥) → Rounded Γ t new Rises
     unfolding outcomeOf
     ends-rising e =
         let rose : same (propagate Γ σ) σ ≡ false = false-of-not-true (same (propagate Γ σ) σ) (λ z. e (climb-of z)) in
@@ -235,17 +187,18 @@ module _ (Γ : Network) (frame : Frame) (counts lists t new : List ℕ) (seen : 
           sized = R .sized;
           few =
               λ s u h l.
-              omega (arith, R .done s u h l, le-grid (scenarios Γ) made s u h l, R .highest, C .formed .horizon);
+              omega (arith, R .done s u h l, le-greatest _ _ (R .highest-is) s u h l, C .formed .horizon);
           beyond = λ s u h l m. R .done s u h m ∙ beyond s u h l m;
         })
 
 -- what the code knows of its frame is known of the network
-module _ (Γ : Network) (frame : Frame) (counts lists t : List ℕ) (C : Compiled Γ frame counts lists) where
+module _ {Γ : Network} {frame : Frame} {counts lists t : List ℕ} (C : Compiled Γ frame counts lists) where
   pub framed-times : Times (frame .events) (frame .scenarios) t → Times (Γ .events) (scenarios Γ) t
   framed-times T = rw (C .framed .events, C .framed .scenarios-are) at T
 
-  pub framed-rounds : {made : ℕ → ℕ → ℕ} {new : List ℕ} {seen : Seen} {s : ℕ} → Rounding made (frame .scenarios) t new seen s
-      → frame .scenarios ≤ s → Rounding made (scenarios Γ) t new seen (scenarios Γ)
-  framed-rounds {made} {new} {seen} {s} R l =
+  pub framed-rounds : {made : ℕ → ℕ → ℕ} {new climb highest : List ℕ} {s : ℕ}
+      → Rounding made (frame .scenarios) t new climb highest s → frame .scenarios ≤ s
+      → Rounding made (scenarios Γ) t new climb highest (scenarios Γ)
+  framed-rounds {made} {new} {climb} {highest} {s} R l =
       let e : s ≡ scenarios Γ = omega (arith, R .rows, C .framed .scenarios-are) in
       rw (C .framed .scenarios-are, e) at R

@@ -1,5 +1,5 @@
 -- How a row is raised: by the bounds of its scenario, then by the other scenarios in the order of their differences. Assumes nothing.
-use mathlib.Core.Path.{_≡_, sym, _∙_, ap}
+use mathlib.Core.Path.{_≡_, _∙_, ap}
 use mathlib.Core.List.{List}
 use Prim.Native.Nat.{ℕ, _+_, _-_, _*_, _^_, _≤_, _<_, max, min}
 use native.Mathlib.Numerals.{add-one}
@@ -8,7 +8,6 @@ use lib.Bits.{bitXor, xor-zero-r}
 use lib.ListN.{getD}
 use Rattle.prelude.specs.Bounded.{maxBelow}
 use Rattle.rows.specs.declared.Frame.{Frame}
-use Rattle.rows.specs.declared.Seen.{Seen}
 use Rattle.rows.specs.Rows.{rowOf, Row, Stored}
 use Rattle.rows.specs.Known.{First}
 use Rattle.rows.proofs.Packed.{row-at}
@@ -63,11 +62,11 @@ module _ (counts lists t : List ℕ) (s : ℕ) where
   }
 
 -- rows that are the same are stored the same
-pub stored-ext : {t t′ : List ℕ} {s : ℕ} {seen seen′ : Seen} (f f′ g g′ : ℕ → ℕ) → ((u : ℕ) → u < 16 → f u ≡ f′ u)
-    → ((u : ℕ) → u < 16 → g u ≡ g′ u) → Stored t t′ s f g seen seen′ → Stored t t′ s f′ g′ seen seen′
+pub stored-ext : {t t′ climb climb′ highest highest′ : List ℕ} {s : ℕ} (f f′ g g′ : ℕ → ℕ)
+    → ((u : ℕ) → u < 16 → f u ≡ f′ u) → ((u : ℕ) → u < 16 → g u ≡ g′ u)
+    → Stored t t′ s f g climb climb′ highest highest′ → Stored t t′ s f′ g′ climb climb′ highest highest′
 stored-ext f f′ g g′ p q h = record {
   wrote = record { sized = h .wrote .sized; here = λ u l. h .wrote .here u l ∙ q u l; other = h .wrote .other };
-  climb = rw (maxBelow-ext (λ u. g′ u - f′ u) (λ u. g u - f u) 16 (λ u l. omega (arith, p u l, q u l))) (h .climb);
-  highest = rw (maxBelow-ext g′ g 16 (λ u l. sym (q u l))) (h .highest);
-  origin = rw (← q 0 (omega arith)) (h .origin);
+  climb-is = record { sized = h .climb-is .sized; is = λ u l. omega (arith, h .climb-is .is u l, p u l, q u l) };
+  highest-is = record { sized = h .highest-is .sized; is = λ u l. omega (arith, h .highest-is .is u l, q u l) };
 }

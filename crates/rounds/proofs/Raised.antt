@@ -33,7 +33,7 @@ unfolding reaction
 reaction-is Γ p = refl
 
 -- a hyperarc by the set of propositions on which its scenarios differ
-leastKnown-first : (Γ : Network) (σ : List ℕ) (s r m : ℕ) → m ≤ 65535 → (k : ℕ)
+leastKnown-first : (Γ : Network) (σ : List ℕ) (s r m : ℕ) → m ≤ 32767 → (k : ℕ)
     → leastKnown Γ σ s r m k ≡ min m (firstOf k (knownFrom Γ σ s) (bitXor s r))
 leastKnown-first Γ σ s r m l zero = omega arith
 leastKnown-first Γ σ s r m l (suc k) =

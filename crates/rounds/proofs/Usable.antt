@@ -1,14 +1,22 @@
--- What a compiled network keeps that the rounds' code needs to be safe. Assumes nothing.
+-- What a compiled network keeps that the rounds' code needs to be safe: indices that are in, and numbers below 32,768,
+-- which can be compared with a sign. Assumes nothing.
 use mathlib.Core.Path.{_≡_, _∙_}
 use mathlib.Core.List.{List}
-use Prim.Native.Nat.{ℕ, _^_, _≤_, _<_}
+use Prim.Native.Nat.{ℕ, _+_, _*_, _^_, _≤_, _<_, max, min}
 use native.Mathlib.Omega.{arith}
+use lib.Bits.{bitXor, xor-lt}
 use lib.ListN.{getD}
+use Rattle.prelude.specs.Bounded.{maxBelow}
+use Rattle.prelude.proofs.Bounded.{maxBelow-le}
 use Rattle.rows.specs.declared.Frame.{Frame}
-use Rattle.rows.proofs.Packed.{sixteen}
+use Rattle.rows.specs.Known.{firstOf}
+use Rattle.rows.specs.Rows.{Few, Row, Times, rowOf}
+use Rattle.rows.proofs.Packed.{sixteen, row-at}
 use Rattle.bounds.specs.Listed.{Lists, Short}
 use Rattle.bounds.proofs.Listed.{lists-wider}
-use Rattle.rounds.specs.Compiled.{Usable}
+use Rattle.bounds.proofs.Asked.{asked-few}
+use Rattle.rounds.specs.Compiled.{Usable, raisedAt}
+use Rattle.rounds.proofs.Raise.{across, ruled}
 
 module _ {frame : Frame} {counts lists : List ℕ} (U : Usable frame counts lists) where
   pub powers : frame .scenarios ≡ 2 ^ frame .signals
@@ -33,3 +41,33 @@ module _ {frame : Frame} {counts lists : List ℕ} (U : Usable frame counts list
 
   pub short-in : Short 128 counts
   short-in s = omega (arith, U .compiled .listing .short s, U .compiled .formed .rules)
+
+  pub other-in : (s d : ℕ) → s < frame .scenarios → d < frame .scenarios → bitXor s d < frame .scenarios
+  other-in s d h l = rw powers (xor-lt (frame .signals) s d (rw powers at h) (rw powers at l))
+
+  -- the row of a scenario: as it is, as its bounds raise it, as other scenarios do, and in the end
+  module _ {t : List ℕ} (T : Times (frame .events) (frame .scenarios) t) (s : ℕ) (in-s : s < frame .scenarios) where
+    pub row-few : Few 10080 (rowOf t s)
+    row-few u l = omega (arith, row-at t s u l, T .few s u in-s l)
+
+    ruled-few : (u : ℕ) → u < 16 → ruled counts lists t s u ≤ 20160
+    ruled-few u l =
+        let own = T .few s u in-s l in
+        omega (arith, asked-few (rowOf t s) lists-in row-few (s * 128) (getD counts s 0) u)
+
+    across-few : (f : ℕ → ℕ) (d u : ℕ) → d ≤ frame .scenarios → u < 16
+        → maxBelow d (λ e. min (getD t (bitXor s e * 16 + u) 0) (f e)) ≤ 10080
+    across-few f d u h l =
+        maxBelow-le _ d 10080 (λ e b. omega (arith, T .few (bitXor s e) u (other-in s e in-s (omega arith)) l))
+
+    -- the row while others raise it, up to difference d
+    pub raising-few : {o₀ o : List ℕ} (first : List ℕ) (d : ℕ) → d ≤ frame .scenarios → Row o₀ (ruled counts lists t s)
+        → Row o (λ u. max (getD o₀ u 0) (across t first s d u)) → Few 32767 o
+    raising-few first d b h i u l =
+        omega (arith, i .is u l, h .is u l, ruled-few u l, across-few (λ e. getD first e 0) d u b l)
+
+    pub raised-few : (u : ℕ) → u < 16 → raisedAt frame counts lists t s u ≤ 20160
+    unfolding raisedAt
+    raised-few u l =
+        let first = firstOf (frame .signals) (λ p. getD (rowOf t s) (getD (frame .observations) p 0) 0 + 1) in
+        omega (arith, ruled-few u l, across-few first (frame .scenarios) u (omega arith) l)

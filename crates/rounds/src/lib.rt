@@ -4,11 +4,10 @@ ghost use mathlib.Core.Path.{_≡_};
 ghost use Prim.Native.Nat.{_+_, _*_, _<_};
 ghost use lib.ListN.{length, getD};
 ghost use Rattle.network.specs.declared.Network.{Network};
-ghost use Rattle.rows.specs.Rows.{Times, Stored};
+ghost use Rattle.rows.specs.Rows.{Few, Times, Stored};
 ghost use Rattle.rounds.specs.Compiled.{Compiled, Usable, raisedAt};
 ghost use Rattle.rounds.specs.Rounds.{Rounded};
 use rows::Frame;
-use rows::Seen;
 use rows::known;
 
 pub mod compile;
@@ -28,12 +27,16 @@ fn raise_row(
     frame: Frame,
     counts: &[usize; 16],
     lists: &[u16; 6144],
-    seen: Seen,
-) -> Seen
+    climb: &mut [u16; 16],
+    highest: &mut [u16; 16],
+)
     requires { ⌜ (s < frame .scenarios) × Usable frame (now counts) (now lists)
-        × Times (frame .events) (frame .scenarios) (now t) × (length (now new) ≡ 256) ⌝ }
-    ensures { λ r. ⌜ Stored (now (new .entry)) (now (new .exit)) s (λ u. getD (now (t .entry)) (s * 16 + u) 0)
-        (λ u. raisedAt frame (now (counts .entry)) (now (lists .entry)) (now (t .entry)) s u) seen r ⌝ }
+        × Times (frame .events) (frame .scenarios) (now t) × (length (now new) ≡ 256)
+        × (length (now climb) ≡ 16) × Few 32767 (now climb)
+        × (length (now highest) ≡ 16) × Few 32767 (now highest) ⌝ }
+    ensures { λ _. ⌜ Stored (now (new .entry)) (now (new .exit)) s (λ u. getD (now (t .entry)) (s * 16 + u) 0)
+        (λ u. raisedAt frame (now (counts .entry)) (now (lists .entry)) (now (t .entry)) s u)
+        (now (climb .entry)) (now (climb .exit)) (now (highest .entry)) (now (highest .exit)) ⌝ }
 {
     let mut row: [u16; 16] = [0; 16];
     rows::read_row(t, s, &mut row);
@@ -49,7 +52,7 @@ fn raise_row(
         rows::raise_by_scenario(t, s ^ d, first[d], &mut o);
         d += 1;
     }
-    rows::store_row(new, s, &row, &o, seen)
+    rows::store_row(new, s, &row, &o, climb, highest)
 }
 
 // The table after t, and what is to be said of it.
@@ -66,20 +69,17 @@ pub fn round(
         → Rounded Γ (now (t .entry)) (now (new .exit)) r) ⌝ }
 {
     let scenarios = frame.scenarios;
-    let mut seen = Seen {
-        climb: 0,
-        highest: 0,
-        origin: 0,
-    };
+    let mut climb: [u16; 16] = [0; 16];
+    let mut highest: [u16; 16] = [0; 16];
     let mut s: usize = 0;
     while s < scenarios {
-        seen = raise_row(t, new, s, frame, counts, lists, seen);
+        raise_row(t, new, s, frame, counts, lists, &mut climb, &mut highest);
         s += 1;
     }
-    if frame.horizon < seen.highest || 0 < seen.origin {
+    if frame.horizon < rows::greatest(&highest) || 0 < highest[0] {
         return Outcome::Passes;
     }
-    if seen.climb == 0 {
+    if rows::greatest(&climb) == 0 {
         return Outcome::Rests;
     }
     Outcome::Rises

@@ -3,13 +3,14 @@ use mathlib.Core.Path.{_≡_, refl, _∙_, ap}
 use mathlib.Core.Logic.{inl, inr}
 use mathlib.Core.Bool.{true, false}
 use mathlib.Core.List.{List}
-use Prim.Native.Nat.{ℕ, zero, suc, _+_, _-_, _*_, _/_, _%_, _^_, _≤_, _<_, min}
+use Prim.Native.Nat.{ℕ, zero, suc, _+_, _-_, _/_, _%_, _^_, _≤_, _<_, min}
+use native.Mathlib.Nat.{pow-le-pow-right}
 use native.Mathlib.Numerals.{add-one}
 use native.Mathlib.Omega.{arith}
 use lib.Dec.{eqb}
 use lib.ListN.{length, getD, set, length-set}
 use lib.Seq.{getD-set-same, getD-set-other}
-use Rattle.prelude.proofs.Tests.{lt-or-ge, eq-or-ne}
+use Rattle.prelude.proofs.Tests.{lt-or-ge, eq-or-ne, by-cond}
 use Rattle.network.specs.Scenario.{truth}
 use Rattle.rows.specs.Known.{firstOf, First, Doubled}
 
@@ -45,16 +46,6 @@ twice (suc (suc zero)) l = refl
 twice (suc (suc (suc zero))) l = refl
 twice (suc (suc (suc (suc i)))) l = absurd (omega arith)
 
-pub weigh : (i p : ℕ) → i < 4 → p ≡ 2 ^ i → p * 2 ≡ 2 ^ (i + 1)
-weigh i p l e = omega (arith, twice i l)
-
-pub eight : (i k : ℕ) → i < k → k ≤ 4 → 2 ^ i ≤ 8
-eight zero k h l = omega arith
-eight (suc zero) k h l = omega arith
-eight (suc (suc zero)) k h l = omega arith
-eight (suc (suc (suc zero))) k h l = omega arith
-eight (suc (suc (suc (suc i)))) k h l = absurd (omega arith)
-
 -- one set more
 pub doubled-next : {p v d : ℕ} {f₀ f : List ℕ} (x : ℕ) → Doubled p v f₀ f d → p ≤ 8 → d < p → x ≡ min (getD f d 0) v
     → Doubled p v f₀ (set f (p + d) x) (d + 1)
@@ -75,7 +66,7 @@ module _ (f : ℕ → ℕ) where
   firstOf-high zero i d l h = refl
   firstOf-high (suc j) i d l h = rw (low i j d l (omega arith), firstOf-high j i d l (omega arith))
 
-  pub first-start : (first : List ℕ) → length first ≡ 16 → getD first 0 0 ≡ 65535 → First 0 f first
+  pub first-start : (first : List ℕ) → length first ≡ 16 → getD first 0 0 ≡ 32767 → First 0 f first
   first-start first l e = record { sized = l; is = λ d b. let z : d ≡ 0 = omega arith in rw z e }
 
   -- one proposition more
@@ -96,7 +87,38 @@ module _ (f : ℕ → ℕ) where
             ]);
       }
 
+  firstOf-few : (k d : ℕ) → firstOf k f d ≤ 32767
+  firstOf-few zero d = omega arith
+  firstOf-few (suc k) d =
+      let rest = firstOf-few k d in
+      by-cond (λ n. n ≤ 32767) (truth d k) _ _ (λ e. omega arith) (λ e. rest)
+
+  pub first-few : {k : ℕ} {first : List ℕ} → First k f first → (d : ℕ) → d < 2 ^ k → getD first d 0 ≤ 32767
+  first-few {k} F d l = omega (arith, F .is d l, firstOf-few k d)
+
+  -- a proposition that is in none of the sets asks nothing
+  firstOf-more : (k m d : ℕ) → k ≤ m → m ≤ 4 → d < 2 ^ k → firstOf m f d ≡ firstOf k f d
+  firstOf-more k zero d h l b = let z : k ≡ 0 = omega arith in rw z
+  firstOf-more k (suc m) d h l b =
+      elim (eq-or-ne k (suc m)) [
+        | inl e ↦ rw e
+        | inr e ↦
+            let up : 2 ^ k ≤ 2 ^ m = pow-le-pow-right (omega arith) (omega arith) in
+            rw (top m d (omega arith) (omega arith) .0) (firstOf-more k m d (omega arith) (omega arith) b)
+      ]
+
 -- the first known time depends on f below k only
 pub firstOf-ext : (f g : ℕ → ℕ) (k d : ℕ) → ((p : ℕ) → p < k → f p ≡ g p) → firstOf k f d ≡ firstOf k g d
 firstOf-ext f g zero d h = refl
 firstOf-ext f g (suc k) d h = rw (h k (omega arith), firstOf-ext f g k d (λ p l. h p (omega arith)))
+
+-- a table for m propositions is one for the first k of them
+pub first-fewer : (f g : ℕ → ℕ) (k m : ℕ) {first : List ℕ} → First m f first → k ≤ m → m ≤ 4
+    → ((p : ℕ) → p < k → f p ≡ g p) → First k g first
+first-fewer f g k m F h l e = record {
+  sized = F .sized;
+  is =
+      λ d b.
+      let up : 2 ^ k ≤ 2 ^ m = pow-le-pow-right (omega arith) h in
+      F .is d (omega arith) ∙ firstOf-more f k m d h l b ∙ firstOf-ext f g k d e;
+}

@@ -6,9 +6,10 @@ use Prim.Native.Nat.{ℕ, zero, suc, _+_, _^_, _≤_, _<_, min}
 use lib.ListN.{length, getD}
 use Rattle.network.specs.Scenario.{truth}
 
--- the least of f over those of the k first propositions that are in d, or 65,535, which is over every time
+-- the least of f over those of the k first propositions that are in d, or 32,767, which is over every time and every
+-- known time
 abbrev pub firstOf : ℕ → (ℕ → ℕ) → ℕ → ℕ
-firstOf zero f d = 65535
+firstOf zero f d = 32767
 firstOf (suc p) f d = cond (truth d p) (min (firstOf p f d) (f p)) (firstOf p f d)
 
 -- the table of it

@@ -4,9 +4,8 @@ use mathlib.Core.Logic.{_⊎_}
 use mathlib.Core.List.{List}
 use Prim.Native.Nat.{ℕ, _+_, _-_, _*_, _/_, _%_, _≤_, _<_, max}
 use lib.ListN.{length, getD, take, drop}
-use Rattle.prelude.specs.Bounded.{maxBelow, tabulate}
+use Rattle.prelude.specs.Bounded.{tabulate}
 use Rattle.network.specs.Limits as L
-use Rattle.rows.specs.declared.Seen.{Seen}
 
 -- the strategy that a table holds: n events in c scenarios, without gaps
 unfoldable pub packed : ℕ → ℕ → List ℕ → List ℕ
@@ -21,6 +20,10 @@ pub record Row (xs : List ℕ) (f : ℕ → ℕ) : Type 0 where
   pub sized : length xs ≡ 16
   pub is : (u : ℕ) → u < 16 → getD xs u 0 ≡ f u
 
+-- each of sixteen numbers is at most m
+abbrev pub Few : ℕ → List ℕ → Type 0
+Few m xs = (u : ℕ) → u < 16 → getD xs u 0 ≤ m
+
 -- what a round is given: times that a horizon may allow, and zeros behind the n events
 pub record Times (n c : ℕ) (t : List ℕ) : Type 0 where
   pub sized : length t ≡ 256
@@ -33,9 +36,9 @@ pub record Wrote (o o′ : List ℕ) (a n : ℕ) (f : ℕ → ℕ) : Type 0 wher
   pub here : (u : ℕ) → u < n → getD o′ (a + u) 0 ≡ f u
   pub other : (i : ℕ) → i < a ⊎ a + n ≤ i → getD o′ i 0 ≡ getD o i 0
 
--- the row after is stored as row s of t, and compared with the row before on the way
-pub record Stored (t t′ : List ℕ) (s : ℕ) (before after : ℕ → ℕ) (seen seen′ : Seen) : Type 0 where
+-- the row after is stored as row s of t; two rows are raised by it: to how far it is over the row before, and to it
+pub record Stored (t t′ : List ℕ) (s : ℕ) (before after : ℕ → ℕ) (climb climb′ highest highest′ : List ℕ)
+    : Type 0 where
   pub wrote : Wrote t t′ (s * 16) 16 after
-  pub climb : seen′ .climb ≡ max (seen .climb) (maxBelow 16 (λ u. after u - before u))
-  pub highest : seen′ .highest ≡ max (seen .highest) (maxBelow 16 after)
-  pub origin : seen′ .origin ≡ max (seen .origin) (after 0)
+  pub climb-is : Row climb′ (λ u. max (getD climb u 0) (after u - before u))
+  pub highest-is : Row highest′ (λ u. max (getD highest u 0) (after u))

@@ -1,13 +1,15 @@
 // When two scenarios are known apart, for each set of propositions on which they differ.
 ghost use mathlib.Core.Path.{_≡_};
-ghost use Prim.Native.Nat.{ℕ, _+_, _≤_, _<_};
+ghost use Prim.Native.Nat.{ℕ, _+_, _%_, _≤_, _<_};
 ghost use lib.ListN.{length, getD};
+ghost use Rattle.rows.specs.Rows.{Few};
 ghost use Rattle.rows.specs.Known.{Doubled, First};
 use crate::Frame;
 
 // The second p of first: the lesser of the first p and v.
 fn double(first: &mut [u16; 16], p: usize, v: u16)
-    requires { ⌜ (p ≤ 8) × (length (now first) ≡ 16) ⌝ }
+    requires { ⌜ (p ≤ 8) × (length (now first) ≡ 16) × (v ≤ 32767)
+        × ((d : ℕ) → d < p → getD (now first) d 0 ≤ 32767) ⌝ }
     ensures { λ _. ⌜ Doubled p v (now (first .entry)) (now (first .exit)) p ⌝ }
 {
     let mut d: usize = 0;
@@ -17,21 +19,34 @@ fn double(first: &mut [u16; 16], p: usize, v: u16)
     }
 }
 
-// The first known time of each set d of propositions in a scenario whose times are row.
+// From when on proposition p is known in a scenario whose times are row. Behind the last signal the observation is any
+// number, and the remainder keeps the index in the row.
+fn known_from(row: &[u16; 16], frame: Frame, p: usize) -> u16
+    requires { ⌜ (p < 4) × Few 10080 (now row) ⌝ }
+    ensures { λ r. ⌜ r ≡ getD (now (row .entry)) (getD (frame .observations) p 0 % 16) 0 + 1 ⌝ }
+{
+    let u = frame.observations[p];
+    row[u % 16] + 1
+}
+
+// The first known time of each set d of propositions, for two propositions or for four: the sets that no scenario asks
+// for cost less than a loop over the signals.
 pub fn first_known(row: &[u16; 16], frame: Frame, first: &mut [u16; 16])
     requires { ⌜ (frame .signals ≤ 4) × ((p : ℕ) → p < frame .signals → getD (frame .observations) p 0 < 16)
-        × ((u : ℕ) → u < 16 → getD (now row) u 0 ≤ 10080) × (length (now first) ≡ 16) ⌝ }
+        × Few 10080 (now row) × (length (now first) ≡ 16) ⌝ }
     ensures { λ _. ⌜ First (frame .signals) (λ p. getD (now (row .entry)) (getD (frame .observations) p 0) 0 + 1)
         (now (first .exit)) ⌝ }
 {
-    first[0] = 65535;
+    first[0] = 32767;
     let signals = frame.signals;
-    let mut p: usize = 0;
-    let mut sets: usize = 1;
-    while p < signals {
-        let u = frame.observations[p];
-        double(first, sets, row[u] + 1);
-        sets *= 2;
-        p += 1;
+    if signals == 0 {
+        return;
     }
+    double(first, 1, known_from(row, frame, 0));
+    double(first, 2, known_from(row, frame, 1));
+    if signals <= 2 {
+        return;
+    }
+    double(first, 4, known_from(row, frame, 2));
+    double(first, 8, known_from(row, frame, 3));
 }

@@ -1,11 +1,12 @@
 // What rounds keep besides bounds: the frame of a network, and tables in rows of sixteen times, one row for each scenario.
 ghost use mathlib.Core.Path.{_≡_};
 ghost use mathlib.Core.List.{_++_};
-ghost use Prim.Native.Nat.{ℕ, _+_, _*_, _≤_, _<_, max, min};
+ghost use Prim.Native.Nat.{ℕ, _+_, _-_, _*_, _≤_, _<_, max, min};
 ghost use lib.ListN.{length, getD, drop};
+ghost use Rattle.prelude.specs.Bounded.{maxBelow};
 ghost use Rattle.network.specs.WellFormed.{WellFormed};
 ghost use Rattle.rows.specs.Framed.{Framed};
-ghost use Rattle.rows.specs.Rows.{Row, Stored, Wrote, packed};
+ghost use Rattle.rows.specs.Rows.{Few, Row, Stored, Wrote, packed};
 use network::Network;
 
 pub mod known;
@@ -17,13 +18,6 @@ pub struct Frame {
     pub scenarios: usize,
     pub signals: usize,
     pub observations: [usize; Network::SIGNALS],
-}
-
-// What is seen while rows are stored: how far a time rose, the latest time, and the latest of event 0.
-pub struct Seen {
-    pub climb: u16,
-    pub highest: u16,
-    pub origin: u16,
 }
 
 pub fn frame_of(network: Network) -> Frame
@@ -40,19 +34,24 @@ pub fn frame_of(network: Network) -> Frame
     }
 }
 
+// The larger of two numbers below 32,768. They are compared with a sign: the machine has an instruction for eight such
+// maxima at once, and none for eight without a sign.
 pub fn larger(a: u16, b: u16) -> u16
+    requires { ⌜ (a ≤ 32767) × (b ≤ 32767) ⌝ }
     ensures { λ r. ⌜ r ≡ max a b ⌝ }
 {
-    if a < b {
+    if (a as i16) < (b as i16) {
         return b;
     }
     a
 }
 
+// The lesser of two, in the same way.
 fn lesser(a: u16, b: u16) -> u16
+    requires { ⌜ (a ≤ 32767) × (b ≤ 32767) ⌝ }
     ensures { λ r. ⌜ r ≡ min a b ⌝ }
 {
-    if b < a {
+    if (b as i16) < (a as i16) {
         return b;
     }
     a
@@ -72,7 +71,8 @@ pub fn read_row(t: &[u16; 256], s: usize, row: &mut [u16; 16])
 
 // What the hyperarcs to scenario r ask: its times, or the first time at which the two are known apart.
 pub fn raise_by_scenario(t: &[u16; 256], r: usize, first: u16, o: &mut [u16; 16])
-    requires { ⌜ (r < 16) × (length (now o) ≡ 16) ⌝ }
+    requires { ⌜ (r < 16) × (length (now o) ≡ 16) × (first ≤ 32767) × Few 32767 (now o)
+        × ((u : ℕ) → u < 16 → getD (now t) (r * 16 + u) 0 ≤ 32767) ⌝ }
     ensures { λ _. ⌜ Row (now (o .exit))
         (λ u. max (getD (now (o .entry)) u 0) (min (getD (now (t .entry)) (r * 16 + u) 0) first)) ⌝ }
 {
@@ -83,26 +83,79 @@ pub fn raise_by_scenario(t: &[u16; 256], r: usize, first: u16, o: &mut [u16; 16]
     }
 }
 
-// The row o becomes row s of t; row has its times before the round.
-pub fn store_row(t: &mut [u16; 256], s: usize, row: &[u16; 16], o: &[u16; 16], seen: Seen) -> Seen
-    requires { ⌜ (s < 16) × (length (now t) ≡ 256) × ((u : ℕ) → u < 16 → getD (now row) u 0 ≤ getD (now o) u 0) ⌝ }
-    ensures { λ r. ⌜ Stored (now (t .entry)) (now (t .exit)) s (λ u. getD (now (row .entry)) u 0)
-        (λ u. getD (now (o .entry)) u 0) seen r ⌝ }
+// The row o becomes row s of t.
+fn write_row(t: &mut [u16; 256], s: usize, o: &[u16; 16])
+    requires { ⌜ (s < 16) × (length (now t) ≡ 256) ⌝ }
+    ensures { λ _. ⌜ Wrote (now (t .entry)) (now (t .exit)) (s * 16) 16 (λ u. getD (now (o .entry)) u 0) ⌝ }
 {
-    let mut climb = seen.climb;
-    let mut highest = seen.highest;
     let mut u: usize = 0;
     while u < 16 {
         t[s * 16 + u] = o[u];
-        climb = larger(climb, o[u] - row[u]);
-        highest = larger(highest, o[u]);
         u += 1;
     }
-    Seen {
-        climb: climb,
-        highest: highest,
-        origin: larger(seen.origin, o[0]),
+}
+
+// Each cell of climb goes up to how far the time of o is over that of row.
+fn raise_climb(row: &[u16; 16], o: &[u16; 16], climb: &mut [u16; 16])
+    requires { ⌜ ((u : ℕ) → u < 16 → getD (now row) u 0 ≤ getD (now o) u 0) × Few 32767 (now o)
+        × (length (now climb) ≡ 16) × Few 32767 (now climb) ⌝ }
+    ensures { λ _. ⌜ Row (now (climb .exit))
+        (λ u. max (getD (now (climb .entry)) u 0) (getD (now (o .entry)) u 0 - getD (now (row .entry)) u 0)) ⌝ }
+{
+    let mut u: usize = 0;
+    while u < 16 {
+        climb[u] = larger(climb[u], o[u] - row[u]);
+        u += 1;
     }
+}
+
+// Each cell of highest goes up to the time of o.
+fn raise_highest(o: &[u16; 16], highest: &mut [u16; 16])
+    requires { ⌜ Few 32767 (now o) × (length (now highest) ≡ 16) × Few 32767 (now highest) ⌝ }
+    ensures { λ _. ⌜ Row (now (highest .exit))
+        (λ u. max (getD (now (highest .entry)) u 0) (getD (now (o .entry)) u 0)) ⌝ }
+{
+    let mut u: usize = 0;
+    while u < 16 {
+        highest[u] = larger(highest[u], o[u]);
+        u += 1;
+    }
+}
+
+// The row o becomes row s of t; row has its times before the round. How far each rose and how late it is goes into its
+// own cell of climb and of highest: so no cell waits for another, and each of the three loops takes eight at once.
+pub fn store_row(
+    t: &mut [u16; 256],
+    s: usize,
+    row: &[u16; 16],
+    o: &[u16; 16],
+    climb: &mut [u16; 16],
+    highest: &mut [u16; 16],
+)
+    requires { ⌜ (s < 16) × (length (now t) ≡ 256) × ((u : ℕ) → u < 16 → getD (now row) u 0 ≤ getD (now o) u 0)
+        × Few 32767 (now o) × (length (now climb) ≡ 16) × Few 32767 (now climb)
+        × (length (now highest) ≡ 16) × Few 32767 (now highest) ⌝ }
+    ensures { λ _. ⌜ Stored (now (t .entry)) (now (t .exit)) s (λ u. getD (now (row .entry)) u 0)
+        (λ u. getD (now (o .entry)) u 0) (now (climb .entry)) (now (climb .exit))
+        (now (highest .entry)) (now (highest .exit)) ⌝ }
+{
+    write_row(t, s, o);
+    raise_climb(row, o, climb);
+    raise_highest(o, highest);
+}
+
+// The greatest of sixteen numbers.
+pub fn greatest(x: &[u16; 16]) -> u16
+    requires { ⌜ Few 32767 (now x) ⌝ }
+    ensures { λ r. ⌜ r ≡ maxBelow 16 (λ u. getD (now (x .entry)) u 0) ⌝ }
+{
+    let mut m: u16 = 0;
+    let mut u: usize = 0;
+    while u < 16 {
+        m = larger(m, x[u]);
+        u += 1;
+    }
+    m
 }
 
 // The first n times of scenario s, from place a on.

@@ -4,20 +4,15 @@ use Prim.Native.Nat.{ℕ, _+_, _-_, _*_, _≤_, _<_, max}
 use native.Mathlib.Omega.{arith}
 use borrow.Author.Needs.{needs}
 use lib.ListN.{getD}
-use Rattle.prelude.specs.Bounded.{maxBelow}
 use Rattle.rows.specs.Rows.{Row}
-use Rattle.bounds.specs.Listed.{asking, target, source, weight}
-use Rattle.bounds.proofs.Listed.{row-asked}
+use Rattle.bounds.specs.Listed.{target, source, weight}
+use Rattle.bounds.proofs.Asked.{asked, row-asked, asked-few}
 use Rattle.bounds.proofs.raise_by_bounds.Statement.{statement}
 use Rattle.bounds.proofs.raise_by_bounds.Tie as tie
 
 abbrev Inv-loop : tie.InvT-loop
 Inv-loop s counts lists row o₀ count base j₀ o j =
-    (j ≤ getD counts s 0)
-    × Row o
-    (λ u.
-    max (getD o₀ u 0)
-    (maxBelow j (λ i. asking (target lists (s * 128 + i)) (source lists (s * 128 + i)) (weight lists (s * 128 + i)) row u)))
+    (j ≤ getD counts s 0) × Row o (λ u. max (getD o₀ u 0) (asked lists (s * 128) j row u))
 
 abbrev μ-loop : tie.MeasureT-loop
 μ-loop s counts lists row o₀ count base j₀ o j = getD counts s 0 - j
@@ -34,6 +29,14 @@ target-in c = c .before .before .before .pre .1 .targets (bound c)
 
 source-in : (c : tie.In-loop Inv-loop μ-loop) → source (c .before .before .before .args .lists .now) (bound c) < 16
 source-in c = c .before .before .before .pre .1 .sources (bound c)
+
+-- a time and a weight
+sum-few : (c : tie.In-loop Inv-loop μ-loop)
+    → let a = c .before .before .before .args in
+    getD (a .row .now) (source (a .lists .now) (bound c)) 0 + weight (a .lists .now) (bound c) ≤ 32767
+sum-few c =
+    let z = c .before .before .before in
+    omega (arith, z .pre .1 .weights (bound c), z .pre .3 (source (z .args .lists .now) (bound c)) (source-in c))
 
 mul-count : tie.Need-mul-count Inv-loop μ-loop
 mul-count c = search needs
@@ -96,13 +99,18 @@ element-copy-out-larger-3 : tie.Need-element-copy-out-larger-3 Inv-loop μ-loop
 element-copy-out-larger-3 c = omega (arith, room (c .before .before .before .before))
 
 add-larger-2 : tie.Need-add-larger-2 Inv-loop μ-loop
-add-larger-2 c =
-    let l = c .before .before .before .before .before in
-    let z = l .before .before .before in
-    omega (arith, z .pre .1 .weights (bound l), z .pre .3 (source (z .args .lists .now) (bound l)) (source-in l))
+add-larger-2 c = omega (arith, sum-few (c .before .before .before .before .before))
 
 larger-requires : tie.Need-larger-requires Inv-loop μ-loop
-larger-requires c κs = search needs
+larger-requires c κs =
+    let l = c .before .before .before .before .before in
+    let z = l .before .before .before in
+    let loop = l .before .loop in
+    let d = target (z .args .lists .now) (bound l) in
+    let asked = asked-few (z .args .row .now) (z .pre .1) (z .pre .3) (z .args .s * 128) (loop .j) d in (
+      omega (arith, loop .inv .1 .is d (target-in l), z .pre .5 d (target-in l), asked),
+      sum-few l,
+    )
 
 mul-o : tie.Need-mul-o Inv-loop μ-loop
 mul-o c = omega (arith, target-in (c .before .before .before .before .before .before))

@@ -1,8 +1,10 @@
-use borrow.Author.Needs.{needs}
+-- `between` meets its contract: it goes on only past a cell that is between. The invariant: the first i cells of rise l are between. The
+-- measure is what is left of the cells. Assumes nothing.
 use mathlib.Core.Path.{_≡_, refl}
 use mathlib.Core.Bool.{false}
 use Prim.Native.Nat.{ℕ, _+_, _-_, _≤_, _<_}
 use native.Mathlib.Omega.{arith}
+use borrow.Author.Needs.{needs}
 use borrow.Author.Tests.{not-false}
 use lib.ListN.{getD}
 use Rattle.prelude.proofs.Tests.{clash}
@@ -66,13 +68,16 @@ loop-less c = search needs
 
 -- src/lib.rt:167:5
 loop-again : tie.Need-loop-again Inv-loop μ-loop
-loop-again c = (omega arith, between-next (c .before .before .before .before .before .before .loop .inv .1) (c .before .is-between .ensures (not-false _ (c .if1 .left))))
+loop-again c =
+    let loop = c .before .before .before .before .before .before .loop in
+    (omega arith, between-next (loop .inv .1) (c .before .is-between .ensures (not-false _ (c .if1 .left))))
 
 -- src/lib.rt:161:1
 returns-2 : tie.Need-returns-2 Inv-loop μ-loop
 returns-2 c =
-    let e : c .before .loop .i ≡ c .before .before .args .cells = omega (arith, c .before .loop .inv .0, c .loop-test .left) in
-    λ _. rw e at (c .before .loop .inv .1)
+    let loop = c .before .loop in
+    let e : loop .i ≡ c .before .before .args .cells = omega (arith, loop .inv .0, c .loop-test .left) in
+    λ _. rw e at (loop .inv .1)
 
 pub between-spec : {M : Type 1} → statement M
 between-spec =

@@ -1,7 +1,9 @@
-use borrow.Author.Needs.{needs}
+-- `clip` meets its contract: each turn writes one clipped rise. The invariant: i rises are clipped. The measure is what is left of the
+-- cells. Assumes nothing.
 use mathlib.Core.Path.{_≡_, refl}
 use Prim.Native.Nat.{_-_, _≤_}
 use native.Mathlib.Omega.{arith}
+use borrow.Author.Needs.{needs}
 use Rattle.moves.specs.Moves.{Clipped}
 use Rattle.moves.proofs.Moves.{clipped-none, clipped-next}
 use Rattle.moves.proofs.clip.Statement.{statement}
@@ -38,7 +40,9 @@ mul-o c = search needs
 
 -- src/lib.rt:551:9
 element-write-o : tie.Need-element-write-o Inv-loop μ-loop
-element-write-o c = omega (arith, c .before .before .before .loop .inv .1 .sized)
+element-write-o c =
+    let loop = c .before .before .before .loop in
+    omega (arith, loop .inv .1 .sized)
 
 -- src/lib.rt:552:9
 add-i : tie.Need-add-i Inv-loop μ-loop
@@ -50,13 +54,17 @@ loop-less c = search needs
 
 -- src/lib.rt:550:5
 loop-again : tie.Need-loop-again Inv-loop μ-loop
-loop-again c = (omega arith, clipped-next _ _ _ (omega (arith, c .before .before .before .loop .inv .1 .sized)) (c .before .before .before .loop .inv .1) (c .clip-one .ensures .0) (c .clip-one .ensures .1))
+loop-again c =
+    let loop = c .before .before .before .loop in
+    let one = c .clip-one .ensures in
+    (omega arith, clipped-next _ _ _ (omega (arith, loop .inv .1 .sized)) (loop .inv .1) (one .0) (one .1))
 
 -- src/lib.rt:545:1
 returns : tie.Need-returns Inv-loop μ-loop
 returns c =
-    let e : c .before .loop .i ≡ c .before .before .args .cells = omega (arith, c .before .loop .inv .0, c .loop-test .left) in
-    rw e at (c .before .loop .inv .1)
+    let loop = c .before .loop in
+    let e : loop .i ≡ c .before .before .args .cells = omega (arith, loop .inv .0, c .loop-test .left) in
+    rw e at (loop .inv .1)
 
 pub clip-spec : {M : Type 1} → statement M
 clip-spec =

@@ -1,7 +1,9 @@
-use borrow.Author.Needs.{needs}
+-- `copy` meets its contract: each turn writes one cell. The invariant: i cells are copied, and the rest is as it was. The measure is
+-- what is left of the cells. Assumes nothing.
 use mathlib.Core.Path.{_≡_, refl}
 use Prim.Native.Nat.{_-_, _≤_}
 use native.Mathlib.Omega.{arith}
+use borrow.Author.Needs.{needs}
 use lib.ListN.{getD}
 use Rattle.rows.specs.Rows.{Wrote}
 use Rattle.rows.proofs.Wrote.{wrote-none, wrote-next}
@@ -51,8 +53,9 @@ loop-again c = (omega arith, wrote-next _ _ _ (c .before .before .loop .inv .1) 
 -- src/lib.rt:564:1
 returns : tie.Need-returns Inv-loop μ-loop
 returns c =
-    let e : c .before .loop .i ≡ c .before .before .args .cells = omega (arith, c .before .loop .inv .0, c .loop-test .left) in
-    rw e at (c .before .loop .inv .1)
+    let loop = c .before .loop in
+    let e : loop .i ≡ c .before .before .args .cells = omega (arith, loop .inv .0, c .loop-test .left) in
+    rw e at (loop .inv .1)
 
 pub copy-spec : {M : Type 1} → statement M
 copy-spec =

@@ -1,7 +1,8 @@
-use borrow.Author.Needs.{needs}
+-- `fits` meets its contract: a time over the horizon is refused, and so is any but 0 of event 0. Assumes nothing.
 use mathlib.Core.Path.{refl}
 use mathlib.Core.Bool.{false}
 use native.Mathlib.Omega.{arith}
+use borrow.Author.Needs.{needs}
 use borrow.Author.Tests.{eqb-true}
 use Rattle.prelude.proofs.Tests.{clash}
 use Rattle.moves.proofs.fits.Statement.{statement}

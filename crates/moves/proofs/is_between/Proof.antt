@@ -1,7 +1,8 @@
+-- `is_between` meets its contract: it says true only where neither test failed. Assumes nothing.
 use mathlib.Core.Path.{refl}
 use mathlib.Core.Bool.{false}
-use Rattle.prelude.proofs.Tests.{clash}
 use borrow.Author.Needs.{needs}
+use Rattle.prelude.proofs.Tests.{clash}
 use Rattle.moves.proofs.is_between.Statement.{statement}
 use Rattle.moves.proofs.is_between.Tie as tie
 use Rattle.moves.proofs.is_between.Reads as reads

@@ -1,7 +1,9 @@
-use borrow.Author.Needs.{needs}
+-- `next_level` meets its contract. The invariant: r is the least level above l of the first i cells. The measure is what is left of the
+-- cells. Assumes nothing.
+use mathlib.Core.Path.{_≡_}
 use Prim.Native.Nat.{_-_, _≤_}
 use native.Mathlib.Omega.{arith}
-use mathlib.Core.Path.{_≡_}
+use borrow.Author.Needs.{needs}
 use Rattle.moves.specs.Levels.{NextLevel}
 use Rattle.moves.proofs.Levels.{level-none, level-next}
 use Rattle.moves.proofs.next_level.Statement.{statement}
@@ -42,13 +44,17 @@ loop-less c = search needs
 
 -- src/lib.rt:207:5
 loop-again : tie.Need-loop-again Inv-loop μ-loop
-loop-again c = (omega arith, level-next _ _ _ _ _ (c .before .before .before .loop .inv .1) (c .nearer .ensures .0) (c .nearer .ensures .1) (c .nearer .ensures .2))
+loop-again c =
+    let loop = c .before .before .before .loop in
+    let one = c .nearer .ensures in
+    (omega arith, level-next _ _ _ _ _ (loop .inv .1) (one .0) (one .1) (one .2))
 
 -- src/lib.rt:201:1
 returns : tie.Need-returns Inv-loop μ-loop
 returns c =
-    let e : c .before .loop .i ≡ c .before .before .args .cells = omega (arith, c .before .loop .inv .0, c .loop-test .left) in
-    rw e at (c .before .loop .inv .1)
+    let loop = c .before .loop in
+    let e : loop .i ≡ c .before .before .args .cells = omega (arith, loop .inv .0, c .loop-test .left) in
+    rw e at (loop .inv .1)
 
 pub next-level-spec : {M : Type 1} → statement M
 next-level-spec =

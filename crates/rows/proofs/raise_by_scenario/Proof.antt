@@ -36,10 +36,16 @@ element-copy-out-lesser : tie.Need-element-copy-out-lesser Inv-loop μ-loop
 element-copy-out-lesser c = search needs
 
 lesser-requires : tie.Need-lesser-requires Inv-loop μ-loop
-lesser-requires c κs = search needs
+lesser-requires c κs =
+    let pre = c .before .before .before .before .pre in
+    (pre .4 (c .before .before .before .loop .u) (c .before .before .loop-test .taken), pre .2)
 
 larger-requires : tie.Need-larger-requires Inv-loop μ-loop
-larger-requires c κs = search needs
+larger-requires c κs =
+    let pre = c .before .before .before .before .before .pre in
+    let loop = c .before .before .before .before .loop in
+    let high = pre .3 (loop .u) (c .before .before .before .loop-test .taken) in
+    (omega (arith, unwritten _ (loop .inv .1), high), omega (arith, c .lesser .ensures, pre .2))
 
 mul-o : tie.Need-mul-o Inv-loop μ-loop
 mul-o c = search needs

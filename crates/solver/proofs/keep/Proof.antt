@@ -1,3 +1,4 @@
+-- `keep` meets its contract: the table stays, or is copied. Assumes nothing.
 use mathlib.Core.Path.{_≡_, refl}
 use mathlib.Core.Logic.{inl, inr}
 use borrow.Author.Needs.{needs}

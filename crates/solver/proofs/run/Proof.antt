@@ -1,7 +1,10 @@
-use borrow.Author.Needs.{needs}
+-- `run` meets its contract: its loop is underway from the floor, by one round a turn and those that are passed over, and it ends where a
+-- round or the law of the two far tables says. The invariant: at most `budget` rounds lead from the table at entry to a, by way of the
+-- one that is kept. The measure is what is left of the budget. Assumes nothing.
 use mathlib.Core.Path.{_≡_, refl}
 use Prim.Native.Nat.{_+_, _*_, _-_, _≤_, _<_}
 use native.Mathlib.Omega.{arith}
+use borrow.Author.Needs.{needs}
 use lib.ListN.{length}
 use Rattle.rounds.proofs.Usable.{scenarios-in}
 use Rattle.rounds.proofs.Turns.{rounded-as}
@@ -24,12 +27,14 @@ use Rattle.solver.proofs.keep.Reads as keep-reads
 use Rattle.std.proofs.num.wrapping_add_u32.Reads as wrapping-add-u32-reads
 
 abbrev Inv-loop : tie.InvT-loop
-Inv-loop a₀ budget frame counts lists cells b₀ base₀ at₀ mark₀ w₀ since₀ v₀ turns₀ rounds₀ a b base at mark w since v turns rounds =
+Inv-loop a₀ budget frame counts lists cells b₀ base₀ at₀ mark₀ w₀ since₀ v₀ turns₀ rounds₀ a b base at mark w since v turns
+    rounds =
     (rounds ≤ budget) × (length b ≡ 256) × (length mark ≡ 256) × (length since ≡ 256) × (v .cell < 256)
     × Underway frame counts lists a₀ base a at rounds
 
 abbrev μ-loop : tie.MeasureT-loop
-μ-loop a₀ budget frame counts lists cells b₀ base₀ at₀ mark₀ w₀ since₀ v₀ turns₀ rounds₀ a b base at mark w since v turns rounds = budget - rounds
+μ-loop a₀ budget frame counts lists cells b₀ base₀ at₀ mark₀ w₀ since₀ v₀ turns₀ rounds₀ a b base at mark w since v turns
+    rounds = budget - rounds
 
 -- src/lib.rt:70:9
 cells-of-requires : tie.Need-cells-of-requires Inv-loop μ-loop
@@ -45,11 +50,15 @@ first-pace-requires c κs = search needs
 
 -- src/lib.rt:80:5
 loop-holds : tie.Need-loop-holds Inv-loop μ-loop
-loop-holds c = (omega arith, refl, refl, refl, c .first-pace .ensures, underway-start (c .before .before .before .before .pre .1))
+loop-holds c =
+    let pre = c .before .before .before .before .pre in
+    (omega arith, refl, refl, refl, c .first-pace .ensures, underway-start (pre .1))
 
 -- src/lib.rt:81:9
 add-rounds : tie.Need-add-rounds Inv-loop μ-loop
-add-rounds c = omega (arith, c .loop-test .taken, c .before .before .before .before .before .before .fits .budget)
+add-rounds c =
+    let fits = c .before .before .before .before .before .before .fits in
+    omega (arith, c .loop-test .taken, fits .budget)
 
 -- src/lib.rt:82:9
 wrapping-add-u32-requires : tie.Need-wrapping-add-u32-requires Inv-loop μ-loop
@@ -57,7 +66,10 @@ wrapping-add-u32-requires c κs = search needs
 
 -- src/lib.rt:83:15
 round-requires : tie.Need-round-requires Inv-loop μ-loop
-round-requires c κs = (c .before .before .before .before .before .before .before .before .before .pre .0, c .before .before .before .before .loop .inv .5 .from-base .times, c .before .before .before .before .loop .inv .1)
+round-requires c κs =
+    let loop = c .before .before .before .before .loop in
+    let pre = c .before .before .before .before .before .before .before .before .before .pre in
+    (pre .0, loop .inv .5 .from-base .times, loop .inv .1)
 
 -- src/lib.rt:84:32
 enum-told : tie.Need-enum-told Inv-loop μ-loop
@@ -66,9 +78,11 @@ enum-told c = search needs
 -- src/lib.rt:84:32
 returns : tie.Need-returns Inv-loop μ-loop
 returns c =
-    let G = c .before .before .before .before .before .before .before .loop .inv .5 in (
+    let loop-test = c .before .before .before .before .before .before .loop-test in
+    let loop = c .before .before .before .before .before .before .before .loop in
+    let G = loop .inv .5 in (
       G .from-base .times .sized,
-      λ Γ C. ended-passing (all-of G) Γ C _ _ (omega (arith, c .before .before .before .before .before .before .loop-test .taken))
+      λ Γ C. ended-passing (all-of G) Γ C _ _ (omega (arith, loop-test .taken))
           (rounded-as (c .enum-told .given .1) (c .before .before .round .ensures Γ C)),
     )
 
@@ -79,9 +93,11 @@ enum-told-2 c = search needs
 -- src/lib.rt:88:31
 returns-2 : tie.Need-returns-2 Inv-loop μ-loop
 returns-2 c =
-    let G = c .before .before .before .before .before .before .before .loop .inv .5 in (
+    let loop-test = c .before .before .before .before .before .before .loop-test in
+    let loop = c .before .before .before .before .before .before .before .loop in
+    let G = loop .inv .5 in (
       G .from-base .times .sized,
-      λ Γ C. ended-resting (all-of G) Γ C _ _ (omega (arith, c .before .before .before .before .before .before .loop-test .taken))
+      λ Γ C. ended-resting (all-of G) Γ C _ _ (omega (arith, loop-test .taken))
           (rounded-as (c .enum-told2 .given .1) (c .before .before .round .ensures Γ C)),
     )
 
@@ -90,52 +106,108 @@ enum-told-3 c = search needs
 
 -- src/lib.rt:94:44
 sub-watch : tie.Need-sub-watch Inv-loop μ-loop
-sub-watch c = omega (arith, c .before .before .before .before .before .before .before .loop .inv .5 .order)
+sub-watch c =
+    let loop = c .before .before .before .before .before .before .before .loop in
+    omega (arith, loop .inv .5 .order)
 
 -- src/lib.rt:94:9
 watch-requires : tie.Need-watch-requires Inv-loop μ-loop
-watch-requires c κs = (c .before .before .before .before .before .before .before .before .before .before .before .before .before .before .cells-of .ensures .1, c .before .before .before .before .before .before .before .before .before .before .loop .inv .2)
+watch-requires c κs =
+    let back = c .before .before .before .before .before .before .before .before .before .before in
+    let loop = back .loop in
+    let cells-of = back .before .before .before .before .cells-of in
+    (cells-of .ensures .1, loop .inv .2)
 
 -- src/lib.rt:95:9
 follow-requires : tie.Need-follow-requires Inv-loop μ-loop
-follow-requires c κs = (c .before .before .before .before .before .before .before .before .before .before .before .before .before .before .before .before .before .before .cells-of .ensures .1, c .before .before .before .before .before .before .before .before .before .before .before .before .before .before .loop .inv .3, c .before .before .before .before .before .before .before .before .before .before .before .before .before .before .loop .inv .4)
+follow-requires c κs =
+    let back = c .before .before .before .before .before .before .before .before .before .before in
+    let loop = back .before .before .before .before .loop in
+    let cells-of = back .before .before .before .before .before .before .before .before .cells-of in
+    (cells-of .ensures .1, loop .inv .3, loop .inv .4)
 
 -- src/lib.rt:96:9
 copy-requires : tie.Need-copy-requires Inv-loop μ-loop
-copy-requires c κs = (c .before .before .before .before .before .before .before .before .before .before .before .before .before .before .before .before .before .before .before .before .before .cells-of .ensures .1, c .before .before .before .before .before .before .before .before .before .before .before .before .before .before .before .before .before .loop .inv .5 .from-base .times .sized)
+copy-requires c κs =
+    let back = c .before .before .before .before .before .before .before .before .before .before in
+    let back2 = back .before .before .before .before .before .before .before .before .before .before in
+    let loop = back .before .before .before .before .before .before .before .loop in
+    let cells-of = back2 .before .cells-of in
+    (cells-of .ensures .1, loop .inv .5 .from-base .times .sized)
 
 -- src/lib.rt:97:9
 keep-requires : tie.Need-keep-requires Inv-loop μ-loop
-keep-requires c κs = (c .before .before .before .before .before .before .before .before .before .before .before .before .before .before .before .before .before .before .before .before .before .before .before .before .cells-of .ensures .1, c .before .before .before .before .before .before .before .before .before .before .before .before .before .before .before .before .before .before .before .before .loop .inv .5 .to-base .times .sized)
+keep-requires c κs =
+    let back = c .before .before .before .before .before .before .before .before .before .before in
+    let back2 = back .before .before .before .before .before .before .before .before .before .before in
+    let loop = back2 .loop in
+    let cells-of = back2 .before .before .before .before .cells-of in
+    (cells-of .ensures .1, loop .inv .5 .to-base .times .sized)
 
 -- src/lib.rt:99:59
 sub-pass-over-if : tie.Need-sub-pass-over-if Inv-loop μ-loop
 sub-pass-over-if c =
-    let K = underway-turn (c .before .before .before .before .before .before .before .before .before .before .before .before .before .before .before .before .before .before .before .before .before .before .before .loop .inv .5) (c .before .before .before .before .before .before .before .before .before .before .before .before .before .before .before .before .before .before .before .before .before .before .before .before .before .before .before .before .pre .0) (c .before .before .before .before .before .before .before .before .before .before .before .before .before .before .before .before .enum-told3 .given .1) (c .before .before .before .before .before .before .before .before .before .before .before .before .before .before .before .before .before .before .round .ensures) (c .before .before .before .before .before .before .before .before .before .before .before .before .before .before .before .before .before .before .before .before .before .before .before .before .before .before .before .cells-of .ensures .0)
-    (c .before .before .before .before .before .copy .ensures) (c .before .before .keep .ensures) in
+    let back = c .before .before .before .before .before .before .before .before .before .before in
+    let back2 = back .before .before .before .before .before .before .before .before .before .before in
+    let copy = c .before .before .before .before .before .copy in
+    let enum-told3 = back .before .before .before .before .before .before .enum-told3 in
+    let round = back .before .before .before .before .before .before .before .before .round in
+    let loop = back2 .before .before .before .loop in
+    let cells-of = back2 .before .before .before .before .before .before .before .cells-of in
+    let pre = back2 .before .before .before .before .before .before .before .before .pre in
+    let K = underway-turn (loop .inv .5) (pre .0) (enum-told3 .given .1) (round .ensures) (cells-of .ensures .0)
+    (copy .ensures) (c .before .before .keep .ensures) in
     omega (arith, K .order)
 
 -- src/lib.rt:99:79
 sub-pass-over-if-2 : tie.Need-sub-pass-over-if-2 Inv-loop μ-loop
-sub-pass-over-if-2 c = omega (arith, c .before .before .before .before .before .before .before .before .before .before .before .before .before .before .before .before .before .before .before .before .before .before .loop-test .taken)
+sub-pass-over-if-2 c =
+    let back = c .before .before .before .before .before .before .before .before .before .before in
+    let back2 = back .before .before .before .before .before .before .before .before .before .before in
+    let loop-test = back2 .before .before .loop-test in
+    omega (arith, loop-test .taken)
 
 -- src/lib.rt:99:13
 pass-over-if-requires : tie.Need-pass-over-if-requires Inv-loop μ-loop
 pass-over-if-requires c κs =
-    let K = underway-turn (c .before .before .before .before .before .before .before .before .before .before .before .before .before .before .before .before .before .before .before .before .before .before .before .loop .inv .5) (c .before .before .before .before .before .before .before .before .before .before .before .before .before .before .before .before .before .before .before .before .before .before .before .before .before .before .before .before .pre .0) (c .before .before .before .before .before .before .before .before .before .before .before .before .before .before .before .before .enum-told3 .given .1) (c .before .before .before .before .before .before .before .before .before .before .before .before .before .before .before .before .before .before .round .ensures) (c .before .before .before .before .before .before .before .before .before .before .before .before .before .before .before .before .before .before .before .before .before .before .before .before .before .before .before .cells-of .ensures .0)
-    (c .before .before .before .before .before .copy .ensures) (c .before .before .keep .ensures) in
-    (c .before .before .before .before .before .before .before .before .before .before .before .before .before .before .before .before .before .before .before .before .before .before .before .before .before .before .before .before .pre .0, K .to-base .times, K .from-base)
+    let back = c .before .before .before .before .before .before .before .before .before .before in
+    let back2 = back .before .before .before .before .before .before .before .before .before .before in
+    let copy = c .before .before .before .before .before .copy in
+    let enum-told3 = back .before .before .before .before .before .before .enum-told3 in
+    let round = back .before .before .before .before .before .before .before .before .round in
+    let loop = back2 .before .before .before .loop in
+    let cells-of = back2 .before .before .before .before .before .before .before .cells-of in
+    let pre = back2 .before .before .before .before .before .before .before .before .pre in
+    let K = underway-turn (loop .inv .5) (pre .0) (enum-told3 .given .1) (round .ensures) (cells-of .ensures .0)
+    (copy .ensures) (c .before .before .keep .ensures) in
+    (pre .0, K .to-base .times, K .from-base)
 
 -- src/lib.rt:100:9
 add-rounds-2 : tie.Need-add-rounds-2 Inv-loop μ-loop
-add-rounds-2 c = omega (arith, c .before .before .before .before .before .before .before .before .before .before .before .before .before .before .before .before .before .before .before .before .before .before .before .loop-test .taken, c .pass-over-if .ensures .0, c .before .before .before .before .before .before .before .before .before .before .before .before .before .before .before .before .before .before .before .before .before .before .before .before .before .before .before .before .before .fits .budget)
+add-rounds-2 c =
+    let back = c .before .before .before .before .before .before .before .before .before .before in
+    let back2 = back .before .before .before .before .before .before .before .before .before .before in
+    let loop-test = back2 .before .before .before .loop-test in
+    let fits = back2 .before .before .before .before .before .before .before .before .before .fits in
+    omega (arith, loop-test .taken, c .pass-over-if .ensures .0, fits .budget)
 
 -- src/lib.rt:101:9
 add-at : tie.Need-add-at Inv-loop μ-loop
 add-at c =
-    let K = underway-turn (c .before .before .before .before .before .before .before .before .before .before .before .before .before .before .before .before .before .before .before .before .before .before .before .before .loop .inv .5) (c .before .before .before .before .before .before .before .before .before .before .before .before .before .before .before .before .before .before .before .before .before .before .before .before .before .before .before .before .before .pre .0) (c .before .before .before .before .before .before .before .before .before .before .before .before .before .before .before .before .before .enum-told3 .given .1) (c .before .before .before .before .before .before .before .before .before .before .before .before .before .before .before .before .before .before .before .round .ensures) (c .before .before .before .before .before .before .before .before .before .before .before .before .before .before .before .before .before .before .before .before .before .before .before .before .before .before .before .before .cells-of .ensures .0)
-    (c .before .before .before .before .before .before .copy .ensures) (c .before .before .before .keep .ensures) in
-    omega (arith, K .order, c .before .before .before .before .before .before .before .before .before .before .before .before .before .before .before .before .before .before .before .before .before .before .before .loop-test .taken, c .pass-over-if .ensures .0, c .before .before .before .before .before .before .before .before .before .before .before .before .before .before .before .before .before .before .before .before .before .before .before .before .before .before .before .before .before .fits .budget)
+    let back = c .before .before .before .before .before .before .before .before .before .before in
+    let back2 = back .before .before .before .before .before .before .before .before .before .before in
+    let keep = c .before .before .before .keep in
+    let copy = c .before .before .before .before .before .before .copy in
+    let enum-told3 = back .before .before .before .before .before .before .before .enum-told3 in
+    let round = back .before .before .before .before .before .before .before .before .before .round in
+    let loop-test = back2 .before .before .before .loop-test in
+    let loop = back2 .before .before .before .before .loop in
+    let cells-of = back2 .before .before .before .before .before .before .before .before .cells-of in
+    let fits = back2 .before .before .before .before .before .before .before .before .before .fits in
+    let pre = back2 .before .before .before .before .before .before .before .before .before .pre in
+    let K = underway-turn (loop .inv .5) (pre .0) (enum-told3 .given .1) (round .ensures) (cells-of .ensures .0)
+    (copy .ensures) (keep .ensures) in
+    omega (arith, K .order, loop-test .taken, c .pass-over-if .ensures .0, fits .budget)
 
 -- src/lib.rt:102:9
 after-tries-requires : tie.Need-after-tries-requires Inv-loop μ-loop
@@ -143,42 +215,92 @@ after-tries-requires c κs = search needs
 
 -- src/lib.rt:104:56
 sub-finish-if : tie.Need-sub-finish-if Inv-loop μ-loop
-sub-finish-if c = omega (arith, c .before .before .before .before .before .before .before .before .before .before .before .before .before .before .before .before .before .before .before .before .before .before .before .before .before .before .loop-test .taken, c .before .before .before .pass-over-if .ensures .0)
+sub-finish-if c =
+    let back = c .before .before .before .before .before .before .before .before .before .before in
+    let back2 = back .before .before .before .before .before .before .before .before .before .before in
+    let pass-over-if = c .before .before .before .pass-over-if in
+    let loop-test = back2 .before .before .before .before .before .before .loop-test in
+    omega (arith, loop-test .taken, pass-over-if .ensures .0)
 
 -- src/lib.rt:104:13
 finish-if-requires : tie.Need-finish-if-requires Inv-loop μ-loop
-finish-if-requires c κs = (c .before .before .before .before .before .before .before .before .before .before .before .before .before .before .before .before .before .before .before .before .before .before .before .before .before .before .before .before .before .before .before .before .pre .0, c .before .before .before .pass-over-if .ensures .2 .times)
+finish-if-requires c κs =
+    let back = c .before .before .before .before .before .before .before .before .before .before in
+    let back2 = back .before .before .before .before .before .before .before .before .before .before in
+    let back3 = back2 .before .before .before .before .before .before .before .before .before .before in
+    let pass-over-if = c .before .before .before .pass-over-if in
+    let pre = back3 .before .before .pre in
+    (pre .0, pass-over-if .ensures .2 .times)
 
 -- src/lib.rt:106:13
 add-rounds-3 : tie.Need-add-rounds-3 Inv-loop μ-loop
-add-rounds-3 c = omega (arith, c .before .before .before .before .before .before .before .before .before .before .before .before .before .before .before .before .before .before .before .before .before .before .before .before .before .before .before .before .loop-test .taken, c .before .before .before .before .before .pass-over-if .ensures .0, c .before .finish-if .ensures .0, c .before .before .before .before .before .before .before .before .before .before .before .before .before .before .before .before .before .before .before .before .before .before .before .before .before .before .before .before .before .before .before .before .before .before .fits .budget)
+add-rounds-3 c =
+    let back = c .before .before .before .before .before .before .before .before .before .before in
+    let back2 = back .before .before .before .before .before .before .before .before .before .before in
+    let back3 = back2 .before .before .before .before .before .before .before .before .before .before in
+    let pass-over-if = c .before .before .before .before .before .pass-over-if in
+    let loop-test = back2 .before .before .before .before .before .before .before .before .loop-test in
+    let fits = back3 .before .before .before .before .fits in
+    omega (arith, loop-test .taken, pass-over-if .ensures .0, c .before .finish-if .ensures .0, fits .budget)
 
 -- src/lib.rt:107:13
 returns-3 : tie.Need-returns-3 Inv-loop μ-loop
 returns-3 c =
-    let K = underway-turn (c .before .before .before .before .before .before .before .before .before .before .before .before .before .before .before .before .before .before .before .before .before .before .before .before .before .before .before .before .before .loop .inv .5) (c .before .before .before .before .before .before .before .before .before .before .before .before .before .before .before .before .before .before .before .before .before .before .before .before .before .before .before .before .before .before .before .before .before .before .pre .0) (c .before .before .before .before .before .before .before .before .before .before .before .before .before .before .before .before .before .before .before .before .before .before .enum-told3 .given .1) (c .before .before .before .before .before .before .before .before .before .before .before .before .before .before .before .before .before .before .before .before .before .before .before .before .round .ensures) (c .before .before .before .before .before .before .before .before .before .before .before .before .before .before .before .before .before .before .before .before .before .before .before .before .before .before .before .before .before .before .before .before .before .cells-of .ensures .0)
-    (c .before .before .before .before .before .before .before .before .before .before .before .copy .ensures) (c .before .before .before .before .before .before .before .before .keep .ensures) in
-    let J = underway-leapt K (c .before .before .before .before .before .pass-over-if .ensures .1) (c .before .before .before .before .before .pass-over-if .ensures .2) in (
+    let back = c .before .before .before .before .before .before .before .before .before .before in
+    let back2 = back .before .before .before .before .before .before .before .before .before .before in
+    let back3 = back2 .before .before .before .before .before .before .before .before .before .before in
+    let pass-over-if = c .before .before .before .before .before .pass-over-if in
+    let keep = c .before .before .before .before .before .before .before .before .keep in
+    let copy = back .before .copy in
+    let enum-told3 = back2 .before .before .enum-told3 in
+    let round = back2 .before .before .before .before .round in
+    let loop-test = back2 .before .before .before .before .before .before .before .before .loop-test in
+    let loop = back2 .before .before .before .before .before .before .before .before .before .loop in
+    let cells-of = back3 .before .before .before .cells-of in
+    let pre = back3 .before .before .before .before .pre in
+    let K = underway-turn (loop .inv .5) (pre .0) (enum-told3 .given .1) (round .ensures) (cells-of .ensures .0)
+    (copy .ensures) (keep .ensures) in
+    let J = underway-leapt K (pass-over-if .ensures .1) (pass-over-if .ensures .2) in (
       J .from-base .times .sized,
-      λ Γ C. ended-later (all-of J) Γ C _ _ (omega (arith, c .before .before .before .before .before .before .before .before .before .before .before .before .before .before .before .before .before .before .before .before .before .before .before .before .before .before .before .before .loop-test .taken, c .before .before .before .before .before .pass-over-if .ensures .0, c .before .finish-if .ensures .0))
+      λ Γ C. ended-later (all-of J) Γ C _ _
+          (omega (arith, loop-test .taken, pass-over-if .ensures .0, c .before .finish-if .ensures .0))
           (c .before .finish-if .ensures .1 (c .if1 .taken)),
     )
 
 -- src/lib.rt:80:5
 loop-less : tie.Need-loop-less Inv-loop μ-loop
-loop-less c = omega (arith, c .before .before .before .before .before .before .before .before .before .before .before .before .before .before .before .before .before .before .before .before .before .before .before .before .before .before .before .before .loop-test .taken, c .before .before .before .before .before .pass-over-if .ensures .0)
+loop-less c =
+    let back = c .before .before .before .before .before .before .before .before .before .before in
+    let back2 = back .before .before .before .before .before .before .before .before .before .before in
+    let pass-over-if = c .before .before .before .before .before .pass-over-if in
+    let loop-test = back2 .before .before .before .before .before .before .before .before .loop-test in
+    omega (arith, loop-test .taken, pass-over-if .ensures .0)
 
 -- src/lib.rt:80:5
 loop-again : tie.Need-loop-again Inv-loop μ-loop
 loop-again c =
-    let K = underway-turn (c .before .before .before .before .before .before .before .before .before .before .before .before .before .before .before .before .before .before .before .before .before .before .before .before .before .before .before .before .before .loop .inv .5) (c .before .before .before .before .before .before .before .before .before .before .before .before .before .before .before .before .before .before .before .before .before .before .before .before .before .before .before .before .before .before .before .before .before .before .pre .0) (c .before .before .before .before .before .before .before .before .before .before .before .before .before .before .before .before .before .before .before .before .before .before .enum-told3 .given .1) (c .before .before .before .before .before .before .before .before .before .before .before .before .before .before .before .before .before .before .before .before .before .before .before .before .round .ensures) (c .before .before .before .before .before .before .before .before .before .before .before .before .before .before .before .before .before .before .before .before .before .before .before .before .before .before .before .before .before .before .before .before .before .cells-of .ensures .0)
-    (c .before .before .before .before .before .before .before .before .before .before .before .copy .ensures) (c .before .before .before .before .before .before .before .before .keep .ensures) in
-    let J = underway-leapt K (c .before .before .before .before .before .pass-over-if .ensures .1) (c .before .before .before .before .before .pass-over-if .ensures .2) in (
-      omega (arith, c .before .before .before .before .before .before .before .before .before .before .before .before .before .before .before .before .before .before .before .before .before .before .before .before .before .before .before .before .loop-test .taken, c .before .before .before .before .before .pass-over-if .ensures .0),
-      c .before .before .before .before .before .before .before .before .before .before .before .before .before .before .before .before .before .before .before .before .before .before .before .before .round .ensures (c .before .before .before .before .before .before .before .before .before .before .before .before .before .before .before .before .before .before .before .before .before .before .before .before .before .before .before .before .before .before .before .before .before .before .pre .0 .network) (c .before .before .before .before .before .before .before .before .before .before .before .before .before .before .before .before .before .before .before .before .before .before .before .before .before .before .before .before .before .before .before .before .before .before .pre .0 .compiled) .sized,
-      c .before .before .before .before .before .before .before .before .before .before .before .before .before .before .before .before .before .before .watch .ensures,
-      c .before .before .before .before .before .before .before .before .before .before .before .before .before .before .follow .ensures .0,
-      c .before .before .before .before .before .before .before .before .before .before .before .before .before .before .follow .ensures .1,
+    let back = c .before .before .before .before .before .before .before .before .before .before in
+    let back2 = back .before .before .before .before .before .before .before .before .before .before in
+    let back3 = back2 .before .before .before .before .before .before .before .before .before .before in
+    let pass-over-if = c .before .before .before .before .before .pass-over-if in
+    let keep = c .before .before .before .before .before .before .before .before .keep in
+    let copy = back .before .copy in
+    let follow = back .before .before .before .before .follow in
+    let watch = back .before .before .before .before .before .before .before .before .watch in
+    let enum-told3 = back2 .before .before .enum-told3 in
+    let round = back2 .before .before .before .before .round in
+    let loop-test = back2 .before .before .before .before .before .before .before .before .loop-test in
+    let loop = back2 .before .before .before .before .before .before .before .before .before .loop in
+    let cells-of = back3 .before .before .before .cells-of in
+    let pre = back3 .before .before .before .before .pre in
+    let K = underway-turn (loop .inv .5) (pre .0) (enum-told3 .given .1) (round .ensures) (cells-of .ensures .0)
+    (copy .ensures) (keep .ensures) in
+    let J = underway-leapt K (pass-over-if .ensures .1) (pass-over-if .ensures .2) in (
+      omega (arith, loop-test .taken, pass-over-if .ensures .0),
+      round .ensures (pre .0 .network) (pre .0 .compiled) .sized,
+      watch .ensures,
+      follow .ensures .0,
+      follow .ensures .1,
       J,
     )
 

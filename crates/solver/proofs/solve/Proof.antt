@@ -1,9 +1,10 @@
+-- `solve` meets its contract: the budget is more than the room below the limits, so its run is the definition's. Assumes nothing.
 use mathlib.Core.Path.{_≡_, refl}
 use Prim.Native.Nat.{_+_, _≤_, _<_}
 use native.Mathlib.Omega.{arith}
+use borrow.Author.Needs.{needs}
 use Rattle.bounds.proofs.Halves.{scenarios-few}
 use Rattle.solver.proofs.Solving.{zeros-at, zero-times, zero-lists, solved-resting, solved-passing, solved-spent, run-as, cells-framed, copied-framed, copied-length}
-use borrow.Author.Needs.{needs}
 use Rattle.solver.proofs.solve.Statement.{statement}
 use Rattle.solver.proofs.solve.Tie as tie
 use Rattle.solver.proofs.solve.Reads as reads
@@ -20,12 +21,15 @@ frame-of-requires c κs = search needs
 -- src/lib.rt:128:5
 list-constraints-requires : tie.Need-list-constraints-requires
 list-constraints-requires c κs =
+    let pre = c .before .before .before .before .pre in
     let F = c .before .before .frame-of .ensures in
-    (c .before .before .before .before .pre .0, F, zero-lists _ (omega (arith, F .events, c .before .before .before .before .pre .0 .some-event)), zeros-at 16)
+    (pre .0, F, zero-lists _ (omega (arith, F .events, pre .0 .some-event)), zeros-at 16)
 
 -- src/lib.rt:130:9
 run-requires : tie.Need-run-requires
-run-requires c κs = (record { network = _; compiled = c .before .before .before .list-constraints .ensures }, zero-times _ _)
+run-requires c κs =
+    let list-constraints = c .before .before .before .list-constraints in
+    (record { network = _; compiled = list-constraints .ensures }, zero-times _ _)
 
 -- src/lib.rt:132:25
 enum-known-ended : tie.Need-enum-known-ended
@@ -42,32 +46,53 @@ enum-known-ended-3 c = search needs
 -- src/lib.rt:135:13
 copy-out-requires : tie.Need-copy-out-requires
 copy-out-requires c κs =
-    let F = c .before .before .before .before .before .before .before .before .before .list-constraints .ensures .framed in
-    let W = c .before .before .before .before .before .before .before .before .before .before .before .before .before .before .pre .0 in
-    (scenarios-few _ _ W F, W .some-event, W .events, cells-framed _ _ F _ (c .before .before .before .before .before .before .before .before .before .before .before .before .before .before .pre .1))
+    let back = c .before .before .before .before .before .before .before .before .before .before in
+    let list-constraints = c .before .before .before .before .before .before .before .before .before .list-constraints in
+    let pre = back .before .before .before .before .pre in
+    let F = list-constraints .ensures .framed in
+    let W = pre .0 in
+    (scenarios-few _ _ W F, W .some-event, W .events, cells-framed _ _ F _ (pre .1))
 
 -- src/lib.rt:121:1
 returns : tie.Need-returns
 returns c =
-    let A = c .before .before .before .run .ensures .1 _ (c .before .before .before .before .before .before .before .list-constraints .ensures) in
-    solved-passing _ (c .before .before .before .before .before .before .before .before .before .before .before .before .pre .0) (run-as (c .before .ended .given .1) A) _
+    let back = c .before .before .before .before .before .before .before .before .before .before in
+    let run = c .before .before .before .run in
+    let list-constraints = c .before .before .before .before .before .before .before .list-constraints in
+    let pre = back .before .before .pre in
+    let A = run .ensures .1 _ (list-constraints .ensures) in
+    solved-passing _ (pre .0) (run-as (c .before .ended .given .1) A) _
 
 -- src/lib.rt:121:1
 returns-2 : tie.Need-returns-2
 returns-2 c =
-    let A = c .before .before .before .run .ensures .1 _ (c .before .before .before .before .before .before .before .list-constraints .ensures) in
-    solved-spent _ (c .before .before .before .before .before .before .before .before .before .before .before .before .pre .0) (run-as (c .before .ended2 .given .1) A) _
+    let back = c .before .before .before .before .before .before .before .before .before .before in
+    let run = c .before .before .before .run in
+    let list-constraints = c .before .before .before .before .before .before .before .list-constraints in
+    let pre = back .before .before .pre in
+    let A = run .ensures .1 _ (list-constraints .ensures) in
+    solved-spent _ (pre .0) (run-as (c .before .ended2 .given .1) A) _
 
 -- src/lib.rt:121:1
 same-length : tie.Need-same-length
-same-length c = copied-length _ _ (c .before .before .before .before .before .before .before .before .before .before .before .before .list-constraints .ensures .framed) _ _ _ _ refl (c .before .before .before .before .before .before .before .before .before .before .before .before .before .before .before .before .before .pre .1) (c .before .before .copy-out .ensures)
+same-length c =
+    let back = c .before .before .before .before .before .before .before .before .before .before in
+    let list-constraints = back .before .before .list-constraints in
+    let pre = back .before .before .before .before .before .before .before .pre in
+    copied-length _ _ (list-constraints .ensures .framed) _ _ _ _ refl (pre .1) (c .before .before .copy-out .ensures)
 
 -- src/lib.rt:121:1
 returns-3 : tie.Need-returns-3
 returns-3 c =
-    let C = c .before .before .before .before .before .before .before .before .before .before .before .before .list-constraints .ensures in
-    let A = c .before .before .before .before .before .before .before .before .run .ensures .1 _ C in
-    solved-resting _ (c .before .before .before .before .before .before .before .before .before .before .before .before .before .before .before .before .before .pre .0) (run-as (c .before .before .before .before .before .before .ended3 .given .1) A) _ _ (copied-framed _ _ (C .framed) _ _ _ _ refl (c .before .before .copy-out .ensures))
+    let back = c .before .before .before .before .before .before .before .before .before .before in
+    let ended3 = c .before .before .before .before .before .before .ended3 in
+    let run = c .before .before .before .before .before .before .before .before .run in
+    let list-constraints = back .before .before .list-constraints in
+    let pre = back .before .before .before .before .before .before .before .pre in
+    let C = list-constraints .ensures in
+    let A = run .ensures .1 _ C in
+    solved-resting _ (pre .0) (run-as (ended3 .given .1) A) _ _
+    (copied-framed _ _ (C .framed) _ _ _ _ refl (c .before .before .copy-out .ensures))
 
 pub solve-spec : {M : Type 1} → statement M
 solve-spec =

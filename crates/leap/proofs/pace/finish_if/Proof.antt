@@ -1,3 +1,4 @@
+-- `finish_if` meets its contract: 0 promises nothing. Assumes nothing.
 use native.Mathlib.Omega.{arith}
 use borrow.Author.Needs.{needs}
 use Rattle.leap.proofs.pace.finish_if.Statement.{statement}

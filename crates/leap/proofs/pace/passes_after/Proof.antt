@@ -1,10 +1,11 @@
+-- `passes_after` meets its contract: each test that it goes past is a premise of the law. Assumes nothing.
 use mathlib.Core.Path.{_≡_, refl}
 use mathlib.Core.Bool.{false}
 use Prim.Native.Nat.{_+_, _*_, _≤_, _<_}
 use native.Mathlib.Omega.{arith}
 use borrow.Author.Tests.{not-false}
-use Rattle.leap.proofs.Passing.{passing-of}
 use borrow.Author.Needs.{needs}
+use Rattle.leap.proofs.Passing.{passing-of}
 use Rattle.leap.proofs.pace.passes_after.Statement.{statement}
 use Rattle.leap.proofs.pace.passes_after.Tie as tie
 use Rattle.leap.proofs.pace.passes_after.Reads as reads
@@ -26,7 +27,9 @@ returns c = (omega arith, λ h. absurd (omega arith))
 
 -- src/pace.rt:76:9
 advance-requires : tie.Need-advance-requires
-advance-requires c κs = (c .before .before .before .before .before .pre .0, c .before .before .before .before .before .pre .1)
+advance-requires c κs =
+    let pre = c .before .before .before .before .before .pre in
+    (pre .0, pre .1)
 
 -- src/pace.rt:77:9
 returns-2 : tie.Need-returns-2
@@ -35,8 +38,12 @@ returns-2 c = (omega arith, λ h. absurd (omega arith))
 -- src/pace.rt:79:9
 at-most-requires : tie.Need-at-most-requires
 at-most-requires c κs =
-    let high = c .before .before .before .before .before .before .before .far .ensures .1 (not-false _ (c .before .before .before .before .before .before .if1 .left)) in
-    (c .before .before .before .before .before .before .before .before .before .pre .0, c .before .before .before .before .before .before .before .before .before .pre .1, c .before .before .before .before .before .before .before .before .before .pre .3, c .before .before .before .before .before .before .before .before .before .pre .4, c .before .before .before .advance .ensures .1 (not-false _ (c .before .before .if2 .left)), high)
+    let advance = c .before .before .before .advance in
+    let if1 = c .before .before .before .before .before .before .if1 in
+    let far = c .before .before .before .before .before .before .before .far in
+    let pre = c .before .before .before .before .before .before .before .before .before .pre in
+    let high = far .ensures .1 (not-false _ (if1 .left)) in
+    (pre .0, pre .1, pre .3, pre .4, advance .ensures .1 (not-false _ (c .before .before .if2 .left)), high)
 
 -- src/pace.rt:80:9
 returns-3 : tie.Need-returns-3
@@ -44,7 +51,10 @@ returns-3 c = (omega arith, λ h. absurd (omega arith))
 
 -- src/pace.rt:83:9
 far-requires-2 : tie.Need-far-requires-2
-far-requires-2 c κs = (c .before .before .before .before .before .before .before .before .before .before .before .before .pre .0, c .before .before .before .before .before .before .before .before .before .before .before .before .pre .1, c .before .before .before .before .before .before .before .before .before .before .before .before .pre .2, omega arith, c .before .before .before .before .before .before .before .before .before .before .before .before .pre .4, refl)
+far-requires-2 c κs =
+    let back = c .before .before .before .before .before .before .before .before .before .before in
+    let pre = back .before .before .pre in
+    (pre .0, pre .1, pre .2, omega arith, pre .4, refl)
 
 -- src/pace.rt:84:9
 returns-4 : tie.Need-returns-4
@@ -52,7 +62,10 @@ returns-4 c = (omega arith, λ h. absurd (omega arith))
 
 -- src/pace.rt:86:9
 at-least-requires : tie.Need-at-least-requires
-at-least-requires c κs = (c .before .before .before .before .before .before .before .before .before .before .before .before .before .before .before .pre .0, c .before .before .before .before .before .before .before .before .before .before .before .before .before .before .before .pre .1, c .before .before .before .before .before .before .before .before .before .before .before .before .before .before .before .pre .2, c .before .before .before .before .before .before .before .before .before .before .before .before .before .before .before .pre .4, c .before .before .far2 .ensures .1 (not-false _ (c .before .if4 .left)))
+at-least-requires c κs =
+    let back = c .before .before .before .before .before .before .before .before .before .before in
+    let pre = back .before .before .before .before .before .pre in
+    (pre .0, pre .1, pre .2, pre .4, c .before .before .far2 .ensures .1 (not-false _ (c .before .if4 .left)))
 
 -- src/pace.rt:87:9
 returns-5 : tie.Need-returns-5
@@ -61,9 +74,15 @@ returns-5 c = (omega arith, λ h. absurd (omega arith))
 -- src/pace.rt:89:9
 closing-requires : tie.Need-closing-requires
 closing-requires c κs =
-    let high = c .before .before .before .before .before .before .before .before .before .before .before .before .before .before .before .before .before .far .ensures .1 (not-false _ (c .before .before .before .before .before .before .before .before .before .before .before .before .before .before .before .before .if1 .left)) in
-    let low = c .before .before .before .before .before .before .far2 .ensures .1 (not-false _ (c .before .before .before .before .before .if4 .left)) in
-    (c .before .before .before .before .before .before .before .before .before .before .before .before .before .before .before .before .before .before .before .pre .0, low .times, high .times)
+    let back = c .before .before .before .before .before .before .before .before .before .before in
+    let if4 = c .before .before .before .before .before .if4 in
+    let far2 = c .before .before .before .before .before .before .far2 in
+    let if1 = back .before .before .before .before .before .before .if1 in
+    let far = back .before .before .before .before .before .before .before .far in
+    let pre = back .before .before .before .before .before .before .before .before .before .pre in
+    let high = far .ensures .1 (not-false _ (if1 .left)) in
+    let low = far2 .ensures .1 (not-false _ (if4 .left)) in
+    (pre .0, low .times, high .times)
 
 -- src/pace.rt:91:9
 returns-6 : tie.Need-returns-6
@@ -71,7 +90,11 @@ returns-6 c = (omega arith, λ h. absurd (omega arith))
 
 -- src/pace.rt:93:9
 total-requires : tie.Need-total-requires
-total-requires c κs = (c .before .before .before .before .before .before .before .before .before .before .before .before .before .before .before .before .before .before .before .before .before .pre .4, c .before .before .before .before .before .before .before .before .before .before .before .before .before .before .before .before .before .before .before .before .before .pre .5, omega (arith, c .before .closing .ensures .0, c .before .before .before .before .before .before .before .before .before .before .before .before .before .before .before .before .before .before .before .before .before .pre .5))
+total-requires c κs =
+    let back = c .before .before .before .before .before .before .before .before .before .before in
+    let back2 = back .before .before .before .before .before .before .before .before .before .before in
+    let pre = back2 .before .pre in
+    (pre .4, pre .5, omega (arith, c .before .closing .ensures .0, pre .5))
 
 -- src/pace.rt:95:9
 returns-7 : tie.Need-returns-7
@@ -80,13 +103,27 @@ returns-7 c = (omega arith, λ h. absurd (omega arith))
 -- src/pace.rt:55:1
 returns-8 : tie.Need-returns-8
 returns-8 c =
-    let high = c .before .before .before .before .before .before .before .before .before .before .before .before .before .before .before .before .before .before .before .before .before .far .ensures .1 (not-false _ (c .before .before .before .before .before .before .before .before .before .before .before .before .before .before .before .before .before .before .before .before .if1 .left)) in
-    let low = c .before .before .before .before .before .before .before .before .before .before .far2 .ensures .1 (not-false _ (c .before .before .before .before .before .before .before .before .before .if4 .left)) in
-    let most = c .before .before .before .before .before .before .before .before .before .before .before .before .before .at-most .ensures (not-false _ (c .before .before .before .before .before .before .before .before .before .before .before .before .if3 .left)) in
-    let least = c .before .before .before .before .before .before .before .at-least .ensures (not-false _ (c .before .before .before .before .before .before .if5 .left)) in (
+    let back = c .before .before .before .before .before .before .before .before .before .before in
+    let back2 = back .before .before .before .before .before .before .before .before .before .before in
+    let if6 = c .before .before .if6 in
+    let closing = c .before .before .before .closing in
+    let if5 = c .before .before .before .before .before .before .if5 in
+    let at-least = c .before .before .before .before .before .before .before .at-least in
+    let if4 = c .before .before .before .before .before .before .before .before .before .if4 in
+    let far2 = back .far2 in
+    let if3 = back .before .before .if3 in
+    let at-most = back .before .before .before .at-most in
+    let if1 = back2 .if1 in
+    let far = back2 .before .far in
+    let pre = back2 .before .before .before .pre in
+    let high = far .ensures .1 (not-false _ (if1 .left)) in
+    let low = far2 .ensures .1 (not-false _ (if4 .left)) in
+    let most = at-most .ensures (not-false _ (if3 .left)) in
+    let least = at-least .ensures (not-false _ (if5 .left)) in (
       omega (arith, c .if7 .left),
       λ _. rw (c .before .total .ensures)
-          (passing-of _ _ _ _ _ _ _ _ (c .before .before .before .before .before .before .before .before .before .before .before .before .before .before .before .before .before .before .before .before .before .before .before .pre .3) (c .before .before .before .before .before .before .before .before .before .before .before .before .before .before .before .before .before .before .before .before .before .before .before .pre .2) most least high low (c .before .before .before .closing .ensures .3 (omega (arith, c .before .before .if6 .left))) (omega (arith, c .before .before .if6 .left))),
+          (passing-of _ _ _ _ _ _ _ _ (pre .3) (pre .2) most least high low (closing .ensures .3 (omega (arith, if6 .left)))
+          (omega (arith, if6 .left))),
     )
 
 pub passes-after-spec : {M : Type 1} → statement M

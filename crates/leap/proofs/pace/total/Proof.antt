@@ -1,3 +1,4 @@
+-- `total` meets its contract: nothing wraps. Assumes nothing.
 use Prim.Native.Nat.{_*_, _≤_}
 use native.Mathlib.Nat.{mul-le-mul}
 use native.Mathlib.Omega.{arith}

@@ -1,7 +1,9 @@
-use borrow.Author.Needs.{needs}
+-- `pass_over` meets its contract. The invariant: so many rounds, of those that are left, lead from a at entry to a, and p from a to x. The
+-- measure is what is left of the tries. Assumes nothing.
 use mathlib.Core.Path.{_≡_, refl}
 use Prim.Native.Nat.{_+_, _*_, _-_, _≤_}
 use native.Mathlib.Omega.{arith}
+use borrow.Author.Needs.{needs}
 use Rattle.rounds.proofs.Usable.{scenarios-in}
 use Rattle.moves.proofs.Moves.{wrote-times}
 use Rattle.moves.proofs.Levels.{some-of}
@@ -18,7 +20,8 @@ use Rattle.moves.proofs.rise.Reads as rise-reads
 
 abbrev Inv-loop : tie.InvT-loop
 Inv-loop a₀ x₀ p tries left frame counts lists cells d j₀ made₀ tried₀ a x j made tried =
-    (made ≤ left) × (j ≤ 10080) × (tried ≤ tries) × Advanced frame counts lists made a₀ a × Advanced frame counts lists p a x
+    (made ≤ left) × (j ≤ 10080) × (tried ≤ tries) × Advanced frame counts lists made a₀ a
+    × Advanced frame counts lists p a x
 
 abbrev μ-loop : tie.MeasureT-loop
 μ-loop a₀ x₀ p tries left frame counts lists cells d j₀ made₀ tried₀ a x j made tried = tries - tried
@@ -33,65 +36,99 @@ mul-cells c = omega (arith, scenarios-in (c .before .before .pre .0))
 
 -- src/pass.rt:83:5
 rise-requires : tie.Need-rise-requires Inv-loop μ-loop
-rise-requires c κs = (omega (arith, scenarios-in (c .before .before .before .before .before .pre .0)), refl)
+rise-requires c κs =
+    let pre = c .before .before .before .before .before .pre in
+    (omega (arith, scenarios-in (pre .0)), refl)
 
 -- src/pass.rt:84:8
 next-level-requires : tie.Need-next-level-requires Inv-loop μ-loop
-next-level-requires c κs = omega (arith, scenarios-in (c .before .before .before .before .before .before .before .pre .0))
+next-level-requires c κs =
+    let pre = c .before .before .before .before .before .before .before .pre in
+    omega (arith, scenarios-in (pre .0))
 
 -- src/pass.rt:85:9
 returns-2 : tie.Need-returns-2 Inv-loop μ-loop
-returns-2 c = (omega arith, advanced-none (c .before .before .before .before .before .before .before .before .before .pre .1), c .before .before .before .before .before .before .before .before .before .pre .2)
+returns-2 c =
+    let pre = c .before .before .before .before .before .before .before .before .before .pre in
+    (omega arith, advanced-none (pre .1), pre .2)
 
 -- src/pass.rt:87:9
 most-requires : tie.Need-most-requires Inv-loop μ-loop
-most-requires c κs = omega (arith, scenarios-in (c .before .before .before .before .before .before .before .before .before .before .before .pre .0))
+most-requires c κs =
+    let pre = c .before .before .before .before .before .before .before .before .before .before .before .pre in
+    omega (arith, scenarios-in (pre .0))
 
 -- src/pass.rt:90:5
 loop-holds : tie.Need-loop-holds Inv-loop μ-loop
-loop-holds c = (omega arith, c .most .ensures, omega arith, advanced-none (c .before .before .before .before .before .before .before .before .before .before .before .before .pre .1), c .before .before .before .before .before .before .before .before .before .before .before .before .pre .2)
+loop-holds c =
+    let back = c .before .before .before .before .before .before .before .before .before .before in
+    let pre = back .before .before .pre in
+    (omega arith, c .most .ensures, omega arith, advanced-none (pre .1), pre .2)
 
 -- src/pass.rt:92:13
 returns-3 : tie.Need-returns-3 Inv-loop μ-loop
-returns-3 c = (c .before .before .loop .inv .0, c .before .before .loop .inv .3, c .before .before .loop .inv .4)
+returns-3 c =
+    let loop = c .before .before .loop in
+    (loop .inv .0, loop .inv .3, loop .inv .4)
 
 -- src/pass.rt:94:37
 sub-hop : tie.Need-sub-hop Inv-loop μ-loop
-sub-hop c = omega (arith, c .before .before .before .before .before .loop .inv .0)
+sub-hop c =
+    let loop = c .before .before .before .before .before .loop in
+    omega (arith, loop .inv .0)
 
 -- src/pass.rt:94:17
 hop-requires : tie.Need-hop-requires Inv-loop μ-loop
-hop-requires c κs = (
-  c .before .before .before .before .before .before .before .before .before .before .before .before .before .before .before .before .before .before .pre .0,
-  c .before .before .before .before .before .loop .inv .3 .times,
-  wrote-times _ (c .before .before .before .before .before .before .before .before .before .before .before .before .before .before .before .before .before .before .pre .2 .times) refl (c .before .before .before .before .before .before .before .before .before .before .before .before .rise .ensures) (λ i. omega arith),
-  c .before .before .before .before .before .loop .inv .1,
-  omega (arith, c .before .before .before .before .before .before .before .before .before .before .before .before .before .before .before .before .before .if1 .left),
-  some-of (c .before .before .before .before .before .before .before .before .before .before .next-level .ensures) (c .before .before .before .before .before .before .before .before .before .if2 .left),
-  c .before .before .before .before .before .loop .inv .4,
-)
+hop-requires c κs =
+    let back = c .before .before .before .before .before .before .before .before .before .before in
+    let loop = c .before .before .before .before .before .loop in
+    let if2 = c .before .before .before .before .before .before .before .before .before .if2 in
+    let next-level = back .next-level in
+    let rise = back .before .before .rise in
+    let if1 = back .before .before .before .before .before .before .before .if1 in
+    let pre = back .before .before .before .before .before .before .before .before .pre in (
+      pre .0,
+      loop .inv .3 .times,
+      wrote-times _ (pre .2 .times) refl (rise .ensures) (λ i. omega arith),
+      loop .inv .1,
+      omega (arith, if1 .left),
+      some-of (next-level .ensures) (if2 .left),
+      loop .inv .4,
+    )
 
 -- src/pass.rt:94:9
 add-made : tie.Need-add-made Inv-loop μ-loop
-add-made c = omega (arith, c .before .before .before .before .before .before .loop .inv .0, c .hop .ensures .0, c .before .before .before .before .before .before .before .before .before .before .before .before .before .before .before .before .before .before .before .fits .left)
+add-made c =
+    let back = c .before .before .before .before .before .before .before .before .before .before in
+    let loop = c .before .before .before .before .before .before .loop in
+    let fits = back .before .before .before .before .before .before .before .before .before .fits in
+    omega (arith, loop .inv .0, c .hop .ensures .0, fits .left)
 
 -- src/pass.rt:96:9
 add-tried : tie.Need-add-tried Inv-loop μ-loop
-add-tried c = omega (arith, c .before .before .before .before .before .loop-test .taken, c .before .before .before .before .before .before .before .before .before .before .before .before .before .before .before .before .before .before .before .fits .tries)
+add-tried c =
+    let back = c .before .before .before .before .before .before .before .before .before .before in
+    let loop-test = c .before .before .before .before .before .loop-test in
+    let fits = back .before .before .before .before .before .before .before .before .before .fits in
+    omega (arith, loop-test .taken, fits .tries)
 
 -- src/pass.rt:90:5
 loop-less : tie.Need-loop-less Inv-loop μ-loop
-loop-less c = omega (arith, c .before .before .before .before .before .loop-test .taken)
+loop-less c =
+    let loop-test = c .before .before .before .before .before .loop-test in
+    omega (arith, loop-test .taken)
 
 -- src/pass.rt:90:5
 loop-again : tie.Need-loop-again Inv-loop μ-loop
-loop-again c = (
-  omega (arith, c .before .before .before .before .before .before .loop .inv .0, c .hop .ensures .0),
-  omega (arith, c .before .before .before .before .before .before .loop .inv .1),
-  omega (arith, c .before .before .before .before .before .loop-test .taken),
-  advanced-join (c .before .before .before .before .before .before .loop .inv .3) (c .hop .ensures .1),
-  c .hop .ensures .2,
-)
+loop-again c =
+    let loop-test = c .before .before .before .before .before .loop-test in
+    let loop = c .before .before .before .before .before .before .loop in (
+      omega (arith, loop .inv .0, c .hop .ensures .0),
+      omega (arith, loop .inv .1),
+      omega (arith, loop-test .taken),
+      advanced-join (loop .inv .3) (c .hop .ensures .1),
+      c .hop .ensures .2,
+    )
 
 -- src/pass.rt:63:1
 returns-4 : tie.Need-returns-4 Inv-loop μ-loop

@@ -1,6 +1,7 @@
+-- `pass_over_if` meets its contract: no rounds lead nowhere else. Assumes nothing.
 use native.Mathlib.Omega.{arith}
-use Rattle.leap.proofs.Tables.{advanced-none}
 use borrow.Author.Needs.{needs}
+use Rattle.leap.proofs.Tables.{advanced-none}
 use Rattle.leap.proofs.pass.pass_over_if.Statement.{statement}
 use Rattle.leap.proofs.pass.pass_over_if.Tie as tie
 use Rattle.leap.proofs.pass.pass_over_if.Reads as reads

@@ -1,3 +1,4 @@
+-- `product` meets its contract: it does not wrap. Assumes nothing.
 use Prim.Native.Nat.{_*_, _≤_}
 use native.Mathlib.Nat.{mul-le-mul}
 use native.Mathlib.Omega.{arith}

@@ -1,8 +1,10 @@
-use borrow.Author.Needs.{needs}
+-- `advance` meets its contract: each turn makes a round that raises within the limits, so it leads on. The invariant: i rounds lead from
+-- the table at entry to a. The measure is what is left of p. Assumes nothing.
 use mathlib.Core.Path.{_≡_, refl}
 use mathlib.Core.Bool.{false}
 use Prim.Native.Nat.{_+_, _-_, _≤_}
 use native.Mathlib.Omega.{arith}
+use borrow.Author.Needs.{needs}
 use lib.ListN.{length}
 use Rattle.prelude.proofs.Tests.{clash}
 use Rattle.rounds.proofs.Turns.{rounded-as}
@@ -15,7 +17,8 @@ use Rattle.leap.proofs.test.advance.Lts as lts
 use Rattle.rounds.proofs.round.Reads as round-reads
 
 abbrev Inv-loop : tie.InvT-loop
-Inv-loop a₀ p frame counts lists b₀ i₀ a b i = (i ≤ p) × (length b ≡ 256) × Advanced frame counts lists i a₀ a
+Inv-loop a₀ p frame counts lists b₀ i₀ a b i =
+    (i ≤ p) × (length b ≡ 256) × Advanced frame counts lists i a₀ a
 
 abbrev μ-loop : tie.MeasureT-loop
 μ-loop a₀ p frame counts lists b₀ i₀ a b i = p - i
@@ -26,7 +29,10 @@ loop-holds c = (omega arith, refl, advanced-none (c .pre .1))
 
 -- src/test.rt:33:15
 round-requires : tie.Need-round-requires Inv-loop μ-loop
-round-requires c κs = (c .before .before .before .before .pre .0, c .before .before .before .loop .inv .2 .times, c .before .before .before .loop .inv .1)
+round-requires c κs =
+    let loop = c .before .before .before .loop in
+    let pre = c .before .before .before .before .pre in
+    (pre .0, loop .inv .2 .times, loop .inv .1)
 
 -- src/test.rt:34:32
 enum-told : tie.Need-enum-told Inv-loop μ-loop
@@ -34,7 +40,9 @@ enum-told c = search needs
 
 -- src/test.rt:34:32
 returns : tie.Need-returns Inv-loop μ-loop
-returns c = (c .before .before .before .before .before .before .loop .inv .2 .times .sized, λ e. clash false e refl)
+returns c =
+    let loop = c .before .before .before .before .before .before .loop in
+    (loop .inv .2 .times .sized, λ e. clash false e refl)
 
 -- src/test.rt:35:31
 enum-told-2 : tie.Need-enum-told-2 Inv-loop μ-loop
@@ -42,7 +50,9 @@ enum-told-2 c = search needs
 
 -- src/test.rt:35:31
 returns-2 : tie.Need-returns-2 Inv-loop μ-loop
-returns-2 c = (c .before .before .before .before .before .before .loop .inv .2 .times .sized, λ e. clash false e refl)
+returns-2 c =
+    let loop = c .before .before .before .before .before .before .loop in
+    (loop .inv .2 .times .sized, λ e. clash false e refl)
 
 enum-told-3 : tie.Need-enum-told-3 Inv-loop μ-loop
 enum-told-3 c = search needs
@@ -58,15 +68,18 @@ loop-less c = search needs
 -- src/test.rt:32:5
 loop-again : tie.Need-loop-again Inv-loop μ-loop
 loop-again c =
-    let U = c .before .before .before .before .before .before .before .pre .0 in
+    let loop = c .before .before .before .before .before .before .loop in
+    let pre = c .before .before .before .before .before .before .before .pre in
+    let U = pre .0 in
     let made = c .before .before .round .ensures in
     let next = advanced-round U (λ Γ C. rounded-as (c .enum-told3 .given .1) (made Γ C)) in
-    (omega arith, made (U .network) (U .compiled) .sized, advanced-join (c .before .before .before .before .before .before .loop .inv .2) next)
+    (omega arith, made (U .network) (U .compiled) .sized, advanced-join (loop .inv .2) next)
 
 -- src/test.rt:19:1
 returns-3 : tie.Need-returns-3 Inv-loop μ-loop
 returns-3 c =
-    let e : c .before .loop .i ≡ c .before .before .args .p = omega (arith, c .before .loop .inv .0, c .loop-test .left) in
+    let loop = c .before .loop in
+    let e : loop .i ≡ c .before .before .args .p = omega (arith, loop .inv .0, c .loop-test .left) in
     (c .before .loop .inv .2 .times .sized, λ _. rw e at (c .before .loop .inv .2))
 
 pub advance-spec : {M : Type 1} → statement M

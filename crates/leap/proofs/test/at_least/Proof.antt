@@ -1,9 +1,11 @@
-use borrow.Author.Needs.{needs}
+-- `at_least` meets its contract. The invariant: every cell of a level below l is known not to be raised by slower ones. The next level is
+-- higher, and none is above 10,080: what is left below that is the measure. Assumes nothing.
 use mathlib.Core.Path.{_≡_, refl}
 use mathlib.Core.Bool.{false}
 use Prim.Native.Nat.{_*_, _-_, _≤_, _<_}
 use native.Mathlib.Nat.{mul-le-mul}
 use native.Mathlib.Omega.{arith}
+use borrow.Author.Needs.{needs}
 use borrow.Author.Tests.{not-false}
 use Rattle.prelude.proofs.Tests.{clash}
 use Rattle.network.specs.declared.Network.{Network}
@@ -23,7 +25,8 @@ use Rattle.moves.proofs.next_level.Reads as next-level-reads
 use Rattle.moves.proofs.reached.Reads as reached-reads
 
 abbrev Inv-loop : tie.InvT-loop
-Inv-loop t d o j p frame counts lists cells l₀ l = (l ≤ 10080) × ((Γ : Network) → Compiled Γ frame counts lists → Lower Γ d l (Slower Γ p j t d))
+Inv-loop t d o j p frame counts lists cells l₀ l =
+    (l ≤ 10080) × ((Γ : Network) → Compiled Γ frame counts lists → Lower Γ d l (Slower Γ p j t d))
 
 abbrev μ-loop : tie.MeasureT-loop
 μ-loop t d o j p frame counts lists cells l₀ l = 10080 - l
@@ -42,21 +45,33 @@ next-level-requires c κs = omega (arith, scenarios-in (c .before .before .pre .
 
 -- src/test.rt:202:17
 reached-requires : tie.Need-reached-requires Inv-loop μ-loop
-reached-requires c κs = (c .before .before .loop .inv .0, c .before .before .before .before .pre .3)
+reached-requires c κs =
+    let pre = c .before .before .before .before .pre in
+    (c .before .before .loop .inv .0, pre .3)
 
 -- src/test.rt:203:13
 between-requires : tie.Need-between-requires Inv-loop μ-loop
 between-requires c κs =
-    let h : c .before .before .before .before .before .args .j * c .before .before .before .loop .l ≤ 10080 * 10080 = mul-le-mul (c .before .before .before .before .before .pre .3) (c .before .before .before .loop .inv .0) in
-    (omega (arith, scenarios-in (c .before .before .before .before .before .pre .0)), omega (arith, c .reached .ensures, c .before .before .before .loop .inv .0), omega arith)
+    let loop = c .before .before .before .loop in
+    let args = c .before .before .before .before .before .args in
+    let pre = c .before .before .before .before .before .pre in
+    let h : args .j * loop .l ≤ 10080 * 10080 = mul-le-mul (pre .3) (loop .inv .0) in
+    (omega (arith, scenarios-in (pre .0)), omega (arith, c .reached .ensures, loop .inv .0), omega arith)
 
 -- src/test.rt:203:13
 returns : tie.Need-returns Inv-loop μ-loop
-returns c = λ e Γ C. at-least-of C (c .before .before .before .before .before .before .pre .2) (c .before .before .before .next-level .ensures) (c .before .before .if1 .taken) (c .before .reached .ensures) (c .before .before .before .before .loop .inv .1 Γ C) (c .before .before .before .before .before .before .pre .4) (c .between .ensures e)
+returns c =
+    let next-level = c .before .before .before .next-level in
+    let loop = c .before .before .before .before .loop in
+    let pre = c .before .before .before .before .before .before .pre in
+    λ e Γ C. at-least-of C (pre .2) (next-level .ensures) (c .before .before .if1 .taken) (c .before .reached .ensures)
+    (loop .inv .1 Γ C) (pre .4) (c .between .ensures e)
 
 -- src/test.rt:205:13
 slower-hold-requires : tie.Need-slower-hold-requires Inv-loop μ-loop
-slower-hold-requires c κs = (c .before .before .before .before .pre .0, c .before .before .before .before .pre .1, c .before .before .before .before .pre .2, c .before .before .before .before .pre .3, c .before .before .loop .inv .0)
+slower-hold-requires c κs =
+    let pre = c .before .before .before .before .pre in
+    (pre .0, pre .1, pre .2, pre .3, c .before .before .loop .inv .0)
 
 -- src/test.rt:206:13
 returns-2 : tie.Need-returns-2 Inv-loop μ-loop
@@ -65,18 +80,25 @@ returns-2 c = λ e. clash false e refl
 -- src/test.rt:199:5
 loop-less : tie.Need-loop-less Inv-loop μ-loop
 loop-less c =
-    let next = c .before .before .before .next-level .ensures in
-    let w = next .found (c .before .before .if1 .left) in
-    omega (arith, next .more (c .before .before .if1 .left), w .2, cell-few (c .before .before .before .before .before .before .pre .2) (scenarios-in (c .before .before .before .before .before .before .pre .0)) (w .0) (w .1))
+    let if1 = c .before .before .if1 in
+    let next-level = c .before .before .before .next-level in
+    let pre = c .before .before .before .before .before .before .pre in
+    let next = next-level .ensures in
+    let w = next .found (if1 .left) in
+    omega (arith, next .more (if1 .left), w .2, cell-few (pre .2) (scenarios-in (pre .0)) (w .0) (w .1))
 
 -- src/test.rt:199:5
 loop-again : tie.Need-loop-again Inv-loop μ-loop
 loop-again c =
-    let next = c .before .before .before .next-level .ensures in
-    let w = next .found (c .before .before .if1 .left) in
+    let if1 = c .before .before .if1 in
+    let next-level = c .before .before .before .next-level in
+    let loop = c .before .before .before .before .loop in
+    let pre = c .before .before .before .before .before .before .pre in
+    let next = next-level .ensures in
+    let w = next .found (if1 .left) in
     let known = c .before .slower-hold .ensures (not-false _ (c .if2 .left)) in (
-      omega (arith, w .2, cell-few (c .before .before .before .before .before .before .pre .2) (scenarios-in (c .before .before .before .before .before .before .pre .0)) (w .0) (w .1)),
-      λ Γ C. lower-next (C .formed .events) (c .before .before .before .before .loop .inv .1 Γ C) (known Γ C) (next-framed C next) (c .before .before .if1 .left),
+      omega (arith, w .2, cell-few (pre .2) (scenarios-in (pre .0)) (w .0) (w .1)),
+      λ Γ C. lower-next (C .formed .events) (loop .inv .1 Γ C) (known Γ C) (next-framed C next) (if1 .left),
     )
 
 pub at-least-spec : {M : Type 1} → statement M

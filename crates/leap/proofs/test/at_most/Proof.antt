@@ -1,8 +1,10 @@
-use borrow.Author.Needs.{needs}
+-- `at_most` meets its contract. The invariant: every cell of a level below l is known not to be raised by faster ones. The next level is
+-- higher, and none is above 10,080: what is left below that is the measure. Assumes nothing.
 use mathlib.Core.Path.{_≡_, refl}
 use mathlib.Core.Bool.{false}
 use Prim.Native.Nat.{_*_, _-_, _≤_, _<_}
 use native.Mathlib.Omega.{arith}
+use borrow.Author.Needs.{needs}
 use borrow.Author.Tests.{not-false}
 use Rattle.prelude.proofs.Tests.{clash}
 use Rattle.network.specs.declared.Network.{Network}
@@ -21,7 +23,8 @@ use Rattle.moves.proofs.between.Reads as between-reads
 use Rattle.moves.proofs.next_level.Reads as next-level-reads
 
 abbrev Inv-loop : tie.InvT-loop
-Inv-loop t d x o j p frame counts lists cells l₀ l = (l ≤ 10080) × ((Γ : Network) → Compiled Γ frame counts lists → Lower Γ d l (Faster Γ p j t d))
+Inv-loop t d x o j p frame counts lists cells l₀ l =
+    (l ≤ 10080) × ((Γ : Network) → Compiled Γ frame counts lists → Lower Γ d l (Faster Γ p j t d))
 
 abbrev μ-loop : tie.MeasureT-loop
 μ-loop t d x o j p frame counts lists cells l₀ l = 10080 - l
@@ -44,15 +47,23 @@ cast-between c = search needs
 
 -- src/test.rt:146:13
 between-requires : tie.Need-between-requires Inv-loop μ-loop
-between-requires c κs = (omega (arith, scenarios-in (c .before .before .before .before .pre .0)), omega arith, omega (arith, c .before .before .loop .inv .0))
+between-requires c κs =
+    let pre = c .before .before .before .before .pre in
+    (omega (arith, scenarios-in (pre .0)), omega arith, omega (arith, c .before .before .loop .inv .0))
 
 -- src/test.rt:146:13
 returns : tie.Need-returns Inv-loop μ-loop
-returns c = λ e Γ C. at-most-of C (c .before .before .before .before .before .pre .2) (c .before .before .next-level .ensures) (c .before .if1 .taken) (c .before .before .before .loop .inv .1 Γ C) (c .before .before .before .before .before .pre .4) (c .between .ensures e)
+returns c =
+    let loop = c .before .before .before .loop in
+    let pre = c .before .before .before .before .before .pre in
+    λ e Γ C. at-most-of C (pre .2) (c .before .before .next-level .ensures) (c .before .if1 .taken) (loop .inv .1 Γ C) (pre .4)
+    (c .between .ensures e)
 
 -- src/test.rt:148:13
 faster-hold-requires : tie.Need-faster-hold-requires Inv-loop μ-loop
-faster-hold-requires c κs = (c .before .before .before .before .pre .0, c .before .before .before .before .pre .1, c .before .before .before .before .pre .2, c .before .before .before .before .pre .3, c .before .before .loop .inv .0, c .before .before .before .before .pre .5)
+faster-hold-requires c κs =
+    let pre = c .before .before .before .before .pre in
+    (pre .0, pre .1, pre .2, pre .3, c .before .before .loop .inv .0, pre .5)
 
 -- src/test.rt:149:13
 returns-2 : tie.Need-returns-2 Inv-loop μ-loop
@@ -61,18 +72,25 @@ returns-2 c = λ e. clash false e refl
 -- src/test.rt:143:5
 loop-less : tie.Need-loop-less Inv-loop μ-loop
 loop-less c =
-    let next = c .before .before .before .next-level .ensures in
-    let w = next .found (c .before .before .if1 .left) in
-    omega (arith, next .more (c .before .before .if1 .left), w .2, cell-few (c .before .before .before .before .before .before .pre .2) (scenarios-in (c .before .before .before .before .before .before .pre .0)) (w .0) (w .1))
+    let if1 = c .before .before .if1 in
+    let next-level = c .before .before .before .next-level in
+    let pre = c .before .before .before .before .before .before .pre in
+    let next = next-level .ensures in
+    let w = next .found (if1 .left) in
+    omega (arith, next .more (if1 .left), w .2, cell-few (pre .2) (scenarios-in (pre .0)) (w .0) (w .1))
 
 -- src/test.rt:143:5
 loop-again : tie.Need-loop-again Inv-loop μ-loop
 loop-again c =
-    let next = c .before .before .before .next-level .ensures in
-    let w = next .found (c .before .before .if1 .left) in
+    let if1 = c .before .before .if1 in
+    let next-level = c .before .before .before .next-level in
+    let loop = c .before .before .before .before .loop in
+    let pre = c .before .before .before .before .before .before .pre in
+    let next = next-level .ensures in
+    let w = next .found (if1 .left) in
     let known = c .before .faster-hold .ensures (not-false _ (c .if2 .left)) in (
-      omega (arith, w .2, cell-few (c .before .before .before .before .before .before .pre .2) (scenarios-in (c .before .before .before .before .before .before .pre .0)) (w .0) (w .1)),
-      λ Γ C. lower-next (C .formed .events) (c .before .before .before .before .loop .inv .1 Γ C) (known Γ C) (next-framed C next) (c .before .before .if1 .left),
+      omega (arith, w .2, cell-few (pre .2) (scenarios-in (pre .0)) (w .0) (w .1)),
+      λ Γ C. lower-next (C .formed .events) (loop .inv .1 Γ C) (known Γ C) (next-framed C next) (if1 .left),
     )
 
 pub at-most-spec : {M : Type 1} → statement M

@@ -1,8 +1,9 @@
-use borrow.Author.Needs.{needs}
+-- `far` meets its contract: rounds may go from a table that is placed, and p of them are made. Assumes nothing.
 use mathlib.Core.Path.{_≡_, refl}
 use mathlib.Core.Bool.{false}
 use Prim.Native.Nat.{_*_, _≤_}
 use native.Mathlib.Omega.{arith}
+use borrow.Author.Needs.{needs}
 use borrow.Author.Tests.{not-false}
 use Rattle.prelude.proofs.Tests.{clash}
 use Rattle.rounds.proofs.Usable.{scenarios-in}
@@ -21,7 +22,9 @@ mul-cells c = omega (arith, scenarios-in (c .before .pre .0))
 
 -- src/test.rt:63:9
 place-requires : tie.Need-place-requires
-place-requires c κs = (omega (arith, scenarios-in (c .before .before .pre .0)), c .before .before .pre .5, c .before .before .pre .4, c .before .before .pre .3)
+place-requires c κs =
+    let pre = c .before .before .pre in
+    (omega (arith, scenarios-in (pre .0)), pre .5, pre .4, pre .3)
 
 -- src/test.rt:64:9
 returns : tie.Need-returns
@@ -30,13 +33,16 @@ returns c = (c .before .place .ensures .0, λ e. clash false e refl)
 -- src/test.rt:66:5
 advance-requires : tie.Need-advance-requires
 advance-requires c κs =
-    let placed = c .before .before .place .ensures .1 (not-false _ (c .before .if1 .left)) in
-    (c .before .before .before .before .before .pre .0, placed-times (c .before .before .before .before .before .pre .1) (c .before .before .before .before .before .pre .2) placed (c .before .before .place .ensures .0) (horizon-few (c .before .before .before .before .before .pre .0)))
+    let place = c .before .before .place in
+    let pre = c .before .before .before .before .before .pre in
+    let placed = place .ensures .1 (not-false _ (c .before .if1 .left)) in
+    (pre .0, placed-times (pre .1) (pre .2) placed (place .ensures .0) (horizon-few (pre .0)))
 
 -- src/test.rt:45:1
 returns-2 : tie.Need-returns-2
 returns-2 c =
-    let placed = c .before .before .before .place .ensures .1 (not-false _ (c .before .before .if1 .left)) in
+    let place = c .before .before .before .place in
+    let placed = place .ensures .1 (not-false _ (c .before .before .if1 .left)) in
     (c .advance .ensures .0, λ e. far-of placed (c .advance .ensures .1 e))
 
 pub far-spec : {M : Type 1} → statement M

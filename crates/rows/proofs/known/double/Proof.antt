@@ -24,7 +24,11 @@ element-copy-out-lesser : tie.Need-element-copy-out-lesser Inv-loop μ-loop
 element-copy-out-lesser c = search needs
 
 lesser-requires : tie.Need-lesser-requires Inv-loop μ-loop
-lesser-requires c κs = search needs
+lesser-requires c κs =
+    let z = c .before .before .before in
+    let loop = c .before .before .loop in
+    let test = c .before .loop-test in
+    (omega (arith, loop .inv .low (loop .d) (test .taken), z .pre .3 (loop .d) (test .taken)), z .pre .2)
 
 add-first : tie.Need-add-first Inv-loop μ-loop
 add-first c = search needs

@@ -1,106 +1,126 @@
--- Each turn takes in one proposition. The invariant: the table has the sets of the first p (`First`), which are 2 to the power of p.
--- Assumes nothing.
-use mathlib.Core.Path.{_≡_, refl}
-use Prim.Native.Nat.{_+_, _-_, _^_, _≤_, _<_}
+-- Each doubling takes in one proposition: after p of them the table has the sets of the first p (`First`). A table for
+-- two or for four propositions is one for as many as there are signals (`first-fewer`). Assumes nothing.
+use mathlib.Core.Path.{_≡_, refl, ap}
+use mathlib.Core.List.{List}
+use Prim.Native.Nat.{ℕ, _+_, _%_, _^_, _≤_, _<_}
 use native.Mathlib.Omega.{arith}
 use borrow.Author.Needs.{needs}
-use lib.ListN.{getD, length-set}
+use lib.ListN.{length, getD, set, length-set}
 use lib.Seq.{getD-set-same}
 use Rattle.rows.specs.Known.{First}
-use Rattle.rows.proofs.First.{first-start, first-next, weigh, eight}
+use Rattle.rows.proofs.First.{first-start, first-next, first-few, first-fewer}
 use Rattle.rows.proofs.known.first_known.Statement.{statement}
 use Rattle.rows.proofs.known.first_known.Tie as tie
 
-abbrev Inv-loop : tie.InvT-loop
-Inv-loop row first₀ frame signals p₀ sets₀ first p sets =
-    (p ≤ signals) × (sets ≡ 2 ^ p) × First p (λ q. getD row (getD (frame .observations) q 0) 0 + 1) first
+-- from when on a proposition is known, also one behind the last signal
+abbrev known : tie.Start → ℕ → ℕ
+known z p = getD (z .args .row .now) (getD (z .args .frame .observations) p 0 % 16) 0 + 1
 
-abbrev μ-loop : tie.MeasureT-loop
-μ-loop row first₀ frame signals p₀ sets₀ first p sets = signals - p
+-- the table of no proposition, and of one, two and three; where each stands, the function's start
+started : (z : tie.Start) → First 0 (known z) (set (z .args .first .now) 0 32767)
+started z =
+    first-start _ _ (simp length-set (z .pre .3))
+    (getD-set-same (z .args .first .now) 0 32767 0 (omega (arith, z .pre .3)))
 
-observed : (c : tie.In-loop Inv-loop μ-loop) → getD (c .before .before .args .t2 .observations) (c .before .loop .p) 0 < 16
-observed c = c .before .before .pre .1 (c .before .loop .p) (c .loop-test .taken)
+abbrev start₁ : tie.After-double → tie.Start
+start₁ c = c .before .before .before .before
 
-few : (c : tie.In-loop Inv-loop μ-loop) → c .before .loop .sets ≤ 8
-few c =
-    let args = c .before .before .args in
-    let pre = c .before .before .pre in
-    rw (c .before .loop .inv .1) (eight (c .before .loop .p) (args .t2 .signals) (c .loop-test .taken) (pre .0))
+one : (c : tie.After-double) → First 1 (known (start₁ c)) (c .double .last .0)
+one c = first-next _ 1 (omega arith) (started (start₁ c)) refl (c .before .known-from .ensures) (c .double .ensures)
 
-element-write-first : tie.Need-element-write-first Inv-loop μ-loop
+abbrev start₂ : tie.After-double2 → tie.Start
+start₂ c = start₁ (c .before .before .before)
+
+two : (c : tie.After-double2) → First 2 (known (start₂ c)) (c .double2 .last .0)
+two c =
+    let l = c .before .before .before in
+    first-next _ 2 (omega arith) (one l) refl (c .before .known-from2 .ensures) (c .double2 .ensures)
+
+abbrev start₃ : tie.After-double3 → tie.Start
+start₃ c = start₂ (c .before .before .before .before)
+
+three : (c : tie.After-double3) → First 3 (known (start₃ c)) (c .double3 .last .0)
+three c =
+    let l = c .before .before .before .before in
+    first-next _ 4 (omega arith) (two l) refl (c .before .known-from3 .ensures) (c .double3 .ensures)
+
+-- what a doubling asks
+fit : (z : tie.Start) (k : ℕ) {v : ℕ} {first : List ℕ} → 2 ^ k ≤ 8 → First k (known z) first → v ≡ known z k
+    → (2 ^ k ≤ 8) × (length first ≡ 16) × (v ≤ 32767) × ((d : ℕ) → d < 2 ^ k → getD first d 0 ≤ 32767)
+fit z k l F e =
+    let low = z .pre .2 (getD (z .args .frame .observations) k 0 % 16) (omega arith) in
+    (l, F .sized, omega arith, first-few _ F)
+
+-- a table for at least the network's propositions
+ended : (z : tie.Start) (m : ℕ) {first : List ℕ} → First m (known z) first → z .args .frame .signals ≤ m → m ≤ 4
+    → let frame = z .args .frame in
+    First (frame .signals) (λ p. getD (z .args .row .now) (getD (frame .observations) p 0) 0 + 1) first
+ended z m F h l =
+    first-fewer (known z) _ (z .args .frame .signals) m F h l (λ p b.
+    let v = getD (z .args .frame .observations) p 0 in
+    let e : v % 16 ≡ v = omega (arith, z .pre .1 p b) in
+    ap (λ (u : ℕ). getD (z .args .row .now) u 0 + 1) e)
+
+element-write-first : tie.Need-element-write-first
 element-write-first c = search needs
 
-loop-holds : tie.Need-loop-holds Inv-loop μ-loop
-loop-holds c =
-    (omega arith, refl, first-start _ _ (simp length-set (c .pre .3)) (getD-set-same (c .args .first .now) 0 65535 0 (omega (arith, c .pre .3))))
+returns : tie.Need-returns
+returns c = ended (c .before) 0 (started (c .before)) (omega (arith, c .if1 .taken)) (omega arith)
 
-mul-u : tie.Need-mul-u Inv-loop μ-loop
-mul-u c = omega (arith, c .before .before .pre .0, c .loop-test .taken)
+known-from-requires : tie.Need-known-from-requires
+known-from-requires c κs = search needs
 
-element-copy-out-u : tie.Need-element-copy-out-u Inv-loop μ-loop
-element-copy-out-u c = omega (arith, c .before .before .pre .0, c .loop-test .taken)
+double-requires : tie.Need-double-requires
+double-requires c κs =
+    let z = c .before .before .before in
+    fit z 0 (omega arith) (started z) (c .known-from .ensures)
 
-mul-double : tie.Need-mul-double Inv-loop μ-loop
-mul-double c = omega (arith, observed (c .before .before))
+known-from-requires-2 : tie.Need-known-from-requires-2
+known-from-requires-2 c κs = search needs
 
-element-copy-out-double : tie.Need-element-copy-out-double Inv-loop μ-loop
-element-copy-out-double c = observed (c .before .before)
+double-requires-2 : tie.Need-double-requires-2
+double-requires-2 c κs =
+    let l = c .before .before in
+    fit (start₁ l) 1 (omega arith) (one l) (c .known-from2 .ensures)
 
-add-double : tie.Need-add-double Inv-loop μ-loop
-add-double c =
-    let pre = c .before .before .before .before .before .pre in
-    let args = c .before .before .before .before .before .args in
-    let loop = c .before .before .before .before .loop in
-    omega (arith, pre .2 (getD (args .t2 .observations) (loop .p) 0) (observed (c .before .before .before)))
+returns-2 : tie.Need-returns-2
+returns-2 c = ended (start₂ (c .before)) 2 (two (c .before)) (omega (arith, c .if2 .taken)) (omega arith)
 
-double-requires : tie.Need-double-requires Inv-loop μ-loop
-double-requires c κs = (few (c .before .before .before), c .before .before .before .before .loop .inv .2 .sized)
+known-from-requires-3 : tie.Need-known-from-requires-3
+known-from-requires-3 c κs = search needs
 
-mul-sets : tie.Need-mul-sets Inv-loop μ-loop
-mul-sets c = omega (arith, few (c .before .before .before .before))
+double-requires-3 : tie.Need-double-requires-3
+double-requires-3 c κs =
+    let l = c .before .before .before in
+    fit (start₂ l) 2 (omega arith) (two l) (c .known-from3 .ensures)
 
-add-p : tie.Need-add-p Inv-loop μ-loop
-add-p c =
-    let pre = c .before .before .before .before .before .before .pre in
-    let test = c .before .before .before .before .loop-test in
-    omega (arith, pre .0, test .taken)
+known-from-requires-4 : tie.Need-known-from-requires-4
+known-from-requires-4 c κs = search needs
 
-loop-less : tie.Need-loop-less Inv-loop μ-loop
-loop-less c = search needs
+double-requires-4 : tie.Need-double-requires-4
+double-requires-4 c κs =
+    let l = c .before .before in
+    fit (start₃ l) 3 (omega arith) (three l) (c .known-from4 .ensures)
 
-loop-again : tie.Need-loop-again Inv-loop μ-loop
-loop-again c =
-    let loop = c .before .before .before .before .before .loop in
-    let pre = c .before .before .before .before .before .before .pre in
-    let test = c .before .before .before .before .loop-test in
-    let p = loop .p in
-    let four : p < 4 = omega (arith, pre .0, test .taken) in (
-      omega (arith, test .taken),
-      weigh p (loop .sets) four (loop .inv .1),
-      first-next _ (loop .sets) four (loop .inv .2) (loop .inv .1) refl (c .double .ensures),
-    )
-
-returns : tie.Need-returns Inv-loop μ-loop
-returns c =
-    let e : c .before .loop .p ≡ c .before .before .args .t2 .signals = omega (arith, c .loop-test .left) in
-    rw e at (c .before .loop .inv .2)
+returns-3 : tie.Need-returns-3
+returns-3 c =
+    let l = c .before .before .before in
+    let four = first-next _ 8 (omega arith) (three l) refl (c .before .known-from4 .ensures) (c .double4 .ensures) in
+    ended (start₃ l) 4 four (start₃ l .pre .0) (omega arith)
 
 pub first-known-spec : {M : Type 1} → statement M
 first-known-spec =
     tie.close
     (tie.spec
-    Inv-loop
-    μ-loop
     element-write-first
-    loop-holds
-    mul-u
-    element-copy-out-u
-    mul-double
-    element-copy-out-double
-    add-double
+    returns
+    known-from-requires
     double-requires
-    mul-sets
-    add-p
-    loop-less
-    loop-again
-    returns)
+    known-from-requires-2
+    double-requires-2
+    returns-2
+    known-from-requires-3
+    double-requires-3
+    known-from-requires-4
+    double-requires-4
+    returns-3)

@@ -1,0 +1,147 @@
+// Counts of rounds, for the comparison and the bench: by the solver's run, which passes over rounds, and by plain rounds, one after
+// another. Proved safe and ending; what it answers is compared, not proved. (That the run counts as the definition does is proved of it.)
+//
+// An answer's lower four bytes are the rounds. Behind them stands the sum of the table, or all ones where there is none. A sheet that is
+// refused gets 0.
+ghost use mathlib.Core.Path.{_≡_};
+ghost use Prim.Native.Nat.{_+_, _*_, _≤_};
+ghost use lib.ListN.{length};
+ghost use Rattle.network.specs.WellFormed.{WellFormed};
+ghost use Rattle.rows.specs.Rows.{Times};
+ghost use Rattle.rounds.specs.Compiled.{Usable};
+use network::Network;
+use rounds::Outcome;
+use rows::Frame;
+use solver::Ended;
+
+// More rounds than any run makes.
+const BUDGET: u32 = 2580481;
+
+// Rounds, turns and the sum.
+struct Count {
+    rounds: u32,
+    turns: u32,
+    sum: u32,
+}
+
+// Where there is no table.
+const NONE: u32 = 4294967295;
+
+fn wide(x: u16) -> u32 {
+    x as u32
+}
+
+// The sum of the times, and of the sums on the way, so that exchanged times show.
+fn sum_of(t: &[u16; 256]) -> u32 {
+    let mut one: u32 = 0;
+    let mut two: u32 = 0;
+    let mut i: usize = 0;
+    while i < 256 {
+        one = std::num::wrapping_add_u32(one, wide(t[i]));
+        two = std::num::wrapping_add_u32(two, one);
+        i += 1;
+    }
+    two
+}
+
+fn by_leaps(frame: Frame, counts: &[usize; 16], lists: &[u16; 6144]) -> Count
+    requires { ⌜ Usable frame (now counts) (now lists) ⌝ }
+{
+    let mut a: [u16; 256] = [0; 256];
+    let ended = solver::run(&mut a, BUDGET, frame, counts, lists);
+    match ended {
+        Ended::Rests { rounds, turns } => Count {
+            rounds: rounds,
+            turns: turns,
+            sum: sum_of(&a),
+        },
+        Ended::Passes { rounds, turns } => Count {
+            rounds: rounds,
+            turns: turns,
+            sum: NONE,
+        },
+        Ended::Spent { rounds, turns } => Count {
+            rounds: rounds,
+            turns: turns,
+            sum: NONE,
+        },
+    }
+}
+
+fn by_rounds(frame: Frame, counts: &[usize; 16], lists: &[u16; 6144]) -> Count
+    requires { ⌜ Usable frame (now counts) (now lists) ⌝ }
+{
+    let cells = frame.scenarios * 16;
+    let mut a: [u16; 256] = [0; 256];
+    let mut b: [u16; 256] = [0; 256];
+    let mut rounds: u32 = 0;
+    while rounds < BUDGET {
+        rounds += 1;
+        match rounds::round(&a, &mut b, frame, counts, lists) {
+            Outcome::Passes => return Count {
+                rounds: rounds,
+                turns: rounds,
+                sum: NONE,
+            },
+            Outcome::Rests => return Count {
+                rounds: rounds,
+                turns: rounds,
+                sum: sum_of(&a),
+            },
+            Outcome::Rises => {}
+        }
+        moves::copy(&b, &mut a, cells);
+    }
+    Count {
+        rounds: rounds,
+        turns: rounds,
+        sum: NONE,
+    }
+}
+
+// Reads, compiles and runs, in one of the two ways.
+fn tally(sheet: &[u8], plain: bool) -> Count {
+    let reading = sheet::read(sheet);
+    let outcome = reading.outcome;
+    let network = reading.network;
+    match outcome {
+        sheet::Outcome::Refused(_) => Count {
+            rounds: 0,
+            turns: 0,
+            sum: 0,
+        },
+        sheet::Outcome::Accepted => {
+            let frame = rows::frame_of(network);
+            let mut counts: [usize; 16] = [0; 16];
+            let mut lists: [u16; 6144] = [0; 6144];
+            rounds::compile::list_constraints(network, frame, &mut counts, &mut lists);
+            if plain {
+                return by_rounds(frame, &counts, &lists);
+            }
+            by_leaps(frame, &counts, &lists)
+        }
+    }
+}
+
+fn pair(low: u32, high: u32) -> u64 {
+    low as u64 + 4294967296 * (high as u64)
+}
+
+#[no_mangle]
+pub extern "C" fn tally_leaping(sheet: &[u8]) -> u64 {
+    let t = tally(sheet, false);
+    pair(t.rounds, t.sum)
+}
+
+#[no_mangle]
+pub extern "C" fn tally_plain(sheet: &[u8]) -> u64 {
+    let t = tally(sheet, true);
+    pair(t.rounds, t.sum)
+}
+
+// How many rounds the leaping run made one by one.
+#[no_mangle]
+pub extern "C" fn tally_turns(sheet: &[u8]) -> u64 {
+    let t = tally(sheet, false);
+    t.turns as u64
+}
