@@ -1,7 +1,7 @@
-// Constraints as lists of difference bounds, one list for each scenario: how they are listed, and how a row of times is raised by them.
-// A bound asks that the time of its target is at least the time of its source and its weight, less 10,080. The lists are lent: counts
-// has how many bounds each scenario has, and lists has three numbers for each: target, source, weight; those of scenario s stand from
-// bound 128 s on.
+// Constraints as lists of difference bounds, one list for each scenario: how they are listed, and how a row of times
+// is raised by them. A bound asks that the time of its target is at least the time of its source and its weight, less
+// 10,080. The lists are lent: counts has how many bounds each scenario has, and lists has three numbers for each:
+// target, source, weight; those of scenario s stand from bound 128 s on.
 ghost use mathlib.Core.Path.{_≡_};
 ghost use Prim.Native.Nat.{ℕ, _+_, _-_, _*_, _≤_, _<_, max};
 ghost use lib.ListN.{length, getD};

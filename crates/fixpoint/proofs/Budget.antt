@@ -1,5 +1,5 @@
--- A run that ended by itself ends so with any greater budget; so every budget of more than the room is as good as any other.
--- Assumes nothing.
+-- A run that ended by itself ends so with any greater budget; so every budget of more than the room is as good as any
+-- other. Assumes nothing.
 use mathlib.Core.Path.{_≡_, refl, sym, _∙_, ap}
 use mathlib.Core.Logic.{inl, inr}
 use mathlib.Core.List.{List}

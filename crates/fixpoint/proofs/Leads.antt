@@ -1,5 +1,6 @@
--- Runs that go on behind rounds that end none of them. All that a rising step makes on the way lies below the last list, so that is
--- within the cap if the last is; and no round on the way is at rest if the step still raises behind the last. Assumes nothing.
+-- Runs that go on behind rounds that end none of them. All that a rising step makes on the way lies below the last
+-- list, so that is within the cap if the last is; and no round on the way is at rest if the step still raises behind
+-- the last. Assumes nothing.
 use mathlib.Core.Path.{_≡_, refl, sym, _∙_, ap}
 use mathlib.Core.Bool.{true, false}
 use mathlib.Core.List.{List}

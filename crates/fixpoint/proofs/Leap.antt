@@ -1,7 +1,8 @@
--- Rounds passed over at once. Where p rounds are seen to add d to t, and j times again (AtMost, AtLeast), j * p rounds lead to t moved on
--- j times by d. Where they are only seen to add at least e and at most d, the rounds from there on lie between those from the two far
--- lists: if the lower of these passes the cap in the round after one in which the upper does not, so does the run; the fastest entries
--- may then have a period that the others have not. Assumes nothing.
+-- Rounds passed over at once. Where p rounds are seen to add d to t, and j times again (AtMost, AtLeast), j * p
+-- rounds lead to t moved on j times by d. Where they are only seen to add at least e and at most d, the rounds from
+-- there on lie between those from the two far lists: if the lower of these passes the cap in the round after one in
+-- which the upper does not, so does the run; the fastest entries may then have a period that the others have not.
+-- Assumes nothing.
 use mathlib.Core.Path.{_≡_, sym, _∙_, ap}
 use mathlib.Core.Bool.{true, false}
 use mathlib.Core.List.{List}

@@ -1,7 +1,8 @@
--- What the tests of far lists tell of the lists between. Let c be an entry of rise l, and i ≤ j. The list after i moves lies at most
--- i * l above the one in which entries faster than c stand j leads ahead; of that one `faster` says that the step adds at most l at c,
--- and no difference grows, so from the list after i moves it adds at most l. And the list in which entries slower than c stand j lags
--- behind lies at most (j - i) * l above the one after i moves: by `slower` the step adds at least l there too. Assumes nothing.
+-- What the tests of far lists tell of the lists between. Let c be an entry of rise l, and i ≤ j. The list after i
+-- moves lies at most i * l above the one in which entries faster than c stand j leads ahead; of that one `faster`
+-- says that the step adds at most l at c, and no difference grows, so from the list after i moves it adds at most l.
+-- And the list in which entries slower than c stand j lags behind lies at most (j - i) * l above the one after i
+-- moves: by `slower` the step adds at least l there too. Assumes nothing.
 use mathlib.Core.Path.{_≡_, sym, _∙_}
 use mathlib.Core.List.{List}
 use Prim.Native.Nat.{ℕ, zero, suc, _+_, _-_, _*_, _≤_, _<_, min}

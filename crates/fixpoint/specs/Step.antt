@@ -11,8 +11,8 @@ pub record Rising (n : ℕ) (step : List ℕ → List ℕ) : Type 0 where
   pub inflationary : (t : List ℕ) → length t ≡ n → Below t (step t)
   pub monotone : (t u : List ℕ) → length t ≡ n → length u ≡ n → Below t u → Below (step t) (step u)
 
--- a step under which no difference grows: what is at most c above a list goes to what is at most c above its image. (With c = 0 it
--- keeps the order.)
+-- a step under which no difference grows: what is at most c above a list goes to what is at most c above its image.
+-- (With c = 0 it keeps the order.)
 pub record Nonexpansive (n : ℕ) (step : List ℕ → List ℕ) : Type 0 where
   pub sized : (t : List ℕ) → length t ≡ n → length (step t) ≡ n
   pub near : (c : ℕ) (t u : List ℕ) → length t ≡ n → length u ≡ n → Over c t u → Over c (step t) (step u)

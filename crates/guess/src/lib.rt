@@ -1,11 +1,12 @@
-// How periods are guessed. A guess is tested before it is used, so nothing is promised of it but that its numbers are small; what is
-// written here decides how soon and how often rounds are passed over, and nothing else.
+// How periods are guessed. A guess is tested before it is used, so nothing is promised of it but that its numbers are
+// small; what is written here decides how soon and how often rounds are passed over, and nothing else.
 ghost use mathlib.Core.Path.{_≡_};
 ghost use Prim.Native.Nat.{_≤_, _<_};
 ghost use lib.ListN.{length};
 
-// A round that raises as the marked one did ends a period. From round `from` on a round is marked, and another after `window` rounds in
-// which none was alike. What is to be done next: `keep` the table as the one that periods are counted from; `tries`, how often to try.
+// A round that raises as the marked one did ends a period. From round `from` on a round is marked, and another after
+// `window` rounds in which none was alike. What is to be done next: `keep` the table as the one that periods are
+// counted from; `tries`, how often to try.
 pub struct Watching {
     pub from: u32,
     pub window: u32,
@@ -102,8 +103,8 @@ fn doubled(window: u32, marked: bool) -> u32 {
     window
 }
 
-// The watch after a round from before to after: the last of so many turns, after which so many rounds are made, `age` of them since
-// the table was kept.
+// The watch after a round from before to after: the last of so many turns, after which so many rounds are made, `age`
+// of them since the table was kept.
 pub fn watch(
     w: Watching,
     turns: u32,
@@ -166,8 +167,8 @@ pub fn after_tries(w: Watching, turns: u32, made: u32) -> Watching {
     }
 }
 
-// The pace of the fastest times: the cell whose time is the latest is watched until it has risen as often as is wanted, or until the turn
-// `until`, when another is chosen; `period` is how many turns that took, or 0.
+// The pace of the fastest times: the cell whose time is the latest is watched until it has risen as often as is
+// wanted, or until the turn `until`, when another is chosen; `period` is how many turns that took, or 0.
 pub struct Pace {
     pub cell: usize,
     pub want: u32,
@@ -232,7 +233,8 @@ fn choose(want: u32, p: u32, turns: u32, after: &[u16; 256], cells: usize) -> Pa
     }
 }
 
-// The cell has risen as often as was wanted. A period that is long for the turns made is not told, and is watched again.
+// The cell has risen as often as was wanted. A period that is long for the turns made is not told, and is watched
+// again.
 fn tell(w: Pace, turns: u32, after: &[u16; 256], cells: usize) -> Pace
     requires { ⌜ cells ≤ 256 ⌝ }
     ensures { λ r. ⌜ r .cell < 256 ⌝ }
@@ -271,7 +273,8 @@ fn counted(w: Pace, rises: u32, start: u32) -> Pace
     }
 }
 
-// The pace after a round from before to after, the last of so many turns; `since` is the table after the cell's first rise.
+// The pace after a round from before to after, the last of so many turns; `since` is the table after the cell's first
+// rise.
 pub fn follow(
     w: Pace,
     turns: u32,
@@ -368,7 +371,8 @@ pub fn highest_below(d: &[u16; 256], limit: u16, cells: usize) -> u16
     r
 }
 
-// A rise and one more, if it is not 0: cells that have another period may rise once more in some p rounds than in others.
+// A rise and one more, if it is not 0: cells that have another period may rise once more in some p rounds than in
+// others.
 pub fn margin(m: u16) -> u16
     ensures { λ r. ⌜ r ≤ 10080 ⌝ }
 {

@@ -1,5 +1,5 @@
--- The tests of `at_most` and `at_least` are those of the definitions: at a level between by a table that is made for it, at the lowest and
--- the highest by tables that are there already. Assumes nothing.
+-- The tests of `at_most` and `at_least` are those of the definitions: at a level between by a table that is made for
+-- it, at the lowest and the highest by tables that are there already. Assumes nothing.
 use mathlib.Core.Path.{_≡_, refl, sym, _∙_, ap}
 use mathlib.Core.List.{List}
 use Prim.Native.Nat.{ℕ, _+_, _-_, _*_, _≤_, _<_, min}

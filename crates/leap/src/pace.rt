@@ -9,7 +9,8 @@ use crate::test;
 use rounds::Outcome;
 use rows::Frame;
 
-// In which round from `low` on a limit is passed, if none is passed in the rounds before it from `high`; 0 if that is not seen.
+// In which round from `low` on a limit is passed, if none is passed in the rounds before it from `high`; 0 if that is
+// not seen.
 fn closing(
     low: &mut [u16; 256],
     high: &mut [u16; 256],
@@ -50,8 +51,9 @@ fn total(j: u32, p: u32, q: u32) -> u32
     j * p + (p + q)
 }
 
-// After how many rounds from a on a limit is passed, if p rounds are seen to add at least e and at most d to a, and j times again, and the
-// rounds from the two far tables to pass a limit in the same round; 0 if that is not seen, or more than are left.
+// After how many rounds from a on a limit is passed, if p rounds are seen to add at least e and at most d to a, and j
+// times again, and the rounds from the two far tables to pass a limit in the same round; 0 if that is not seen, or
+// more than are left.
 fn passes_after(
     a: &[u16; 256],
     e: &[u16; 256],
@@ -97,7 +99,8 @@ fn passes_after(
     r
 }
 
-// The same, where p rounds are guessed to raise the fastest times of a as they rose since another table was theirs, and the others less.
+// The same, where p rounds are guessed to raise the fastest times of a as they rose since another table was theirs,
+// and the others less.
 fn finish(
     a: &[u16; 256],
     since: &[u16; 256],

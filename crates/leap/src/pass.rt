@@ -16,8 +16,8 @@ fn product(j: u32, p: u32) -> u32
     j * p
 }
 
-// j times p rounds at once, if they are seen to add d each time, stay within the limits and are no more than are left: how many. x is
-// what p rounds make of a, before and after.
+// j times p rounds at once, if they are seen to add d each time, stay within the limits and are no more than are
+// left: how many. x is what p rounds make of a, before and after.
 fn hop(
     a: &mut [u16; 256],
     x: &mut [u16; 256],
@@ -67,8 +67,8 @@ fn hop(
     made
 }
 
-// Takes a, from which p rounds lead to x, and x with it on by rounds that all raise within the limits: how many, of those that are left.
-// So many counts of moves are tried, each half the one before.
+// Takes a, from which p rounds lead to x, and x with it on by rounds that all raise within the limits: how many, of
+// those that are left. So many counts of moves are tried, each half the one before.
 fn pass_over(
     a: &mut [u16; 256],
     x: &mut [u16; 256],

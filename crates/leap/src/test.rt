@@ -1,4 +1,5 @@
-// Whether p rounds add the rises d to a table, and j times again, or at most, or at least d: by rounds from tables far on.
+// Whether p rounds add the rises d to a table, and j times again, or at most, or at least d: by rounds from tables
+// far on.
 ghost use mathlib.Core.Path.{_≡_};
 ghost use mathlib.Core.Bool.{true};
 ghost use Prim.Native.Nat.{ℕ, _+_, _*_, _≤_, _<_};
@@ -41,7 +42,8 @@ pub fn advance(
     true
 }
 
-// o becomes what p rounds make of t moved on j times by the part of d between lo and hi; whether each of them raises within the limits.
+// o becomes what p rounds make of t moved on j times by the part of d between lo and hi; whether each of them raises
+// within the limits.
 pub fn far(
     t: &[u16; 256],
     d: &[u16; 256],
@@ -94,8 +96,8 @@ fn at_level(
     moves::between(t, d, l, low, high, &o, frame.scenarios * 16)
 }
 
-// Whether cells that are faster than l, j leads ahead, do not raise a cell of rise l by more than l. At the lowest level the table so
-// moved on is t moved on by d, of which p rounds make o.
+// Whether cells that are faster than l, j leads ahead, do not raise a cell of rise l by more than l. At the lowest
+// level the table so moved on is t moved on by d, of which p rounds make o.
 fn faster_hold(
     t: &[u16; 256],
     d: &[u16; 256],
@@ -119,8 +121,8 @@ fn faster_hold(
     at_level(t, d, l, l, 10080, 0, l as u32, j, p, frame, counts, lists)
 }
 
-// Whether p rounds add at most d to t, and j times again, level by level. At the highest level no cell is faster, and p rounds make x
-// of t.
+// Whether p rounds add at most d to t, and j times again, level by level. At the highest level no cell is faster, and
+// p rounds make x of t.
 pub fn at_most(
     t: &[u16; 256],
     d: &[u16; 256],
@@ -152,8 +154,8 @@ pub fn at_most(
     }
 }
 
-// Whether cells that are slower than l, j lags behind, are not what raises a cell of rise l: it still goes l further than j moves. At
-// the lowest level there is nothing to raise.
+// Whether cells that are slower than l, j lags behind, are not what raises a cell of rise l: it still goes l further
+// than j moves. At the lowest level there is nothing to raise.
 fn slower_hold(
     t: &[u16; 256],
     d: &[u16; 256],
@@ -176,8 +178,8 @@ fn slower_hold(
     at_level(t, d, l, 0, l, low, 200000000, j, p, frame, counts, lists)
 }
 
-// Whether p rounds add at least d to t, and j times again, level by level. At the highest level the table so moved on is t moved on by
-// d, of which p rounds make o.
+// Whether p rounds add at least d to t, and j times again, level by level. At the highest level the table so moved on
+// is t moved on by d, of which p rounds make o.
 pub fn at_least(
     t: &[u16; 256],
     d: &[u16; 256],

@@ -1,5 +1,5 @@
-// Tables moved on: each time by j times a part of its rise. Rises stand in tables like times, and a level is one of their values. Nothing
-// here knows of rounds.
+// Tables moved on: each time by j times a part of its rise. Rises stand in tables like times, and a level is one of
+// their values. Nothing here knows of rounds.
 ghost use mathlib.Core.Path.{_≡_};
 ghost use mathlib.Core.Bool.{true};
 ghost use Prim.Native.Nat.{ℕ, _+_, _-_, _*_, _%_, _≤_, _<_, min};

@@ -1,5 +1,6 @@
--- The trial sheets of document 01 and what `table` prints for each: one table, which one theorem covers by computation. And the first of
--- them, played: what is due in it, in a table that fails and in one that is too short. Assumes nothing.
+-- The trial sheets of document 01 and what `table` prints for each: one table, which one theorem covers by
+-- computation. And the first of them, played: what is due in it, in a table that fails and in one that is too short.
+-- Assumes nothing.
 use mathlib.Core.Path.{_≡_, refl}
 use mathlib.Core.Bool.{Bool, true, false, _&&_}
 use mathlib.Core.List.{List, [], _∷_, _++_}

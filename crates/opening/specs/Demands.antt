@@ -1,5 +1,6 @@
--- The three demands, as statements about every sheet, table and lent buffer. They speak of the definitions that the calls' contracts
--- are equations with: `summary`, `judgement`, `solving` and `listed` (Calls), `benchJudgement` and `benchSolving` (Bench).
+-- The three demands, as statements about every sheet, table and lent buffer. They speak of the definitions that the
+-- calls' contracts are equations with: `summary`, `judgement`, `solving` and `listed` (Calls), `benchJudgement` and
+-- `benchSolving` (Bench).
 use mathlib.Core.Path.{_≡_}
 use mathlib.Core.Logic.{_↔_}
 use mathlib.Core.List.{List, _++_}
@@ -56,17 +57,18 @@ pub record Demands : Type 0 where
   pub breach-first : (sheet σ : List ℕ) (Γ : Network) (b : Breach) → Reads sheet Γ → verdict Γ σ ≡ Breached b → First Γ σ b
   -- point 3 and the hyperarcs agree
   pub agree : (sheet σ : List ℕ) (Γ : Network) → Reads sheet Γ → Dynamic Γ σ ↔ Hyperarcs Γ σ
-  -- demand 3: the run ends in "a good table in which each event, in each case, is no later than in any other good table"
+  -- demand 3: the run ends in "a good table in which each event, in each case, is no later than in any other good
+  -- table"
   pub least : (sheet : List ℕ) (Γ : Network) → Reads sheet Γ → solve Γ .end ≡ Rests → Least Γ (solve Γ .reached)
   -- or at none, "exactly when the sheet has no good table"
   pub none : (sheet : List ℕ) (Γ : Network) → Reads sheet Γ → (solve Γ .end ≡ Rests → ⊥) ↔ L.Inconsistent Γ
   -- of the judge's call: it passes a table for an accepted sheet exactly when it is a good table
   pub passes : (sheet t : List ℕ) (Γ : Network) → Reads sheet Γ → (judgement sheet t ≡ J.Judged Pass) ↔ Solution Γ t
-  -- demand 3, of the solver's call: "for every accepted sheet and lent table long enough, the program refuses with \"no table\" exactly
-  -- when the sheet has no good table"
+  -- demand 3, of the solver's call: "for every accepted sheet and lent table long enough, the program refuses with
+  -- \"no table\" exactly when the sheet has no good table"
   pub refused : (sheet m : List ℕ) (Γ : Network) → Reads sheet Γ → cells Γ ≤ length m
       → (solving sheet m .answer ≡ W.Refused (withoutLine Inconsistent)) ↔ L.Inconsistent Γ
-  -- "otherwise it writes a good table in which each event, in each case, is no later than in any other good table, and leaves everything
-  -- behind it unaltered"
+  -- "otherwise it writes a good table in which each event, in each case, is no later than in any other good table,
+  -- and leaves everything behind it unaltered"
   pub solved : (sheet m : List ℕ) (Γ : Network) → Reads sheet Γ → cells Γ ≤ length m → (L.Inconsistent Γ → ⊥)
       → (σ : List ℕ) × Least Γ σ × (solving sheet m .answer ≡ W.Count (cells Γ)) × (solving sheet m .memory ≡ σ ++ drop (cells Γ) m)

@@ -1,6 +1,7 @@
--- In reading order: what the hyperarcs ask agrees with point 3; what the constraints ask agrees with point 2; the round is a rising
--- step, under which no difference grows. Then the laws that the code's proofs cite: scenarios that differ; constraints as lists of
--- bounds; a row raised is the definition's; how a round goes on and ends, and what it says of a run.
+-- In reading order: what the hyperarcs ask agrees with point 3; what the constraints ask agrees with point 2; the
+-- round is a rising step, under which no difference grows. Then the laws that the code's proofs cite: scenarios that
+-- differ; constraints as lists of bounds; a row raised is the definition's; how a round goes on and ends, and what it
+-- says of a run.
 pub mod Hyperarcs
 pub mod Bounds
 pub mod Rising

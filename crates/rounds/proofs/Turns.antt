@@ -1,5 +1,5 @@
--- What a round's outcome says of a run that comes to its table: one that rises leads on, one that passes or rests ends the run.
--- Assumes nothing.
+-- What a round's outcome says of a run that comes to its table: one that rises leads on, one that passes or rests
+-- ends the run. Assumes nothing.
 use mathlib.Core.Path.{_≡_, refl, sym, _∙_}
 use mathlib.Core.Bool.{Bool, true, false}
 use mathlib.Core.List.{List}

@@ -1,4 +1,5 @@
--- Tables as the rounds keep them: a row of sixteen times for each scenario, of which the first n are those of the n events.
+-- Tables as the rounds keep them: a row of sixteen times for each scenario, of which the first n are those of the n
+-- events.
 use mathlib.Core.Path.{_≡_}
 use mathlib.Core.Logic.{_⊎_}
 use mathlib.Core.List.{List}

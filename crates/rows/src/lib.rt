@@ -1,4 +1,5 @@
-// What rounds keep besides bounds: the frame of a network, and tables in rows of sixteen times, one row for each scenario.
+// What rounds keep besides bounds: the frame of a network, and tables in rows of sixteen times, one row for each
+// scenario.
 ghost use mathlib.Core.Path.{_≡_};
 ghost use mathlib.Core.List.{_++_};
 ghost use Prim.Native.Nat.{ℕ, _+_, _-_, _*_, _≤_, _<_, max, min};

@@ -1,5 +1,5 @@
--- Demand 3 on the definitions: the solutions are the prefixpoints of the round within the cap, so a run from all zeros rests at the
--- least solution, and where it does not rest there is none. Assumes nothing.
+-- Demand 3 on the definitions: the solutions are the prefixpoints of the round within the cap, so a run from all
+-- zeros rests at the least solution, and where it does not rest there is none. Assumes nothing.
 use mathlib.Core.Path.{_≡_, sym, _∙_}
 use mathlib.Core.Bool.{true, cond}
 use mathlib.Core.List.{List}

@@ -1,5 +1,5 @@
--- What the loop of `run` keeps, and where it ends: the run from t comes to u after k rounds, and ends there as u's next rounds say.
--- Assumes nothing.
+-- What the loop of `run` keeps, and where it ends: the run from t comes to u after k rounds, and ends there as u's
+-- next rounds say. Assumes nothing.
 use mathlib.Core.Path.{_≡_, refl, sym, _∙_}
 use mathlib.Core.Logic.{inl, inr, ⊎-elim}
 use mathlib.Core.List.{List}

@@ -18,7 +18,8 @@ endedBy Rests k turns = ended.Rests k turns
 endedBy Passes k turns = ended.Passes k turns
 endedBy Spent k turns = ended.Spent k turns
 
--- how the run ended and after how many rounds; and what it reached, where no limit is passed. Of the turns nothing is said.
+-- how the run ended and after how many rounds; and what it reached, where no limit is passed. Of the turns nothing is
+-- said.
 pub record RunIs (Γ : Network) (budget : ℕ) (entry exit : List ℕ) (r : Ended) : Type 0 where
   pub run : Run
   pub run-is : run ≡ runFrom (propagate Γ) (cap Γ) 0 budget (held Γ entry)

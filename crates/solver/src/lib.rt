@@ -1,5 +1,6 @@
-// The least solution of a network by value iteration, or that there is none (004, Theorem 1). Rounds go on from a table until one raises
-// nothing or passes a limit, or the budget is used up; where they are seen to repeat, some are passed over at once (docs/LEAP.md).
+// The least solution of a network by value iteration, or that there is none (004, Theorem 1). Rounds go on from a
+// table until one raises nothing or passes a limit, or the budget is used up; where they are seen to repeat, some are
+// passed over at once (docs/LEAP.md).
 ghost use mathlib.Core.Path.{_≡_};
 ghost use Prim.Native.Nat.{_*_, _≤_};
 ghost use lib.ListN.{length};
@@ -21,8 +22,8 @@ pub enum Solved {
     Inconsistent { rounds: u32 },
 }
 
-// How a run ended, and after how many rounds: the last raised nothing; it took a time over its limit; the budget is used up. A turn makes
-// one round, and may pass over others.
+// How a run ended, and after how many rounds: the last raised nothing; it took a time over its limit; the budget is
+// used up. A turn makes one round, and may pass over others.
 pub enum Ended {
     Rests { rounds: u32, turns: u32 },
     Passes { rounds: u32, turns: u32 },
@@ -36,7 +37,8 @@ fn cells_of(frame: Frame) -> usize
     frame.scenarios * 16
 }
 
-// The table that periods are counted from, and in which round it was reached: where it is to be kept anew, a, reached here.
+// The table that periods are counted from, and in which round it was reached: where it is to be kept anew, a, reached
+// here.
 fn keep(anew: bool, a: &[u16; 256], base: &mut [u16; 256], at: u32, here: u32, cells: usize) -> u32
     requires { ⌜ (cells ≤ 256) × (length (now base) ≡ 256) ⌝ }
     ensures { λ r. ⌜ Kept (now (a .entry)) (now (base .entry)) (now (base .exit)) cells at here r ⌝ }
@@ -118,8 +120,8 @@ pub fn run(
     }
 }
 
-// The least solution into the first cells of the table, or that there is none; the count of rounds either way. The budget is one more than
-// 256 cells have room for.
+// The least solution into the first cells of the table, or that there is none; the count of rounds either way. The
+// budget is one more than 256 cells have room for.
 pub fn solve(network: Network, table: &mut [u16]) -> Solved
     requires { ⌜ WellFormed network × (cells network ≤ length (now table)) ⌝ }
     ensures { λ r. ⌜ SolvedIs network (now (table .entry)) (now (table .exit)) r ⌝ }

@@ -1,8 +1,9 @@
-// Counts of rounds, for the comparison and the bench: by the solver's run, which passes over rounds, and by plain rounds, one after
-// another. Proved safe and ending; what it answers is compared, not proved. (That the run counts as the definition does is proved of it.)
+// Counts of rounds, for the comparison and the bench: by the solver's run, which passes over rounds, and by plain
+// rounds, one after another. Proved safe and ending; what it answers is compared, not proved. (That the run counts as
+// the definition does is proved of it.)
 //
-// An answer's lower four bytes are the rounds. Behind them stands the sum of the table, or all ones where there is none. A sheet that is
-// refused gets 0.
+// An answer's lower four bytes are the rounds. Behind them stands the sum of the table, or all ones where there is
+// none. A sheet that is refused gets 0.
 ghost use mathlib.Core.Path.{_≡_};
 ghost use Prim.Native.Nat.{_+_, _*_, _≤_};
 ghost use lib.ListN.{length};

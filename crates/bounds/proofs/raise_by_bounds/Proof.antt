@@ -1,4 +1,5 @@
--- Each turn raises the target of one bound. The invariant: the row is raised as far as the first j bounds ask. Assumes nothing.
+-- Each turn raises the target of one bound. The invariant: the row is raised as far as the first j bounds ask.
+-- Assumes nothing.
 use mathlib.Core.Path.{_≡_}
 use Prim.Native.Nat.{ℕ, _+_, _-_, _*_, _≤_, _<_, max}
 use native.Mathlib.Omega.{arith}

@@ -1,4 +1,5 @@
--- `alike` is safe: each turn reads one cell below `cells` of each table. The invariant: i is at most `cells`. Assumes nothing.
+-- `alike` is safe: each turn reads one cell below `cells` of each table. The invariant: i is at most `cells`. Assumes
+-- nothing.
 use Prim.Native.Nat.{_-_, _≤_}
 use borrow.Author.Needs.{needs}
 use Rattle.guess.proofs.alike.Statement.{statement}

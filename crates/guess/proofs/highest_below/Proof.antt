@@ -1,4 +1,5 @@
--- `highest_below` is safe: each turn reads one cell below `cells`. The invariant: i is at most `cells`. Assumes nothing.
+-- `highest_below` is safe: each turn reads one cell below `cells`. The invariant: i is at most `cells`. Assumes
+-- nothing.
 use Prim.Native.Nat.{_-_, _≤_}
 use borrow.Author.Needs.{needs}
 use Rattle.guess.proofs.highest_below.Statement.{statement}

@@ -1,5 +1,5 @@
--- `latest` answers 0 or a cell below `cells`, by `later_of`. The invariant: i is at most `cells`, and the answer so far is below 256.
--- Assumes nothing.
+-- `latest` answers 0 or a cell below `cells`, by `later_of`. The invariant: i is at most `cells`, and the answer so
+-- far is below 256. Assumes nothing.
 use Prim.Native.Nat.{_-_, _≤_, _<_}
 use borrow.Author.Needs.{needs}
 use Rattle.guess.proofs.latest.Statement.{statement}

@@ -1,5 +1,5 @@
--- `most` starts with what `affordable` answers, and `fewer` never answers more than it is given. The invariant: i is at most `cells`, and
--- j at most 10,080. Assumes nothing.
+-- `most` starts with what `affordable` answers, and `fewer` never answers more than it is given. The invariant: i is
+-- at most `cells`, and j at most 10,080. Assumes nothing.
 use Prim.Native.Nat.{_-_, _≤_}
 use borrow.Author.Needs.{needs}
 use Rattle.guess.proofs.most.Statement.{statement}

@@ -1,5 +1,5 @@
--- `remember` keeps the table's length: each turn writes one cell below `cells`. The invariant: i is at most `cells`, and the table has 256 cells.
--- Assumes nothing.
+-- `remember` keeps the table's length: each turn writes one cell below `cells`. The invariant: i is at most `cells`,
+-- and the table has 256 cells. Assumes nothing.
 use mathlib.Core.Path.{_≡_}
 use Prim.Native.Nat.{_-_, _≤_}
 use borrow.Author.Needs.{needs}

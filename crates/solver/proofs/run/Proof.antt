@@ -1,6 +1,7 @@
--- `run` meets its contract: its loop is underway from the floor, by one round a turn and those that are passed over, and it ends where a
--- round or the law of the two far tables says. The invariant: at most `budget` rounds lead from the table at entry to a, by way of the
--- one that is kept. The measure is what is left of the budget. Assumes nothing.
+-- `run` meets its contract: its loop is underway from the floor, by one round a turn and those that are passed over,
+-- and it ends where a round or the law of the two far tables says. The invariant: at most `budget` rounds lead from
+-- the table at entry to a, by way of the one that is kept. The measure is what is left of the budget. Assumes
+-- nothing.
 use mathlib.Core.Path.{_≡_, refl}
 use Prim.Native.Nat.{_+_, _*_, _-_, _≤_, _<_}
 use native.Mathlib.Omega.{arith}

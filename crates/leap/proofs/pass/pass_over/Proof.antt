@@ -1,5 +1,5 @@
--- `pass_over` meets its contract. The invariant: so many rounds, of those that are left, lead from a at entry to a, and p from a to x. The
--- measure is what is left of the tries. Assumes nothing.
+-- `pass_over` meets its contract. The invariant: so many rounds, of those that are left, lead from a at entry to a,
+-- and p from a to x. The measure is what is left of the tries. Assumes nothing.
 use mathlib.Core.Path.{_≡_, refl}
 use Prim.Native.Nat.{_+_, _*_, _-_, _≤_}
 use native.Mathlib.Omega.{arith}

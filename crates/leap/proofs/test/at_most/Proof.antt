@@ -1,5 +1,5 @@
--- `at_most` meets its contract. The invariant: every cell of a level below l is known not to be raised by faster ones. The next level is
--- higher, and none is above 10,080: what is left below that is the measure. Assumes nothing.
+-- `at_most` meets its contract. The invariant: every cell of a level below l is known not to be raised by faster
+-- ones. The next level is higher, and none is above 10,080: what is left below that is the measure. Assumes nothing.
 use mathlib.Core.Path.{_≡_, refl}
 use mathlib.Core.Bool.{false}
 use Prim.Native.Nat.{_*_, _-_, _≤_, _<_}

@@ -1,4 +1,5 @@
--- `faster_hold` meets its contract: at the lowest level by the table that is there, at another by one that is made. Assumes nothing.
+-- `faster_hold` meets its contract: at the lowest level by the table that is there, at another by one that is made.
+-- Assumes nothing.
 use mathlib.Core.Path.{_≡_}
 use Prim.Native.Nat.{_*_, _≤_}
 use native.Mathlib.Omega.{arith}

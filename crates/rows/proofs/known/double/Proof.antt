@@ -1,4 +1,5 @@
--- Each turn adds the proposition to one set more. The invariant: it is added to the first d (`Doubled`). Assumes nothing.
+-- Each turn adds the proposition to one set more. The invariant: it is added to the first d (`Doubled`). Assumes
+-- nothing.
 use mathlib.Core.Path.{_≡_, refl}
 use Prim.Native.Nat.{_-_}
 use native.Mathlib.Omega.{arith}
