@@ -5,8 +5,8 @@ use Prim.Native.Nat.{ℕ, zero, suc, _+_, _*_}
 use native.Mathlib.Nat.{add-zero, add-suc, zero-mul, suc-mul}
 use native.Mathlib.Omega.{arith}
 use lib.ListN.{length}
-use Rattle.fixpoint.specs.Order.{Below, Over}
-use Rattle.fixpoint.specs.Step.{Nonexpansive, iterate}
+use Rattle.fixpoint.specs.Order.{Below}
+use Rattle.fixpoint.specs.Near.{Over, Nonexpansive, iterate}
 
 module _ (step : List ℕ → List ℕ) where
   pub iterate-add : (a b : ℕ) (t : List ℕ) → iterate (a + b) step t ≡ iterate b step (iterate a step t)
@@ -23,16 +23,19 @@ module _ (step : List ℕ → List ℕ) where
   iterate-mul zero p t = rw zero-mul
   iterate-mul (suc j) p t = rw suc-mul (iterate-add (j * p) p t ∙ ap (iterate p step) (iterate-mul j p t))
 
-  pub iterate-sized : (n : ℕ) → ((t : List ℕ) → length t ≡ n → length (step t) ≡ n) → (k : ℕ) (t : List ℕ) → length t ≡ n
+  pub iterate-sized : (n : ℕ) → ((t : List ℕ) → length t ≡ n → length (step t) ≡ n) → (k : ℕ) (t : List ℕ)
+      → length t ≡ n
       → length (iterate k step t) ≡ n
   iterate-sized n f zero t l = l
   iterate-sized n f (suc k) t l = f (iterate k step t) (iterate-sized n f k t l)
 
 module _ (n : ℕ) (step : List ℕ → List ℕ) (N : Nonexpansive n step) where
-  iterate-near : (k c : ℕ) (t u : List ℕ) → length t ≡ n → length u ≡ n → Over c t u → Over c (iterate k step t) (iterate k step u)
+  iterate-near : (k c : ℕ) (t u : List ℕ) → length t ≡ n → length u ≡ n → Over c t u
+      → Over c (iterate k step t) (iterate k step u)
   iterate-near zero c t u l m o = o
   iterate-near (suc k) c t u l m o =
-      N .near c (iterate k step t) (iterate k step u) (iterate-sized step n (N .sized) k t l) (iterate-sized step n (N .sized) k u m)
+      N .near c (iterate k step t) (iterate k step u) (iterate-sized step n (N .sized) k t l)
+      (iterate-sized step n (N .sized) k u m)
       (iterate-near k c t u l m o)
 
   -- no difference grows under its iterates either

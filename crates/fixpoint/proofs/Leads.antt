@@ -13,7 +13,8 @@ use Rattle.prelude.specs.Bytes.{same}
 use Rattle.prelude.proofs.Bytes.{same-true}
 use Rattle.prelude.proofs.Tests.{false-of-not-true}
 use Rattle.fixpoint.specs.Order.{Below}
-use Rattle.fixpoint.specs.Step.{Rising, iterate}
+use Rattle.fixpoint.specs.Step.{Rising}
+use Rattle.fixpoint.specs.Near.{iterate}
 use Rattle.fixpoint.specs.Run.{within, runFrom}
 use Rattle.fixpoint.specs.Leads.{Leads}
 use Rattle.fixpoint.proofs.Order.{below-refl, below-trans}
@@ -57,7 +58,8 @@ module _ (step : List ℕ → List ℕ) (cap : List ℕ) where
       rises = λ i h. rw (iterate-first step (suc i) t, iterate-first step i t) at (o .rises (suc i) (omega arith));
     }
 
-    run-onward : (m k n : ℕ) (t : List ℕ) → Onward m t → runFrom step cap k (m + n) t ≡ runFrom step cap (k + m) n (iterate m step t)
+    run-onward : (m k n : ℕ) (t : List ℕ) → Onward m t
+        → runFrom step cap k (m + n) t ≡ runFrom step cap (k + m) n (iterate m step t)
     run-onward zero k n t o = rw (zero-add, add-zero)
     run-onward (suc m) k n t o =
         let first = more-turn step cap R k (m + n) t (o .within-cap 0 (omega arith)) (o .rises 0 (omega arith)) in
@@ -71,7 +73,8 @@ module _ (step : List ℕ → List ℕ) (cap : List ℕ) where
       later i zero = rw add-zero (below-refl (iterate i step t))
       later i (suc k) =
           rw add-suc
-          (below-trans (later i k) (R .inflationary (iterate (i + k) step t) (iterate-sized step (length cap) (R .sized) (i + k) t l)))
+          (below-trans (later i k)
+          (R .inflationary (iterate (i + k) step t) (iterate-sized step (length cap) (R .sized) (i + k) t l)))
 
       -- what is at rest stays
       resting : (i k : ℕ) → step (iterate i step t) ≡ iterate i step t → iterate (i + k) step t ≡ iterate i step t

@@ -12,7 +12,8 @@ use native.Mathlib.Omega.{arith}
 use lib.ListN.{length, getD}
 use Rattle.prelude.proofs.Tests.{false-of-not-true, clash}
 use Rattle.fixpoint.specs.Order.{Below}
-use Rattle.fixpoint.specs.Step.{Rising, Nonexpansive, iterate}
+use Rattle.fixpoint.specs.Step.{Rising}
+use Rattle.fixpoint.specs.Near.{Nonexpansive, iterate}
 use Rattle.fixpoint.specs.Run.{within}
 use Rattle.fixpoint.specs.Straight.{moved, AtMost, AtLeast}
 use Rattle.fixpoint.specs.Leads.{Leads, PassesIn}
@@ -23,7 +24,8 @@ use Rattle.fixpoint.proofs.Straight.{straight}
 use Rattle.fixpoint.proofs.Leads.{leads-on}
 use Rattle.fixpoint.proofs.Run.{pass-turn}
 
-module _ (step : List ℕ → List ℕ) (cap : List ℕ) (R : Rising (length cap) step) (N : Nonexpansive (length cap) step) (t : List ℕ)
+module _ (step : List ℕ → List ℕ) (cap : List ℕ) (R : Rising (length cap) step) (N : Nonexpansive (length cap) step)
+    (t : List ℕ)
     (l : length t ≡ length cap) where
   module _ (d : List ℕ) (p j : ℕ) (M : AtMost (iterate p step) t d j) (L : AtLeast (iterate p step) t d j) where
     abbrev far : ℕ → List ℕ
@@ -36,13 +38,20 @@ module _ (step : List ℕ → List ℕ) (cap : List ℕ) (R : Rising (length cap
         ∙ straight (length cap) (iterate p step) (iterate-nonexpansive (length cap) step N p) t d l j M L i h
 
     -- THE LEAP, where the far list is within the cap and some entry rises
-    pub leads-leap : within cap (far j) ≡ true → (c : ℕ) → c < length t → 0 < getD d c 0 → Leads step cap (j * p) t (far j)
+    pub leads-leap : within cap (far j) ≡ true → (c : ℕ) → c < length t → 0 < getD d c 0
+        → Leads step cap (j * p) t (far j)
     leads-leap w c b up =
         let here = leap-iterate j (omega arith) in
         let more : iterate (j * p + p) step t ≡ far (suc j) = rw suc-mul at (leap-iterate (suc j) (omega arith)) in
         let led = leads-on step cap R t l (j * p) p (rw here w) (λ e.
         let z = ap (λ (s : List ℕ). getD s c 0) (sym more ∙ e ∙ here) in
-        omega (arith, moved-at t j (λ k. getD d k 0) c b, moved-at t (suc j) (λ k. getD d k 0) c b, suc-mul j (getD d c 0))) in
+        omega (
+          arith,
+          moved-at t j (λ k. getD d k 0) c b,
+          moved-at t (suc j) (λ k. getD d k 0) c b,
+          suc-mul j
+              (getD d c 0),
+        )) in
         rw here at led
 
   module _ (low high : List ℕ) (a : length low ≡ length cap) (b : length high ≡ length cap) (m q : ℕ)
@@ -55,7 +64,8 @@ module _ (step : List ℕ → List ℕ) (cap : List ℕ) (R : Rising (length cap
     unfolding reached
     reached-sized = iterate-sized step (length cap) (R .sized) m t l
 
-    ordered : (k : ℕ) (u v : List ℕ) → length u ≡ length cap → length v ≡ length cap → Below u v → Below (iterate k step u) (iterate k step v)
+    ordered : (k : ℕ) (u v : List ℕ) → length u ≡ length cap → length v ≡ length cap → Below u v
+        → Below (iterate k step u) (iterate k step v)
     ordered k = near-monotone (length cap) (iterate k step) (iterate-nonexpansive (length cap) step N k)
 
     before-last : within cap (iterate (m + q) step t) ≡ true
@@ -77,7 +87,8 @@ module _ (step : List ℕ → List ℕ) (cap : List ℕ) (R : Rising (length cap
     pub passes-between : PassesIn step cap (m + suc q) t
     passes-between =
         let last : within cap (step (iterate (m + q) step t)) ≡ false = rw add-suc at at-last in
-        let led : Leads step cap (m + q) t (iterate (m + q) step t) = leads-on step cap R t l (m + q) 1 before-last (λ e.
+        let led : Leads step cap (m + q) t (iterate (m + q) step t) = leads-on step cap R t l (m + q) 1 before-last
+        (λ e.
         let one : m + q + 1 ≡ m + suc q = omega arith in
         clash (within cap (iterate (m + q) step t)) before-last (rw (← e, one) at-last)) in
         record {
@@ -85,5 +96,6 @@ module _ (step : List ℕ → List ℕ) (cap : List ℕ) (R : Rising (length cap
           on = λ k n.
               let budget : m + suc q + n ≡ m + q + suc n = omega arith in
               let count : k + (m + suc q) ≡ suc (k + (m + q)) = omega arith in
-              rw (budget, count) (led .on k (suc n) ∙ pass-turn step cap R (k + (m + q)) n (iterate (m + q) step t) last);
+              let passes = pass-turn step cap R (k + (m + q)) n (iterate (m + q) step t) last in
+              rw (budget, count) (led .on k (suc n) ∙ passes);
         }

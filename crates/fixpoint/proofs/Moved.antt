@@ -7,7 +7,7 @@ use native.Mathlib.Omega.{arith}
 use lib.ListN.{length, getD}
 use lib.Seq.{ext-getD}
 use Rattle.prelude.proofs.Bounded.{length-tabulate, getD-tabulate}
-use Rattle.fixpoint.specs.Order.{Over}
+use Rattle.fixpoint.specs.Near.{Over}
 use Rattle.fixpoint.specs.Straight.{moved}
 use Rattle.fixpoint.proofs.Order.{over-by}
 
@@ -36,7 +36,8 @@ moved-still t j f h =
     omega (arith, moved-at t j f i b′))
 
 -- one moved list above another
-pub over-moved : (c : ℕ) (t : List ℕ) (i j : ℕ) (f g : ℕ → ℕ) → ((k : ℕ) → i * f k ≤ j * g k + c) → Over c (moved t j g) (moved t i f)
+pub over-moved : (c : ℕ) (t : List ℕ) (i j : ℕ) (f g : ℕ → ℕ) → ((k : ℕ) → i * f k ≤ j * g k + c)
+    → Over c (moved t j g) (moved t i f)
 over-moved c t i j f g h =
     over-by (length t) c (moved t j g) (moved t i f) (length-moved t i f)
     (λ k b. omega (arith, moved-at t i f k b, moved-at t j g k b, h k))

@@ -8,7 +8,8 @@ use native.Mathlib.Omega.{arith}
 use lib.ListN.{length, getD, replicate, length-replicate, getD-replicate, List·getD-eq-default}
 use lib.Seq.{ext-getD}
 use Rattle.prelude.proofs.Tests.{lt-or-ge}
-use Rattle.fixpoint.specs.Order.{Below, Over}
+use Rattle.fixpoint.specs.Order.{Below}
+use Rattle.fixpoint.specs.Near.{Over}
 
 pub below-refl : (t : List ℕ) → Below t t
 below-refl t = record { at = λ i. omega arith }

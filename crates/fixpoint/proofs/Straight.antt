@@ -10,7 +10,7 @@ use native.Mathlib.Nat.{add-mul, suc-mul, zero-mul}
 use native.Mathlib.Omega.{arith}
 use lib.ListN.{length, getD}
 use Rattle.fixpoint.specs.Order.{Below}
-use Rattle.fixpoint.specs.Step.{Nonexpansive, iterate}
+use Rattle.fixpoint.specs.Near.{Nonexpansive, iterate}
 use Rattle.fixpoint.specs.Straight.{moved, AtMost, AtLeast}
 use Rattle.fixpoint.proofs.Order.{below-by, below-trans, below-antisymm}
 use Rattle.fixpoint.proofs.Iterate.{iterate-sized, near-monotone}
@@ -47,7 +47,8 @@ module _ (n : ℕ) (step : List ℕ → List ℕ) (N : Nonexpansive n step) (t d
     pub at-most : (i : ℕ) → i ≤ suc j → Below (iterate i step t) (on i)
     at-most zero h = below-by n t (on 0) l (λ c b. omega (arith, at-start c (omega arith)))
     at-most (suc i) h =
-        below-trans (near-monotone n step N (iterate i step t) (on i) (iterated-sized i) (on-sized i) (at-most i (omega arith)))
+        below-trans (near-monotone n step N (iterate i step t) (on i) (iterated-sized i) (on-sized i)
+        (at-most i (omega arith)))
         (step-at-most i (omega arith))
 
   module _ (S : AtLeast step t d j) where

@@ -1,9 +1,9 @@
 -- Steps on lists of n numbers.
 use mathlib.Core.Path.{_≡_}
 use mathlib.Core.List.{List}
-use Prim.Native.Nat.{ℕ, zero, suc}
+use Prim.Native.Nat.{ℕ}
 use lib.ListN.{length}
-use Rattle.fixpoint.specs.Order.{Below, Over}
+use Rattle.fixpoint.specs.Order.{Below}
 
 -- a step that keeps the length, lowers nothing and keeps the order
 pub record Rising (n : ℕ) (step : List ℕ → List ℕ) : Type 0 where
@@ -11,19 +11,8 @@ pub record Rising (n : ℕ) (step : List ℕ → List ℕ) : Type 0 where
   pub inflationary : (t : List ℕ) → length t ≡ n → Below t (step t)
   pub monotone : (t u : List ℕ) → length t ≡ n → length u ≡ n → Below t u → Below (step t) (step u)
 
--- a step under which no difference grows: what is at most c above a list goes to what is at most c above its image.
--- (With c = 0 it keeps the order.)
-pub record Nonexpansive (n : ℕ) (step : List ℕ → List ℕ) : Type 0 where
-  pub sized : (t : List ℕ) → length t ≡ n → length (step t) ≡ n
-  pub near : (c : ℕ) (t u : List ℕ) → length t ≡ n → length u ≡ n → Over c t u → Over c (step t) (step u)
-
 -- a list of n numbers, none below the floor's, of which the step asks no raise
 pub record Prefixpoint (step : List ℕ → List ℕ) (floor t : List ℕ) : Type 0 where
   pub sized : length t ≡ length floor
   pub above : Below floor t
   pub closed : Below (step t) t
-
--- a step k times
-abbrev pub iterate : ℕ → (List ℕ → List ℕ) → List ℕ → List ℕ
-iterate zero step t = t
-iterate (suc k) step t = step (iterate k step t)

@@ -38,12 +38,14 @@ cond-limit true x h z l = omega (arith, z refl)
 cond-limit false x h z l = l
 
 module _ (Γ : Network) (few : Γ .events ≤ 16) where
-  pub held-at : (t : List ℕ) (s u : ℕ) → s < scenarios Γ → u < Γ .events → getD (held Γ t) (s * Γ .events + u) 0 ≡ getD t (s * 16 + u) 0
+  pub held-at : (t : List ℕ) (s u : ℕ) → s < scenarios Γ → u < Γ .events
+      → getD (held Γ t) (s * Γ .events + u) 0 ≡ getD t (s * 16 + u) 0
   held-at t s u hs hu = packed-at (Γ .events) (scenarios Γ) t s u hs hu
 
   -- a strategy is what its cells are
   pub held-by : (t xs : List ℕ) → length xs ≡ cells Γ
-      → ((s u : ℕ) → s < scenarios Γ → u < Γ .events → getD t (s * 16 + u) 0 ≡ getD xs (s * Γ .events + u) 0) → held Γ t ≡ xs
+      → ((s u : ℕ) → s < scenarios Γ → u < Γ .events → getD t (s * 16 + u) 0 ≡ getD xs (s * Γ .events + u) 0)
+      → held Γ t ≡ xs
   held-by t xs l h =
       let n = length-packed (Γ .events) (scenarios Γ) t in
       ext-getD 0 (held Γ t) xs (n ∙ sym l) (λ i b.
@@ -51,13 +53,15 @@ module _ (Γ : Network) (few : Γ .events ≤ 16) where
       (λ s u hs hu. held-at t s u hs hu ∙ h s u hs hu) i (omega (arith, n)))
 
   -- what bounds each cell bounds each time
-  pub held-low : (d : List ℕ) (l : ℕ) → ((i : ℕ) → i < scenarios Γ * 16 → getD d i 0 ≤ l) → (i : ℕ) → i < Γ .events * scenarios Γ
+  pub held-low : (d : List ℕ) (l : ℕ) → ((i : ℕ) → i < scenarios Γ * 16 → getD d i 0 ≤ l) → (i : ℕ)
+      → i < Γ .events * scenarios Γ
       → getD (held Γ d) i 0 ≤ l
   held-low d l h i b =
       by-cell (Γ .events) (scenarios Γ) (λ i. getD (held Γ d) i 0 ≤ l)
       (λ s u hs hu. rw (held-at d s u hs hu) (h (s * 16 + u) (omega arith))) i b
 
-  pub held-few : (d : List ℕ) → Times (Γ .events) (scenarios Γ) d → (i : ℕ) → i < Γ .events * scenarios Γ → getD (held Γ d) i 0 ≤ 10080
+  pub held-few : (d : List ℕ) → Times (Γ .events) (scenarios Γ) d → (i : ℕ) → i < Γ .events * scenarios Γ
+      → getD (held Γ d) i 0 ≤ 10080
   held-few d D i b =
       by-cell (Γ .events) (scenarios Γ) (λ i. getD (held Γ d) i 0 ≤ 10080)
       (λ s u hs hu. rw (held-at d s u hs hu) (D .few s u hs (omega arith))) i b
@@ -75,7 +79,8 @@ module _ (Γ : Network) (few : Γ .events ≤ 16) where
       let rise : ℕ → ℕ = λ i. partOf lo hi (getD (held Γ d) i 0) in
       let m = length-packed (Γ .events) (scenarios Γ) t in
       held-by o (moved (held Γ t) j rise) (length-moved (held Γ t) j rise ∙ m) (λ s u hs hu.
-      let at-cell : s * Γ .events + u < length (held Γ t) = omega (arith, m, cell-lt (Γ .events) (scenarios Γ) s u hs hu) in
+      let at-cell : s * Γ .events + u < length (held Γ t) = omega
+      (arith, m, cell-lt (Γ .events) (scenarios Γ) s u hs hu) in
       P .at (s * 16 + u) (omega arith)
       ∙ sym (moved-at (held Γ t) j rise (s * Γ .events + u) at-cell ∙ rw (held-at t s u hs hu, held-at d s u hs hu)))
 

@@ -4,7 +4,7 @@ use mathlib.Core.List.{List}
 use Prim.Native.Nat.{ℕ, _*_, _≤_, _<_}
 use native.Mathlib.Omega.{arith}
 use lib.ListN.{length, getD}
-use Rattle.fixpoint.specs.Step.{iterate}
+use Rattle.fixpoint.specs.Near.{iterate}
 use Rattle.fixpoint.specs.Straight.{moved, AtMost, AtLeast}
 use Rattle.fixpoint.proofs.Leap.{leads-leap}
 use Rattle.network.specs.Build.{scenarios}
@@ -39,7 +39,8 @@ module _ {frame : Frame} {counts lists : List ℕ} where
         held-moved Γ (C .formed .events) (placed-framed C P) ∙ moved-whole C t d j D in
         let some : Some d (scenarios Γ * 16) = rw (C .framed .scenarios-are) at S in
         let w = some-cell Γ (C .formed .events) (framed-times C D) some in
-        let led = leads-leap (propagate Γ) (cap Γ) (step-rises Γ) (step-near Γ) (held Γ t) (length-held Γ t) (held Γ d) p j (M Γ C) (L Γ C)
+        let led = leads-leap (propagate Γ) (cap Γ) (step-rises Γ) (step-near Γ) (held Γ t) (length-held Γ t)
+        (held Γ d) p j (M Γ C) (L Γ C)
         (rw here at (placed-within Γ (C .formed .events) (placed-framed C P)))
         (w .0) (omega (arith, w .1, length-packed (Γ .events) (scenarios Γ) t)) (w .2) in
         rw (← here) at led;

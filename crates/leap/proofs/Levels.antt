@@ -8,7 +8,7 @@ use native.Mathlib.Omega.{arith}
 use lib.ListN.{length, getD}
 use Rattle.prelude.proofs.Tests.{eq-or-ne}
 use Rattle.prelude.proofs.Cells.{by-cell, cell-lt}
-use Rattle.fixpoint.specs.Step.{iterate}
+use Rattle.fixpoint.specs.Near.{iterate}
 use Rattle.fixpoint.specs.Straight.{moved}
 use Rattle.fixpoint.proofs.Moved.{length-moved, moved-at}
 use Rattle.fixpoint.proofs.Leads.{later}
@@ -62,7 +62,8 @@ module _ (Γ : Network) (few : Γ .events ≤ 16) (p j : ℕ) (t d : List ℕ) w
           length-packed (Γ .events) (scenarios Γ) t,
           cell-lt (Γ .events) (scenarios Γ) s u hs hu,
         ) in
-        let up = later (propagate Γ) (cap Γ) (step-rises Γ) (moved (held Γ t) j low) (length-moved (held Γ t) j low ∙ length-held Γ t) 0 p in
+        let up = later (propagate Γ) (cap Γ) (step-rises Γ) (moved (held Γ t) j low)
+        (length-moved (held Γ t) j low ∙ length-held Γ t) 0 p in
         let none : j * getD (held Γ d) c 0 ≡ 0 = rw here (mul-zero j) in
         record { is = omega (arith, rw zero-add at (up .at c), moved-at (held Γ t) j low c inside) };
   }
@@ -74,10 +75,12 @@ pub record Lower (Γ : Network) (d : List ℕ) (l : ℕ) (P : ℕ → Type 0) : 
 pub lower-start : {Γ : Network} {d : List ℕ} {P : ℕ → Type 0} → Lower Γ d 0 P
 lower-start = record { at = λ s u hs hu h. absurd (omega arith) }
 
-module _ {Γ : Network} (few : Γ .events ≤ 16) {d : List ℕ} {l r : ℕ} {P : ℕ → Type 0} (D : Lower Γ d l P) (H : Level Γ d l P)
+module _ {Γ : Network} (few : Γ .events ≤ 16) {d : List ℕ} {l r : ℕ} {P : ℕ → Type 0} (D : Lower Γ d l P)
+    (H : Level Γ d l P)
     (N : NextLevel d l (scenarios Γ * 16) r) where
   up-to : (s u : ℕ) → s < scenarios Γ → u < Γ .events → getD d (s * 16 + u) 0 ≤ l → P (s * Γ .events + u)
-  up-to s u hs hu h = elim (eq-or-ne (getD d (s * 16 + u) 0) l) [ inl q ↦ H .at s u hs hu q | inr q ↦ D .at s u hs hu (omega arith) ]
+  up-to s u hs hu h = elim
+      (eq-or-ne (getD d (s * 16 + u) 0) l) [ inl q ↦ H .at s u hs hu q | inr q ↦ D .at s u hs hu (omega arith) ]
 
   pub lower-next : (r ≡ 0 → ⊥) → Lower Γ d r P
   lower-next n = record {

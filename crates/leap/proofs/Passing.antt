@@ -7,7 +7,7 @@ use native.Mathlib.Numerals.{add-one}
 use native.Mathlib.Omega.{arith}
 use lib.ListN.{length, getD}
 use Rattle.fixpoint.specs.Order.{Below}
-use Rattle.fixpoint.specs.Step.{iterate}
+use Rattle.fixpoint.specs.Near.{iterate}
 use Rattle.fixpoint.specs.Run.{within}
 use Rattle.fixpoint.specs.Straight.{moved, AtMost, AtLeast}
 use Rattle.fixpoint.proofs.Iterate.{iterate-add, iterate-mul, iterate-nonexpansive}
@@ -34,8 +34,10 @@ to Γ t j x = moved (held Γ t) j (λ i. getD (held Γ x) i 0)
 
 module _ {frame : Frame} {counts lists : List ℕ} where
   -- the round after q others passes a limit
-  pub closing-of : {low high a b c : List ℕ} {q : ℕ} → Advanced frame counts lists q low a → Advanced frame counts lists q high b
-      → ((Γ : Network) → Compiled Γ frame counts lists → Rounded Γ a c Passes) → Closing frame counts lists low high (q + 1)
+  pub closing-of : {low high a b c : List ℕ} {q : ℕ} → Advanced frame counts lists q low a
+      → Advanced frame counts lists q high b
+      → ((Γ : Network) → Compiled Γ frame counts lists → Rounded Γ a c Passes)
+      → Closing frame counts lists low high (q + 1)
   closing-of {q = q} A B R =
       let e : q + 1 - 1 ≡ q = omega arith in
       record {
@@ -44,7 +46,8 @@ module _ {frame : Frame} {counts lists : List ℕ} where
       }
 
   -- p rounds from there
-  far-whole : (t x : List ℕ) (j p : ℕ) {Γ : Network} {o : List ℕ} → Compiled Γ frame counts lists → Times (frame .events) (frame .scenarios) x
+  far-whole : (t x : List ℕ) (j p : ℕ) {Γ : Network} {o : List ℕ} → Compiled Γ frame counts lists
+      → Times (frame .events) (frame .scenarios) x
       → Far frame counts lists p j t x 0 10080 o → held Γ o ≡ iterate p (propagate Γ) (to Γ t j x)
   far-whole t x j p {Γ} C X F = F .made Γ C ∙ ap (iterate p (propagate Γ)) (moved-whole C t x j X)
 
@@ -63,15 +66,18 @@ module _ {frame : Frame} {counts lists : List ℕ} where
           λ x. length-moved (held Γ t) j (λ i. getD (held Γ x) i 0) ∙ length-held Γ t in
           let above : Below (to Γ t j e) (iterate (j * p) step (held Γ t)) =
           rw (iterate-mul step j p (held Γ t))
-          (at-least (length (cap Γ)) (iterate p step) N (held Γ t) (held Γ e) (length-held Γ t) j (L Γ C) j (omega arith)) in
+          (at-least (length (cap Γ)) (iterate p step) N (held Γ t) (held Γ e) (length-held Γ t) j (L Γ C) j
+          (omega arith)) in
           let below : Below (iterate (j * p) step (held Γ t)) (to Γ t j d) =
           rw (iterate-mul step j p (held Γ t))
-          (at-most (length (cap Γ)) (iterate p step) N (held Γ t) (held Γ d) (length-held Γ t) j (M Γ C) j (omega arith)) in
+          (at-most (length (cap Γ)) (iterate p step) N (held Γ t) (held Γ d) (length-held Γ t) j (M Γ C) j
+          (omega arith)) in
           let in-cap : within (cap Γ) (iterate (p + (q - 1)) step (to Γ t j d)) ≡ true =
           rw (iterate-add step p (q - 1) (to Γ t j d), ← far-whole t d j p C D H) (K .inside Γ C (H .inside Γ C)) in
           let out : within (cap Γ) (iterate (p + q) step (to Γ t j e)) ≡ false =
           rw (iterate-add step p q (to Γ t j e), ← far-whole t e j p C E F) (K .out Γ C) in
           let one : p + q ≡ suc (p + (q - 1)) = omega arith in
-          rw one (passes-between step (cap Γ) (step-rises Γ) (step-near Γ) (held Γ t) (length-held Γ t) (to Γ t j e) (to Γ t j d) (sized e) (sized d)
+          rw one (passes-between step (cap Γ) (step-rises Γ) (step-near Γ) (held Γ t) (length-held Γ t) (to Γ t j e)
+          (to Γ t j d) (sized e) (sized d)
           (j * p) (p + (q - 1)) above below in-cap (rw one at out));
     }

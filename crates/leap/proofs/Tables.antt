@@ -4,7 +4,7 @@ use mathlib.Core.List.{List}
 use Prim.Native.Nat.{ℕ, _+_, _*_, _≤_, _<_}
 use native.Mathlib.Omega.{arith}
 use lib.ListN.{length, getD}
-use Rattle.fixpoint.specs.Step.{iterate}
+use Rattle.fixpoint.specs.Near.{iterate}
 use Rattle.fixpoint.specs.Straight.{moved}
 use Rattle.fixpoint.specs.Leads.{Leads}
 use Rattle.fixpoint.proofs.Moved.{moved-ext}
@@ -32,11 +32,13 @@ horizon-few U = omega (arith, U .compiled .formed .horizon, U .compiled .framed 
 module _ {frame : Frame} {counts lists : List ℕ} where
   -- what the frame says in place of the network
   pub placed-framed : {Γ : Network} → Compiled Γ frame counts lists → {t d o : List ℕ} {lo hi j : ℕ}
-      → Placed t d lo hi j (frame .horizon) (frame .scenarios * 16) o → Placed t d lo hi j (Γ .horizon) (scenarios Γ * 16) o
+      → Placed t d lo hi j (frame .horizon) (frame .scenarios * 16) o
+      → Placed t d lo hi j (Γ .horizon) (scenarios Γ * 16) o
   placed-framed C P = rw (C .framed .horizon, C .framed .scenarios-are) at P
 
   -- all of a rise is between none and the longest horizon
-  pub moved-whole : {Γ : Network} → Compiled Γ frame counts lists → (t d : List ℕ) (j : ℕ) → Times (frame .events) (frame .scenarios) d
+  pub moved-whole : {Γ : Network} → Compiled Γ frame counts lists → (t d : List ℕ) (j : ℕ)
+      → Times (frame .events) (frame .scenarios) d
       → moved (held Γ t) j (λ i. partOf 0 10080 (getD (held Γ d) i 0)) ≡ moved (held Γ t) j (λ i. getD (held Γ d) i 0)
   moved-whole {Γ} C t d j D =
       moved-ext (held Γ t) j (λ i. partOf 0 10080 (getD (held Γ d) i 0)) (λ i. getD (held Γ d) i 0) (λ i b.
@@ -51,7 +53,11 @@ module _ {frame : Frame} {counts lists : List ℕ} where
 
   pub advanced-join : {p q : ℕ} {t u v : List ℕ} → Advanced frame counts lists p t u → Advanced frame counts lists q u v
       → Advanced frame counts lists (p + q) t v
-  advanced-join A B = record { times = B .times; led = λ Γ C. leads-join (propagate Γ) (cap Γ) (A .led Γ C) (B .led Γ C) }
+  advanced-join A B = record {
+    times = B .times;
+    led = λ Γ C. leads-join (propagate Γ) (cap Γ) (A .led Γ C)
+        (B .led Γ C);
+  }
 
   -- a round that rises
   pub advanced-round : {t u : List ℕ} → Usable frame counts lists
@@ -64,7 +70,8 @@ module _ {frame : Frame} {counts lists : List ℕ} where
   -- a table whose cells are copied is as good as the other
   held-copied : {Γ : Network} → Compiled Γ frame counts lists → (u v : List ℕ) {v₀ : List ℕ}
       → Wrote v₀ v 0 (frame .scenarios * 16) (λ i. getD u i 0) → held Γ v ≡ held Γ u
-  held-copied {Γ} C u v W = held-same Γ (C .formed .events) v u (λ i h. wrote-at W i (omega (arith, C .framed .scenarios-are)))
+  held-copied {Γ} C u v W = held-same Γ (C .formed .events) v u
+      (λ i h. wrote-at W i (omega (arith, C .framed .scenarios-are)))
 
   pub advanced-copied : {p : ℕ} {t u v v₀ : List ℕ} → Advanced frame counts lists p t u → length v₀ ≡ 256
       → Wrote v₀ v 0 (frame .scenarios * 16) (λ i. getD u i 0) → Advanced frame counts lists p t v
@@ -85,6 +92,7 @@ module _ {frame : Frame} {counts lists : List ℕ} where
       → Advanced frame counts lists p o u → Far frame counts lists p j t d lo hi u
   far-of {t} {d} {o} {u} {lo} {hi} {p} {j} P A = record {
     times = A .times;
-    made = λ Γ C. A .led Γ C .made ∙ ap (iterate p (propagate Γ)) (held-moved Γ (C .formed .events) (placed-framed C P));
+    made = λ Γ C. A .led Γ C .made ∙ ap (iterate p (propagate Γ))
+        (held-moved Γ (C .formed .events) (placed-framed C P));
     inside = λ Γ C. A .led Γ C .inside (placed-within Γ (C .formed .events) (placed-framed C P));
   }

@@ -3,7 +3,7 @@ use mathlib.Core.Path.{_≡_}
 use mathlib.Core.Bool.{true, false}
 use mathlib.Core.List.{List}
 use Prim.Native.Nat.{ℕ, _-_}
-use Rattle.fixpoint.specs.Step.{iterate}
+use Rattle.fixpoint.specs.Near.{iterate}
 use Rattle.fixpoint.specs.Run.{within}
 use Rattle.fixpoint.specs.Leads.{PassesIn}
 use Rattle.network.specs.declared.Network.{Network}
@@ -16,7 +16,8 @@ use Rattle.rounds.specs.Rounds.{held}
 module _ (frame : Frame) (counts lists : List ℕ) where
   -- the rounds from low pass a limit in round q, and those from high not before it
   pub record Closing (low high : List ℕ) (q : ℕ) : Type 0 where
-    pub out : (Γ : Network) → Compiled Γ frame counts lists → within (cap Γ) (iterate q (propagate Γ) (held Γ low)) ≡ false
+    pub out : (Γ : Network) → Compiled Γ frame counts lists → within (cap Γ)
+        (iterate q (propagate Γ) (held Γ low)) ≡ false
     pub inside : (Γ : Network) → Compiled Γ frame counts lists → within (cap Γ) (held Γ high) ≡ true
         → within (cap Γ) (iterate (q - 1) (propagate Γ) (held Γ high)) ≡ true
 

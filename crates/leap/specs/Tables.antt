@@ -4,7 +4,7 @@ use mathlib.Core.Bool.{true}
 use mathlib.Core.List.{List}
 use Prim.Native.Nat.{ℕ}
 use lib.ListN.{getD}
-use Rattle.fixpoint.specs.Step.{iterate}
+use Rattle.fixpoint.specs.Near.{iterate}
 use Rattle.fixpoint.specs.Run.{within}
 use Rattle.fixpoint.specs.Straight.{moved}
 use Rattle.fixpoint.specs.Leads.{Leads}

@@ -22,7 +22,8 @@ fn closing(
     requires { ⌜ Usable frame (now counts) (now lists) × Times (frame .events) (frame .scenarios) (now low)
         × Times (frame .events) (frame .scenarios) (now high) ⌝ }
     ensures { λ r. ⌜ (r ≤ most) × (length (now (low .exit)) ≡ 256) × (length (now (high .exit)) ≡ 256)
-        × (0 < r → Closing frame (now (counts .entry)) (now (lists .entry)) (now (low .entry)) (now (high .entry)) r) ⌝ }
+        × (0 < r → Closing frame (now (counts .entry)) (now (lists .entry)) (now (low .entry))
+        (now (high .entry)) r) ⌝ }
 {
     let mut b: [u16; 256] = [0; 256];
     let mut q: u32 = 0;
@@ -66,9 +67,11 @@ fn passes_after(
     lists: &[u16; 6144],
 ) -> u32
     requires { ⌜ Usable frame (now counts) (now lists) × Times (frame .events) (frame .scenarios) (now a)
-        × Times (frame .events) (frame .scenarios) (now e) × Times (frame .events) (frame .scenarios) (now d) × (j ≤ 10080)
+        × Times (frame .events) (frame .scenarios) (now e) × Times (frame .events) (frame .scenarios) (now d)
+        × (j ≤ 10080)
         × (p ≤ 65535) ⌝ }
-    ensures { λ r. ⌜ (r ≤ left) × (0 < r → Passing frame (now (counts .entry)) (now (lists .entry)) r (now (a .entry))) ⌝ }
+    ensures { λ r. ⌜ (r ≤ left) ×
+        (0 < r → Passing frame (now (counts .entry)) (now (lists .entry)) r (now (a .entry))) ⌝ }
 {
     let mut high: [u16; 256] = [0; 256];
     if !test::far(a, d, 0, 10080, j, p, frame, counts, lists, &mut high) {
@@ -111,7 +114,8 @@ fn finish(
     lists: &[u16; 6144],
 ) -> u32
     requires { ⌜ Usable frame (now counts) (now lists) × Times (frame .events) (frame .scenarios) (now a) ⌝ }
-    ensures { λ r. ⌜ (r ≤ left) × (0 < r → Passing frame (now (counts .entry)) (now (lists .entry)) r (now (a .entry))) ⌝ }
+    ensures { λ r. ⌜ (r ≤ left) ×
+        (0 < r → Passing frame (now (counts .entry)) (now (lists .entry)) r (now (a .entry))) ⌝ }
 {
     if 65535 < p {
         return 0;
@@ -146,7 +150,8 @@ pub fn finish_if(
     lists: &[u16; 6144],
 ) -> u32
     requires { ⌜ Usable frame (now counts) (now lists) × Times (frame .events) (frame .scenarios) (now a) ⌝ }
-    ensures { λ r. ⌜ (r ≤ left) × (0 < r → Passing frame (now (counts .entry)) (now (lists .entry)) r (now (a .entry))) ⌝ }
+    ensures { λ r. ⌜ (r ≤ left) ×
+        (0 < r → Passing frame (now (counts .entry)) (now (lists .entry)) r (now (a .entry))) ⌝ }
 {
     if p == 0 {
         return 0;

@@ -30,9 +30,11 @@ fn hop(
     lists: &[u16; 6144],
 ) -> u32
     requires { ⌜ Usable frame (now counts) (now lists) × Times (frame .events) (frame .scenarios) (now a)
-        × Times (frame .events) (frame .scenarios) (now d) × (j ≤ 10080) × (p ≤ 65535) × Some (now d) (frame .scenarios * 16)
+        × Times (frame .events) (frame .scenarios) (now d) × (j ≤ 10080) × (p ≤ 65535)
+        × Some (now d) (frame .scenarios * 16)
         × Advanced frame (now counts) (now lists) p (now a) (now x) ⌝ }
-    ensures { λ r. ⌜ (r ≤ left) × Advanced frame (now (counts .entry)) (now (lists .entry)) r (now (a .entry)) (now (a .exit))
+    ensures { λ r. ⌜ (r ≤ left) × Advanced frame (now (counts .entry)) (now (lists .entry)) r (now (a .entry))
+        (now (a .exit))
         × Advanced frame (now (counts .entry)) (now (lists .entry)) p (now (a .exit)) (now (x .exit)) ⌝ }
 {
     let made = product(j, p);
@@ -81,7 +83,8 @@ fn pass_over(
 ) -> u32
     requires { ⌜ Usable frame (now counts) (now lists) × Times (frame .events) (frame .scenarios) (now a)
         × Advanced frame (now counts) (now lists) p (now a) (now x) ⌝ }
-    ensures { λ r. ⌜ (r ≤ left) × Advanced frame (now (counts .entry)) (now (lists .entry)) r (now (a .entry)) (now (a .exit))
+    ensures { λ r. ⌜ (r ≤ left) × Advanced frame (now (counts .entry)) (now (lists .entry)) r (now (a .entry))
+        (now (a .exit))
         × Advanced frame (now (counts .entry)) (now (lists .entry)) p (now (a .exit)) (now (x .exit)) ⌝ }
 {
     if 65535 < p {
@@ -120,7 +123,8 @@ pub fn pass_over_if(
 ) -> u32
     requires { ⌜ Usable frame (now counts) (now lists) × Times (frame .events) (frame .scenarios) (now a)
         × Advanced frame (now counts) (now lists) p (now a) (now x) ⌝ }
-    ensures { λ r. ⌜ (r ≤ left) × Advanced frame (now (counts .entry)) (now (lists .entry)) r (now (a .entry)) (now (a .exit))
+    ensures { λ r. ⌜ (r ≤ left) × Advanced frame (now (counts .entry)) (now (lists .entry)) r (now (a .entry))
+        (now (a .exit))
         × Advanced frame (now (counts .entry)) (now (lists .entry)) p (now (a .exit)) (now (x .exit)) ⌝ }
 {
     if tries == 0 {

@@ -4,7 +4,7 @@ ghost use mathlib.Core.Path.{_≡_};
 ghost use mathlib.Core.Bool.{true};
 ghost use Prim.Native.Nat.{ℕ, _+_, _*_, _≤_, _<_};
 ghost use lib.ListN.{length};
-ghost use Rattle.fixpoint.specs.Step.{iterate};
+ghost use Rattle.fixpoint.specs.Near.{iterate};
 ghost use Rattle.fixpoint.specs.Straight.{AtMost, AtLeast};
 ghost use Rattle.network.specs.declared.Network.{Network};
 ghost use Rattle.rows.specs.Rows.{Times};
@@ -58,7 +58,8 @@ pub fn far(
 ) -> bool
     requires { ⌜ Usable frame (now counts) (now lists) × Times (frame .events) (frame .scenarios) (now t)
         × Times (frame .events) (frame .scenarios) (now d) × (hi ≤ 10080) × (j ≤ 10080) × (length (now o) ≡ 256) ⌝ }
-    ensures { λ r. ⌜ (length (now (o .exit)) ≡ 256) × (r ≡ true → Far frame (now (counts .entry)) (now (lists .entry)) p j
+    ensures { λ r. ⌜ (length (now (o .exit)) ≡ 256) ×
+        (r ≡ true → Far frame (now (counts .entry)) (now (lists .entry)) p j
         (now (t .entry)) (now (d .entry)) lo hi (now (o .exit))) ⌝ }
 {
     let cells = frame.scenarios * 16;
@@ -86,7 +87,8 @@ fn at_level(
     requires { ⌜ Usable frame (now counts) (now lists) × Times (frame .events) (frame .scenarios) (now t)
         × Times (frame .events) (frame .scenarios) (now d) × (hi ≤ 10080) × (j ≤ 10080)
         × (low ≤ 200000000) × (high ≤ 200000000) ⌝ }
-    ensures { λ r. ⌜ (r ≡ true → AtLevel frame (now (counts .entry)) (now (lists .entry)) p j (now (t .entry)) (now (d .entry)) l
+    ensures { λ r. ⌜ (r ≡ true → AtLevel frame (now (counts .entry)) (now (lists .entry)) p j (now (t .entry))
+        (now (d .entry)) l
         lo hi low high) ⌝ }
 {
     let mut o: [u16; 256] = [0; 256];
@@ -135,7 +137,8 @@ pub fn at_most(
     lists: &[u16; 6144],
 ) -> bool
     requires { ⌜ Usable frame (now counts) (now lists) × Times (frame .events) (frame .scenarios) (now t)
-        × Times (frame .events) (frame .scenarios) (now d) × (j ≤ 10080) × Advanced frame (now counts) (now lists) p (now t) (now x)
+        × Times (frame .events) (frame .scenarios) (now d) × (j ≤ 10080)
+        × Advanced frame (now counts) (now lists) p (now t) (now x)
         × Far frame (now counts) (now lists) p j (now t) (now d) 0 10080 (now o) ⌝ }
     ensures { λ r. ⌜ (r ≡ true → (Γ : Network) → Compiled Γ frame (now (counts .entry)) (now (lists .entry))
         → AtMost (iterate p (propagate Γ)) (held Γ (now (t .entry))) (held Γ (now (d .entry))) j) ⌝ }

@@ -18,7 +18,8 @@ level-none d l = record {
   found = λ n. absurd (n refl);
 }
 
-module _ (d : List ℕ) (l i r v : ℕ) (L : NextLevel d l i r) (low : getD d i 0 ≤ l → v ≡ r) (first : l < getD d i 0 → r ≡ 0 → v ≡ getD d i 0)
+module _ (d : List ℕ) (l i r v : ℕ) (L : NextLevel d l i r) (low : getD d i 0 ≤ l → v ≡ r)
+    (first : l < getD d i 0 → r ≡ 0 → v ≡ getD d i 0)
     (less : l < getD d i 0 → 0 < r → v ≡ min (getD d i 0) r) where
   level-low : getD d i 0 ≤ l → NextLevel d l (i + 1) v
   level-low h =
@@ -26,7 +27,8 @@ module _ (d : List ℕ) (l i r v : ℕ) (L : NextLevel d l i r) (low : getD d i 
       record {
         none = λ z. each-next (λ k. getD d k 0 ≤ l) i (L .none (sym e ∙ z)) h;
         more = λ n. rw e (L .more (λ z. n (e ∙ z)));
-        between = λ n. each-next (λ k. (getD d k 0 ≤ l) ⊎ (v ≤ getD d k 0)) i (rw e (L .between (λ z. n (e ∙ z)))) (inl h);
+        between = λ n. each-next (λ k. (getD d k 0 ≤ l) ⊎ (v ≤ getD d k 0)) i (rw e (L .between (λ z. n (e ∙ z))))
+            (inl h);
         found = λ n. let w = L .found (λ z. n (e ∙ z)) in (w .0, omega (arith, w .1), w .2 ∙ sym e);
       }
 
@@ -37,7 +39,8 @@ module _ (d : List ℕ) (l i r v : ℕ) (L : NextLevel d l i r) (low : getD d i 
         none = λ y. absurd (omega arith);
         more = λ n. omega arith;
         between =
-            λ n. each-next (λ k. (getD d k 0 ≤ l) ⊎ (v ≤ getD d k 0)) i (λ k b. inl (L .none z k b)) (inr (omega arith));
+            λ n. each-next (λ k. (getD d k 0 ≤ l) ⊎ (v ≤ getD d k 0)) i (λ k b. inl (L .none z k b))
+            (inr (omega arith));
         found = λ n. (i, omega arith, sym e);
       }
 

@@ -17,14 +17,16 @@ each-next P i h p k l = elim (eq-or-ne k i) [ inl q ↦ rw q p | inr q ↦ h k (
 
 -- what holds of each entry's place and number still does once one more is set
 module _ (o : List ℕ) (i v : ℕ) (b : i < length o) where
-  set-next : (P : ℕ → ℕ → Type 0) → ((k : ℕ) → k < i → P k (getD o k 0)) → P i v → (k : ℕ) → k < i + 1 → P k (getD (set o i v) k 0)
+  set-next : (P : ℕ → ℕ → Type 0) → ((k : ℕ) → k < i → P k (getD o k 0)) → P i v → (k : ℕ) → k < i + 1
+      → P k (getD (set o i v) k 0)
   set-next P h p k l =
       elim (eq-or-ne k i) [
         | inl q ↦ rw (q, getD-set-same o i v 0 b) p
         | inr q ↦ rw (getD-set-other o i k v 0 q) (h k (omega arith))
       ]
 
-  pub placed-next : {t d : List ℕ} {lo hi j h : ℕ} → Placed t d lo hi j h i o → v ≡ getD t i 0 + j * partOf lo hi (getD d i 0) → v ≤ h
+  pub placed-next : {t d : List ℕ} {lo hi j h : ℕ} → Placed t d lo hi j h i o
+      → v ≡ getD t i 0 + j * partOf lo hi (getD d i 0) → v ≤ h
       → (i % 16 ≡ 0 → v ≡ 0) → Placed t d lo hi j h (i + 1) (set o i v)
   placed-next {t} {d} {lo} {hi} {j} {h} P is low origin = record {
     at = set-next (λ k x. x ≡ getD t k 0 + j * partOf lo hi (getD d k 0)) (P .at) is;
@@ -57,11 +59,13 @@ pub between-next : {t d o : List ℕ} {l least most i : ℕ} → Between t d l l
     → (getD d i 0 ≡ l → (getD t i 0 + least ≤ getD o i 0) × (getD o i 0 ≤ getD t i 0 + most))
     → Between t d l least most o (i + 1)
 between-next {t} {d} {o} {l} {least} {most} {i} B h = record {
-  at = each-next (λ k. getD d k 0 ≡ l → (getD t k 0 + least ≤ getD o k 0) × (getD o k 0 ≤ getD t k 0 + most)) i (B .at) h;
+  at = each-next (λ k. getD d k 0 ≡ l → (getD t k 0 + least ≤ getD o k 0) × (getD o k 0 ≤ getD t k 0 + most)) i
+      (B .at) h;
 }
 
 -- rounds may go from a table that is placed, clipped or written from one that they may go from
-pub placed-times : {n c lo hi j h : ℕ} {t d o : List ℕ} → Times n c t → Times n c d → Placed t d lo hi j h (c * 16) o → length o ≡ 256
+pub placed-times : {n c lo hi j h : ℕ} {t d o : List ℕ} → Times n c t → Times n c d
+    → Placed t d lo hi j h (c * 16) o → length o ≡ 256
     → h ≤ 10080 → Times n c o
 placed-times {n} {c} {lo} {hi} {j} {h} {t} {d} {o} T D P z l = record {
   sized = z;
@@ -89,5 +93,6 @@ pub wrote-times : {n c : ℕ} {x e₀ e : List ℕ} (f : ℕ → ℕ) → Times 
 wrote-times f X z W low = record {
   sized = W .sized ∙ z;
   few = λ s u hs hu. omega (arith, wrote-at W (s * 16 + u) (omega arith), low (s * 16 + u), X .few s u hs hu);
-  beyond = λ s u hs hn hu. omega (arith, wrote-at W (s * 16 + u) (omega arith), low (s * 16 + u), X .beyond s u hs hn hu);
+  beyond = λ s u hs hn hu. omega
+      (arith, wrote-at W (s * 16 + u) (omega arith), low (s * 16 + u), X .beyond s u hs hn hu);
 }

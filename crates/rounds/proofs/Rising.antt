@@ -10,8 +10,9 @@ use lib.Dec.{eqb}
 use lib.ListN.{length, getD}
 use Rattle.prelude.proofs.Bounded.{le-maxBelow, maxBelow-le, maxBelow-near, length-tabulate, getD-tabulate}
 use Rattle.prelude.proofs.Cells.{cell-lt, row-of, column-of, by-cell}
-use Rattle.fixpoint.specs.Order.{Below, Over}
-use Rattle.fixpoint.specs.Step.{Rising, Nonexpansive}
+use Rattle.fixpoint.specs.Order.{Below}
+use Rattle.fixpoint.specs.Step.{Rising}
+use Rattle.fixpoint.specs.Near.{Over, Nonexpansive}
 use Rattle.fixpoint.proofs.Order.{below-by, over-by}
 use Rattle.fixpoint.proofs.Iterate.{near-monotone}
 use Rattle.network.specs.Build.{observation, constraint, scenarios, cells}

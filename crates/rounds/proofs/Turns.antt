@@ -6,7 +6,8 @@ use mathlib.Core.List.{List}
 use Prim.Native.Nat.{ℕ, suc}
 use lib.ListN.{length}
 use Rattle.prelude.specs.Bytes.{same}
-use Rattle.fixpoint.specs.Step.{Rising, Nonexpansive}
+use Rattle.fixpoint.specs.Step.{Rising}
+use Rattle.fixpoint.specs.Near.{Nonexpansive}
 use Rattle.fixpoint.specs.Run.{within, ran, runFrom}
 use Rattle.fixpoint.specs.Run as run
 use Rattle.fixpoint.specs.Leads.{Leads}

@@ -36,7 +36,8 @@ module _ (Γ : Network) where
   pub length-cap : length (cap Γ) ≡ cells Γ
   length-cap = length-tabulate limit (cells Γ)
 
-  getD-cap : (s u : ℕ) → s < scenarios Γ → u < Γ .events → getD (cap Γ) (s * Γ .events + u) 0 ≡ cond (eqb u 0) 0 (Γ .horizon)
+  getD-cap : (s u : ℕ) → s < scenarios Γ → u < Γ .events → getD (cap Γ) (s * Γ .events + u) 0 ≡ cond (eqb u 0) 0
+      (Γ .horizon)
   getD-cap s u hs hu =
       getD-tabulate limit (cells Γ) (s * Γ .events + u) 0 (cell-lt (Γ .events) (scenarios Γ) s u hs hu)
       ∙ rw (column-of (Γ .events) s u hu)
@@ -49,15 +50,18 @@ module _ (Γ : Network) where
     within-of-on-time : ((s u : ℕ) → s < scenarios Γ → u < Γ .events → OnTime Γ σ s u) → within (cap Γ) σ ≡ true
     within-of-on-time h = within-by (cap Γ) σ (λ i l.
         by-cell (Γ .events) (scenarios Γ) (λ i. getD σ i 0 ≤ getD (cap Γ) i 0)
-        (λ s u hs hu. rw (getD-cap s u hs hu) (limited (Γ .horizon) u _ (h s u hs hu .in-horizon) (h s u hs hu .origin)))
+        (λ s u hs hu. rw (getD-cap s u hs hu)
+        (limited (Γ .horizon) u _ (h s u hs hu .in-horizon) (h s u hs hu .origin)))
         i (rw length-cap at l))
 
     on-time-of-within : within (cap Γ) σ ≡ true → (s u : ℕ) → s < scenarios Γ → u < Γ .events → OnTime Γ σ s u
     on-time-of-within e s u hs hu =
         let low : time (Γ .events) σ s u ≤ cond (eqb u 0) 0 (Γ .horizon) =
-        rw (getD-cap s u hs hu) at (within-at (cap Γ) σ e (s * Γ .events + u) (rw length-cap (cell-lt (Γ .events) (scenarios Γ) s u hs hu))) in
+        rw (getD-cap s u hs hu) at
+        (within-at (cap Γ) σ e (s * Γ .events + u) (rw length-cap (cell-lt (Γ .events) (scenarios Γ) s u hs hu))) in
         record {
-          in-horizon = by-cond (λ (z : ℕ). time (Γ .events) σ s u ≤ z → time (Γ .events) σ s u ≤ Γ .horizon) (eqb u 0) 0 (Γ .horizon)
+          in-horizon = by-cond (λ (z : ℕ). time (Γ .events) σ s u ≤ z → time (Γ .events) σ s u ≤ Γ .horizon)
+              (eqb u 0) 0 (Γ .horizon)
               (λ _ l. omega arith) (λ _ l. l) low;
           origin = λ z. let l : time (Γ .events) σ s u ≤ 0 = rw (eq-eqb u 0 z) at low in omega arith;
         }
@@ -75,7 +79,8 @@ module _ (Γ : Network) where
     pub within-of-solution : (σ : List ℕ) → Solution Γ σ → within (cap Γ) σ ≡ true
     within-of-solution σ h = within-of-on-time σ (h .on-time)
 
-    pub solution-of-prefixpoint : (σ : List ℕ) → Prefixpoint (propagate Γ) (floor Γ) σ → within (cap Γ) σ ≡ true → Solution Γ σ
+    pub solution-of-prefixpoint : (σ : List ℕ) → Prefixpoint (propagate Γ) (floor Γ) σ → within (cap Γ) σ ≡ true
+        → Solution Γ σ
     solution-of-prefixpoint σ p e = record {
       sized = p .sized ∙ length-replicate (cells Γ) 0;
       on-time = on-time-of-within σ e;
@@ -85,7 +90,8 @@ module _ (Γ : Network) where
 
     ends : Outcome (propagate Γ) (cap Γ) (rw length-cap (rising Γ)) (floor Γ) (solve Γ)
     unfolding solve
-    ends = outcome (propagate Γ) (cap Γ) (rw length-cap (rising Γ)) (floor Γ) (length-replicate (cells Γ) 0 ∙ sym length-cap)
+    ends = outcome (propagate Γ) (cap Γ) (rw length-cap (rising Γ)) (floor Γ)
+        (length-replicate (cells Γ) 0 ∙ sym length-cap)
 
     -- where the run rests it has the least solution
     pub solve-least : solve Γ .end ≡ Rests → Least Γ (solve Γ .reached)

@@ -79,7 +79,8 @@ ended-spent Rests m n k j z = (cc, cc)
 ended-spent Passes m n k j z = (cc, cc)
 ended-spent Spent m n k j z = (refl, cc)
 
-solved-none : (Γ : Network) (e : End) (k : ℕ) → solve Γ .end ≡ e → k ≡ solve Γ .rounds → (e ≡ Rests → ⊥) → (table : List ℕ)
+solved-none : (Γ : Network) (e : End) (k : ℕ) → solve Γ .end ≡ e → k ≡ solve Γ .rounds → (e ≡ Rests → ⊥)
+    → (table : List ℕ)
     → SolvedIs Γ table table (Inconsistent k)
 solved-none Γ Rests k p q n table = absurd (n refl)
 solved-none Γ Passes k p q n table = record { answer = rw (p, solvedOf, q); table = rw (p, tableAfter) }
@@ -101,7 +102,8 @@ module _ (Γ : Network) (W : WellFormed Γ) where
       let size : cells Γ ≤ 256 = mul-le-mul (W .events) (sixteen (Γ .signals) (W .signals)) in
       let most : room (cap Γ) (floor Γ) ≤ length (cap Γ) * 10080 =
       sumBelow-le (λ i. getD (cap Γ) i 0 - getD (floor Γ) i 0) (length (cap Γ)) 10080 (λ i l.
-      let at = getD-tabulate (λ j. cond (eqb (j % Γ .events) 0) 0 (Γ .horizon)) (cells Γ) i 0 (omega (arith, length-cap Γ)) in
+      let at = getD-tabulate (λ j. cond (eqb (j % Γ .events) 0) 0 (Γ .horizon)) (cells Γ) i 0
+      (omega (arith, length-cap Γ)) in
       omega (arith, at, cond-few (eqb (i % Γ .events) 0) (Γ .horizon) 10080 (W .horizon)))
       in
       omega (arith, most, length-cap Γ, size)
@@ -115,7 +117,8 @@ module _ (Γ : Network) (W : WellFormed Γ) where
         (enough (propagate Γ) (cap Γ) (step-rises Γ) 0 (suc (room (cap Γ) (floor Γ))) 2580481 (floor Γ)
         (ap length (sym held-zeros) ∙ length-held Γ (replicate 256 0)) (omega arith) (omega (arith, room-few)))
 
-  pub solved-resting : {exit : List ℕ} {k j : ℕ} → RunIs Γ 2580481 (replicate 256 0) exit (ended.Rests k j) → (entry after : List ℕ)
+  pub solved-resting : {exit : List ℕ} {k j : ℕ} → RunIs Γ 2580481 (replicate 256 0) exit (ended.Rests k j)
+      → (entry after : List ℕ)
       → after ≡ held Γ exit ++ drop (Γ .events * scenarios Γ) entry → SolvedIs Γ entry after (Found k)
   solved-resting {exit} {k} {j} A entry after z =
       let w = ended-rests (A .run .end) (A .run .rounds) (A .turns) k j (A .answer) in
@@ -130,14 +133,16 @@ module _ (Γ : Network) (W : WellFormed Γ) where
         table = z ∙ rw (rests, tableAfter, here, size);
       }
 
-  pub solved-passing : {exit : List ℕ} {k j : ℕ} → RunIs Γ 2580481 (replicate 256 0) exit (ended.Passes k j) → (table : List ℕ)
+  pub solved-passing : {exit : List ℕ} {k j : ℕ} → RunIs Γ 2580481 (replicate 256 0) exit (ended.Passes k j)
+      → (table : List ℕ)
       → SolvedIs Γ table table (Inconsistent k)
   solved-passing {k = k} {j} A =
       let w = ended-passes (A .run .end) (A .run .rounds) (A .turns) k j (A .answer) in
       solved-none Γ Passes k (rw (run-solves A) at (w .0)) (rw (run-solves A) at (w .1))
       (λ e. let z : _≡_ {A = ℕ} 0 1 = cc in omega arith)
 
-  pub solved-spent : {exit : List ℕ} {k j : ℕ} → RunIs Γ 2580481 (replicate 256 0) exit (ended.Spent k j) → (table : List ℕ)
+  pub solved-spent : {exit : List ℕ} {k j : ℕ} → RunIs Γ 2580481 (replicate 256 0) exit (ended.Spent k j)
+      → (table : List ℕ)
       → SolvedIs Γ table table (Inconsistent k)
   solved-spent {k = k} {j} A =
       let w = ended-spent (A .run .end) (A .run .rounds) (A .turns) k j (A .answer) in
@@ -160,7 +165,8 @@ module _ (Γ : Network) (frame : Frame) (F : Framed Γ frame) where
   copied-framed t entry now exit e z = rw (F .scenarios-are, e) at z
 
   pub copied-length : (t entry now exit : List ℕ) → now ≡ entry → cells Γ ≤ length entry
-      → exit ≡ packed (Γ .events) (frame .scenarios) t ++ drop (Γ .events * frame .scenarios) now → length exit ≡ length entry
+      → exit ≡ packed (Γ .events) (frame .scenarios) t ++ drop (Γ .events * frame .scenarios) now
+      → length exit ≡ length entry
   copied-length t entry now exit e l z =
       ap length (copied-framed t entry now exit e z)
       ∙ (length-append (held Γ t) (drop (cells Γ) entry)

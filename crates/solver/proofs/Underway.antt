@@ -33,7 +33,8 @@ pub record Underway (frame : Frame) (counts lists : List ℕ) (t base a : List �
   pub to-base : Advanced frame counts lists at t base
   pub from-base : Advanced frame counts lists (now - at) base a
 
-module _ {frame : Frame} {counts lists : List ℕ} {t base a : List ℕ} {at now : ℕ} (G : Underway frame counts lists t base a at now) where
+module _ {frame : Frame} {counts lists : List ℕ} {t base a : List ℕ} {at now : ℕ}
+    (G : Underway frame counts lists t base a at now) where
   pub all-of : Advanced frame counts lists now t a
   all-of =
       let e : at + (now - at) ≡ now = omega (arith, G .order) in
@@ -130,7 +131,8 @@ module _ {frame : Frame} {counts lists t u : List ℕ} {k : ℕ} (P : Advanced f
     reached = λ _. refl;
   }
 
-  pub ended-later : {r : ℕ} → k + r ≤ budget → Passing frame counts lists r u → RunIs Γ budget t u (ended.Passes (k + r) turns)
+  pub ended-later : {r : ℕ} → k + r ≤ budget → Passing frame counts lists r u
+      → RunIs Γ budget t u (ended.Passes (k + r) turns)
   ended-later {r} h Q =
       let passes = Q .on Γ C in
       record {

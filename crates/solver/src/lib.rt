@@ -59,7 +59,8 @@ pub fn run(
     lists: &[u16; 6144],
 ) -> Ended
     requires { ⌜ Usable frame (now counts) (now lists) × Times (frame .events) (frame .scenarios) (now a) ⌝ }
-    ensures { λ r. ⌜ (length (now (a .exit)) ≡ 256) × ((Γ : Network) → Compiled Γ frame (now (counts .entry)) (now (lists .entry))
+    ensures { λ r. ⌜ (length (now (a .exit)) ≡ 256) ×
+        ((Γ : Network) → Compiled Γ frame (now (counts .entry)) (now (lists .entry))
         → RunIs Γ budget (now (a .entry)) (now (a .exit)) r) ⌝ }
 {
     let cells = cells_of(frame);

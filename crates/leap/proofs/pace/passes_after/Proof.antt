@@ -122,7 +122,8 @@ returns-8 c =
     let least = at-least .ensures (not-false _ (if5 .left)) in (
       omega (arith, c .if7 .left),
       λ _. rw (c .before .total .ensures)
-          (passing-of _ _ _ _ _ _ _ _ (pre .3) (pre .2) most least high low (closing .ensures .3 (omega (arith, if6 .left)))
+          (passing-of _ _ _ _ _ _ _ _ (pre .3) (pre .2) most least high low
+          (closing .ensures .3 (omega (arith, if6 .left)))
           (omega (arith, if6 .left))),
     )
 

@@ -56,7 +56,8 @@ returns : tie.Need-returns Inv-loop μ-loop
 returns c =
     let loop = c .before .before .before .loop in
     let pre = c .before .before .before .before .before .pre in
-    λ e Γ C. at-most-of C (pre .2) (c .before .before .next-level .ensures) (c .before .if1 .taken) (loop .inv .1 Γ C) (pre .4)
+    λ e Γ C. at-most-of C (pre .2) (c .before .before .next-level .ensures) (c .before .if1 .taken)
+    (loop .inv .1 Γ C) (pre .4)
     (c .between .ensures e)
 
 -- src/test.rt:148:13

@@ -55,7 +55,8 @@ loop-again c =
 
 returns : tie.Need-returns Inv-loop μ-loop
 returns c =
-    let e : c .before .loop .d ≡ c .before .before .args .p = omega (arith, c .before .loop .inv .within, c .loop-test .left) in
+    let e : c .before .loop .d ≡ c .before .before .args .p = omega
+    (arith, c .before .loop .inv .within, c .loop-test .left) in
     rw e at (c .before .loop .inv)
 
 pub double-spec : {M : Type 1} → statement M
