@@ -44,7 +44,7 @@ impl Rng {
     }
 
     /// `count` different numbers below `end`, in any order.
-    fn different(&mut self, count: usize, end: usize) -> Vec<usize> {
+    pub fn different(&mut self, count: usize, end: usize) -> Vec<usize> {
         let mut all: Vec<usize> = (0..end).collect();
         for place in 0..count {
             let other = place + self.below(end - place);
@@ -58,19 +58,19 @@ impl Rng {
 // ---------------------------------------------------------------- Valid sheets
 
 #[derive(Clone)]
-struct DraftRule {
-    kind: &'static str,
-    from: usize,
-    to: usize,
-    limit: i64,
-    label: Vec<(usize, bool)>,
+pub struct DraftRule {
+    pub kind: &'static str,
+    pub from: usize,
+    pub to: usize,
+    pub limit: i64,
+    pub label: Vec<(usize, bool)>,
 }
 
-struct Draft {
-    horizon: i64,
-    events: Vec<String>,
-    signals: Vec<(u8, usize)>,
-    rules: Vec<DraftRule>,
+pub struct Draft {
+    pub horizon: i64,
+    pub events: Vec<String>,
+    pub signals: Vec<(u8, usize)>,
+    pub rules: Vec<DraftRule>,
 }
 
 /// What a line is for.
@@ -104,6 +104,10 @@ impl Paper {
 }
 
 impl Draft {
+    pub fn bytes(&self) -> Vec<u8> {
+        self.paper().bytes()
+    }
+
     fn paper(&self) -> Paper {
         let mut paper = Paper { lines: vec![] };
         paper.put(Place::Section, &["horizon", &self.horizon.to_string()]);
@@ -139,10 +143,10 @@ impl Draft {
 }
 
 /// How many events, signals and rules.
-struct Size {
-    events: usize,
-    signals: usize,
-    rules: usize,
+pub struct Size {
+    pub events: usize,
+    pub signals: usize,
+    pub rules: usize,
 }
 
 fn size(rng: &mut Rng) -> Size {
@@ -192,7 +196,7 @@ fn names(rng: &mut Rng, count: usize) -> Vec<String> {
     names
 }
 
-fn label(rng: &mut Rng, signals: usize) -> Vec<(usize, bool)> {
+pub fn label(rng: &mut Rng, signals: usize) -> Vec<(usize, bool)> {
     if signals == 0 || rng.chance(25) {
         return vec![];
     }
@@ -201,7 +205,7 @@ fn label(rng: &mut Rng, signals: usize) -> Vec<(usize, bool)> {
 }
 
 /// A draft without rules.
-fn bare(rng: &mut Rng, size: &Size, horizon: i64) -> Draft {
+pub fn bare(rng: &mut Rng, size: &Size, horizon: i64) -> Draft {
     let letters = rng.different(size.signals, 26);
     let givers = rng.different(size.signals, size.events);
     let signals = letters.into_iter().zip(givers).map(|(letter, event)| (b'a' + letter as u8, event)).collect();
@@ -455,7 +459,7 @@ fn place(rule: &DraftRule) -> (usize, usize, BTreeSet<(usize, bool)>) {
 }
 
 /// The same rule seen from its other end: to - from <= limit says that from - to >= -limit, and an equal difference is one both ways.
-fn turned(rule: &DraftRule) -> DraftRule {
+pub fn turned(rule: &DraftRule) -> DraftRule {
     let kind = match rule.kind {
         "max" => "min",
         "min" => "max",

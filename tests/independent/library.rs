@@ -1,4 +1,5 @@
-//! The library under test: the two C functions of `libopening.a`, or, in a build with `--cfg standalone`, the model itself.
+//! The libraries under test: the C functions of `libopening.a` and of `libtally.a`, or, in a build with `--cfg standalone`, the model itself
+//! and a solver of our own that passes over rounds.
 
 /// The two calls, "with byte slices and numbers".
 #[derive(Clone, Copy)]
@@ -7,21 +8,38 @@ pub struct Library {
     pub judge: fn(sheet: &[u8], table: &[u8]) -> u64,
 }
 
+/// The three calls that count rounds. The first two answer with the count in the lower four bytes and the sum of the table in the upper
+/// four (`rounds.rs`), by a run that passes over rounds and by one that does not; the third, how many rounds the first made one by one.
+#[derive(Clone, Copy)]
+pub struct Tally {
+    pub leaping: fn(sheet: &[u8]) -> u64,
+    pub plain: fn(sheet: &[u8]) -> u64,
+    pub turns: fn(sheet: &[u8]) -> u64,
+}
+
 #[cfg(not(standalone))]
-pub use linked::LIBRARY;
+pub use linked::{LIBRARY, TALLY};
 #[cfg(standalone)]
-pub use own::LIBRARY;
+pub use own::{LIBRARY, TALLY};
 
 #[cfg(not(standalone))]
 mod linked {
-    use super::Library;
+    use super::{Library, Tally};
 
     pub const LIBRARY: Library = Library { solve, judge };
+    pub const TALLY: Tally = Tally { leaping, plain, turns };
 
     #[link(name = "opening", kind = "static")]
     extern "C" {
         fn opening_solve(sheet: *const u8, sheet_len: usize, table: *mut u8, table_len: usize) -> u64;
         fn opening_judge(sheet: *const u8, sheet_len: usize, table: *const u8, table_len: usize) -> u64;
+    }
+
+    #[link(name = "tally", kind = "static")]
+    extern "C" {
+        fn tally_leaping(sheet: *const u8, sheet_len: usize) -> u64;
+        fn tally_plain(sheet: *const u8, sheet_len: usize) -> u64;
+        fn tally_turns(sheet: *const u8, sheet_len: usize) -> u64;
     }
 
     fn solve(sheet: &[u8], table: &mut [u8]) -> u64 {
@@ -31,15 +49,29 @@ mod linked {
     fn judge(sheet: &[u8], table: &[u8]) -> u64 {
         unsafe { opening_judge(sheet.as_ptr(), sheet.len(), table.as_ptr(), table.len()) }
     }
+
+    fn leaping(sheet: &[u8]) -> u64 {
+        unsafe { tally_leaping(sheet.as_ptr(), sheet.len()) }
+    }
+
+    fn plain(sheet: &[u8]) -> u64 {
+        unsafe { tally_plain(sheet.as_ptr(), sheet.len()) }
+    }
+
+    fn turns(sheet: &[u8]) -> u64 {
+        unsafe { tally_turns(sheet.as_ptr(), sheet.len()) }
+    }
 }
 
-/// The same two calls made of the model, packed as ARCHITECTURE.md says under "C interface".
+/// The same calls made of the model, packed as ARCHITECTURE.md says under "C interface", and of `leaps.rs`.
 #[cfg(standalone)]
 pub mod own {
-    use super::Library;
+    use super::{Library, Tally};
     use crate::model::{self, Refusal, Verdict};
+    use crate::{leaps, rounds};
 
     pub const LIBRARY: Library = Library { solve, judge };
+    pub const TALLY: Tally = Tally { leaping: leaps::leaping, plain, turns: leaps::turns };
 
     /// "Its bytes, lowest first: refusal number; line (two bytes)"; then five bytes that each call fills in its own way.
     pub fn pack(number: u8, line: usize, rest: [u8; 5]) -> u64 {
@@ -101,5 +133,9 @@ pub mod own {
             Ok(net) if table.len() != 2 * net.cells() => refused_call(11),
             Ok(net) => verdict(model::judge(&net, &minutes_of(table))),
         }
+    }
+
+    pub fn plain(sheet: &[u8]) -> u64 {
+        rounds::answer_of(&model::read(sheet))
     }
 }

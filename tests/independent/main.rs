@@ -1,24 +1,32 @@
-//! The comparison of `libopening.a`, and of a program that prints house forms, with the model of documents 01 and 02.
+//! The comparison of `libopening.a` and `libtally.a`, and of a program that prints house forms, with the model of documents 01 and 02.
 //!
 //! compare [SEED [COUNT]]                  generated sheets and tables, every answer and every lent byte compared
 //! compare house PROGRAM [SEED [COUNT]]    generated sheets, what the program prints for each compared
+//! compare count [SEED [COUNT]]            generated sheets of many rounds, the count of rounds and the table compared
+//! compare count-files FILE..              the same for given sheets, with a line for each
 //! compare expected DIR                    the answers that the papers ask for the trial files DIR/001.csv, 002.csv, ..
-//! compare selftest [SEED [COUNT]]         the model's two solvers against each other, and forms against sheets, on tiny sheets
+//! compare selftest [SEED [COUNT]]         the model's solvers against each other, and forms against sheets, on tiny sheets
 //!
 //! In standalone builds also:
 //! compare faults [SEED [COUNT]]           that the comparison notices each wrong program of faults.rs
 //! compare house-faults [SEED [COUNT]]     that `house` notices each wrong program of faults.rs that prints house forms
 //! compare house-standin [FAULT]           the model as such a program, or one of the wrong ones
+//! compare count-faults [SEED [COUNT]]     that `count` notices each wrong program of leaps.rs
 //!
-//! Build: rustc --edition 2021 -O -o compare main.rs -L native=DIR   (DIR has libopening.a)
+//! Build: rustc --edition 2021 -O -o compare main.rs -L native=DIR   (DIR has libopening.a and libtally.a)
 //!    or: rustc --edition 2021 -O -o compare main.rs --cfg standalone
 
 #[cfg(standalone)]
 mod faults;
 mod gen;
 mod house;
+#[cfg(standalone)]
+mod leaps;
 mod library;
+mod long;
 mod model;
+mod rounds;
+mod tally;
 
 use gen::Rng;
 use library::Library;
@@ -33,12 +41,20 @@ const SEED: u64 = 1;
 const COUNT: u64 = 20_000;
 const TINY_COUNT: u64 = 5_000;
 const HOUSE_COUNT: u64 = 2_000;
+const LONG_COUNT: u64 = 400;
+/// So many rounds are few.
+const FEW_ROUNDS: u32 = 300;
+
+const USAGE: &str = "usage: compare [SEED [COUNT]] | house PROGRAM [SEED [COUNT]] | count [SEED [COUNT]] | count-files FILE.. | \
+    expected DIR | selftest [SEED [COUNT]]";
 
 fn main() {
     let arguments: Vec<String> = std::env::args().skip(1).collect();
     let words: Vec<&str> = arguments.iter().map(String::as_str).collect();
     match words[..] {
         ["house", program, ref numbers @ ..] => house::compare(program, number(numbers, 0, SEED), number(numbers, 1, HOUSE_COUNT)),
+        ["count", ref numbers @ ..] => tally::compare(number(numbers, 0, SEED), number(numbers, 1, LONG_COUNT)),
+        ["count-files", ref paths @ ..] if !paths.is_empty() => tally::compare_files(paths),
         ["expected", directory] => print(&expected(directory)),
         ["selftest", ref numbers @ ..] => selftest(number(numbers, 0, SEED), number(numbers, 1, TINY_COUNT)),
         #[cfg(standalone)]
@@ -49,6 +65,8 @@ fn main() {
         ["house-standin"] => house_standin(model::house),
         #[cfg(standalone)]
         ["house-standin", name] => house_standin(house_fault(name)),
+        #[cfg(standalone)]
+        ["count-faults", ref numbers @ ..] => notice_count_faults(number(numbers, 0, SEED), number(numbers, 1, LONG_COUNT)),
         ref numbers => compare(number(numbers, 0, SEED), number(numbers, 1, COUNT)),
     }
 }
@@ -57,7 +75,7 @@ fn number(words: &[&str], place: usize, otherwise: u64) -> u64 {
     match words.get(place).map(|word| word.parse()) {
         None => otherwise,
         Some(Ok(number)) if words.len() <= 2 => number,
-        Some(_) => fail(2, "usage: compare [SEED [COUNT]] | house PROGRAM [SEED [COUNT]] | expected DIR | selftest [SEED [COUNT]]"),
+        Some(_) => fail(2, USAGE),
     }
 }
 
@@ -320,7 +338,8 @@ fn judge_kind(outcome: &Result<Verdict, Refusal>) -> String {
 
 // ---------------------------------------------------------------- selftest and faults
 
-/// Raising and searching agree on tiny sheets, and so do a sheet and its house form, and its forms and those of another typing.
+/// Raising, searching and rounds agree on tiny sheets, and so do a sheet and its house form, and its forms and those of another typing;
+/// raising and rounds agree on other sheets of few rounds.
 fn selftest(seed: u64, cases: u64) {
     let mut counts = Counts::new();
     for seed in seed..seed + cases {
@@ -331,7 +350,8 @@ fn selftest(seed: u64, cases: u64) {
             println!("raised {raised:?}\nfound {found:?}\n{}again: compare selftest {seed} 1", sheet.escape_ascii());
             exit(1);
         }
-        if let Err(words) = selftest_house(&sheet, &net, seed) {
+        let alike_otherwise = selftest_house(&sheet, &net, seed).and_then(|_| selftest_rounds(&sheet));
+        if let Err(words) = alike_otherwise.and_then(|_| selftest_rounds(&gen::sheet(&mut Rng::new(seed)))) {
             println!("{words}\n{}again: compare selftest {seed} 1", text_of(&sheet));
             exit(1);
         }
@@ -341,7 +361,20 @@ fn selftest(seed: u64, cases: u64) {
     for (kind, count) in &counts {
         println!("{count:>8}  {kind}");
     }
-    println!("{cases} tiny sheets from seed {seed}: raising and searching agree, sheets and house forms too");
+    println!("{cases} tiny sheets from seed {seed}: raising, searching and rounds agree, sheets and house forms too");
+}
+
+/// Rounds in arrays, rounds by the paper's words and raising, where a sheet is accepted and takes few rounds. The count "is at most
+/// C × H + 1, with C the happening cells other than the start's".
+fn selftest_rounds(sheet: &[u8]) -> Result<(), String> {
+    let Ok(net) = model::read(sheet) else { return Ok(()) };
+    let Some(run) = rounds::run_within(&net, FEW_ROUNDS) else { return Ok(()) };
+    let (by_words, raised) = (model::solve_by_rounds(&net), model::solve(&net));
+    if (run.count, &run.table) != (by_words.0, &by_words.1) || run.table != raised {
+        return Err(format!("in arrays {run:?}\nby words {by_words:?}\nraised {raised:?}\n{}", text_of(sheet)));
+    }
+    let most = (net.cells() - net.cases()) as i64 * net.horizon + 1;
+    if i64::from(run.count) > most { Err(format!("{} rounds, more than {most}\n{}", run.count, text_of(sheet))) } else { Ok(()) }
 }
 
 /// "The form reads back to the same good tables, and a second pass changes no byte"; points 1 and 2 have all that may differ.
@@ -396,6 +429,26 @@ fn notice_house_faults(seed: u64, sheets: u64) {
         missed += u32::from(noticed.is_none());
     }
     println!("{} wrong programs, {missed} missed", faults::HOUSE_FAULTS.len());
+    exit(if missed == 0 { 0 } else { 1 });
+}
+
+/// Each wrong program that passes over rounds is noticed within so many sheets, and the right one that they are made from is right.
+#[cfg(standalone)]
+fn notice_count_faults(seed: u64, sheets: u64) {
+    match tally::compare_sheets(&library::TALLY, seed, sheets) {
+        Ok(seen) => println!("without a fault: {}", seen.words()),
+        Err((_, words)) => fail(1, &words),
+    }
+    let mut missed = 0;
+    for (name, fault) in &leaps::COUNT_FAULTS {
+        let noticed = tally::compare_sheets(fault, seed, sheets).err();
+        match &noticed {
+            Some((place, _)) => println!("{place:>8}  {name}"),
+            None => println!("  missed  {name}"),
+        }
+        missed += u32::from(noticed.is_none());
+    }
+    println!("{} wrong programs, {missed} missed", leaps::COUNT_FAULTS.len());
     exit(if missed == 0 { 0 } else { 1 });
 }
 

@@ -1,4 +1,4 @@
-//! Document 01, and points 1 and 2 of document 02, in plain Rust, written from the papers alone.
+//! Document 01, and points 1, 2 and 8 of document 02, in plain Rust, written from the papers alone.
 //!
 //! Nothing here is fast or clever on purpose: each function renders one rule of the paper, and its comment says which.
 //! Quoted words are those of the papers. "Readings" means READINGS.md.
@@ -597,6 +597,55 @@ impl Search<'_> {
             Some(least) => least.iter_mut().zip(&self.table).for_each(|(least, &minute)| *least = (*least).min(minute)),
         }
     }
+}
+
+// ---------------------------------------------------------------- The least good table, by rounds
+
+/// Document 02, point 8, for short runs: the count of rounds, which "includes the round that raised nothing or passed a limit (the horizon,
+/// or 0 for the start)", and the least good table, or nothing if there is no good table. `rounds.rs` has the same for long runs.
+pub fn solve_by_rounds(net: &Net) -> (u32, Option<Vec<u16>>) {
+    let limit = |cell: usize| if cell % net.events.len() == 0 { 0 } else { net.horizon };
+    let mut before = vec![0; net.cells()];
+    for count in 1.. {
+        let after = round(net, &before);
+        if (0..net.cells()).any(|cell| after[cell] > limit(cell)) {
+            return (count, None);
+        }
+        if after == before {
+            return (count, Some(after.iter().map(|&minute| minute as u16).collect()));
+        }
+        before = after;
+    }
+    unreachable!()
+}
+
+/// "each cell takes the greatest of its own value and each bound that rules, signals (by the hyperarcs ..) .. set from the table before the
+/// round". There are no reactions and no label waits yet.
+fn round(net: &Net, before: &[i64]) -> Vec<i64> {
+    let bounds = |case: usize, event: usize| [by_rules(net, before, case, event), by_signals(net, before, case, event)].concat();
+    let raised = |cell: usize| bounds(cell / net.events.len(), cell % net.events.len()).into_iter().fold(before[cell], i64::max);
+    (0..net.cells()).map(raised).collect()
+}
+
+fn by_rules(net: &Net, before: &[i64], case: usize, event: usize) -> Vec<i64> {
+    let mut bounds = vec![];
+    for rule in net.rules.iter().filter(|rule| agrees(rule, case)) {
+        if rule.kind != Kind::Min && rule.from == event {
+            bounds.push(before[net.cell(case, rule.to)] - rule.limit);
+        }
+        if rule.kind != Kind::Max && rule.to == event {
+            bounds.push(before[net.cell(case, rule.from)] + rule.limit);
+        }
+    }
+    bounds
+}
+
+/// "the lesser of the other case's minute and one more than the earliest differing signal in its own case", for each other case.
+fn by_signals(net: &Net, before: &[i64], s: usize, u: usize) -> Vec<i64> {
+    let given = |signal: usize| before[net.cell(s, net.signals[signal].event)];
+    let differing = |r: usize| (0..net.signals.len()).filter(move |&signal| truth(s, signal) != truth(r, signal));
+    let bound = |r: usize| before[net.cell(r, u)].min(differing(r).map(given).min().unwrap() + 1);
+    (0..net.cases()).filter(|&r| r != s).map(bound).collect()
 }
 
 // ---------------------------------------------------------------- The listing

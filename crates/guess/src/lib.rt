@@ -12,7 +12,7 @@ pub struct Watching {
     pub window: u32,
     pub marked: bool,
     pub keep: bool,
-    pub tries: u32,
+    pub leaps: bool,
 }
 
 enum Sight {
@@ -28,7 +28,7 @@ pub fn first_watch() -> Watching {
         window: 32,
         marked: false,
         keep: false,
-        tries: 0,
+        leaps: false,
     }
 }
 
@@ -44,18 +44,6 @@ fn alike(mark: &[u16; 256], before: &[u16; 256], after: &[u16; 256], cells: usiz
         i += 1;
     }
     true
-}
-
-// How far a round raised.
-fn remember(mark: &mut [u16; 256], before: &[u16; 256], after: &[u16; 256], cells: usize)
-    requires { ⌜ (cells ≤ 256) × (length (now mark) ≡ 256) ⌝ }
-    ensures { λ _. ⌜ length (now (mark .exit)) ≡ 256 ⌝ }
-{
-    let mut i: usize = 0;
-    while i < cells {
-        mark[i] = std::num::wrapping_sub_u16(after[i], before[i]);
-        i += 1;
-    }
 }
 
 fn look(
@@ -84,16 +72,9 @@ fn look(
     Sight::Nothing
 }
 
-// One try, and one more for each time that p rounds are an eighth of those made; none where they are more.
-fn tries_of(rounds: u32, p: u32) -> u32 {
-    if p == 0 {
-        return 0;
-    }
-    let shares = rounds / 8 / p;
-    if shares == 0 {
-        return 0;
-    }
-    std::num::wrapping_add_u32(shares, 1)
+// Whether a period is short enough to be tested: at most a sixth of the rounds made.
+fn is_short(p: u32, rounds: u32) -> bool {
+    0 < p && p <= rounds / 6
 }
 
 fn doubled(window: u32, marked: bool) -> u32 {
@@ -124,26 +105,26 @@ pub fn watch(
             window: w.window,
             marked: w.marked,
             keep: false,
-            tries: 0,
+            leaps: false,
         },
         Sight::Again => {
-            let tries = tries_of(rounds, age);
+            let leaps = is_short(age, rounds);
             Watching {
                 from: w.from,
                 window: w.window,
                 marked: true,
-                keep: tries == 0,
-                tries: tries,
+                keep: !leaps,
+                leaps: leaps,
             }
         }
         Sight::Mark => {
-            remember(mark, before, after, cells);
+            moves::rise(before, after, mark, cells);
             Watching {
                 from: w.from,
                 window: doubled(w.window, w.marked),
                 marked: true,
                 keep: true,
-                tries: 0,
+                leaps: false,
             }
         }
     }
@@ -151,19 +132,84 @@ pub fn watch(
 
 // The watch after tries that passed over so many rounds: after none not soon.
 pub fn after_tries(w: Watching, turns: u32, made: u32) -> Watching {
-    if w.tries == 0 {
+    if !w.leaps {
         return w;
     }
     let mut from = turns;
     if made == 0 {
-        from = std::num::wrapping_add_u32(turns, turns);
+        from = std::num::wrapping_add_u32(turns, turns / 2);
     }
     Watching {
         from: from,
         window: 32,
         marked: false,
         keep: false,
-        tries: 0,
+        leaps: false,
+    }
+}
+
+// Which counts of moves are tried: first the most that the horizon allows; if that is too many, few, and twice as many as long as they hold;
+// then half as many each time.
+pub struct Counts {
+    pub j: u32,
+    pub first: bool,
+    pub up: bool,
+}
+
+pub fn first_count(most: u32) -> Counts
+    requires { ⌜ most ≤ 10080 ⌝ }
+    ensures { λ r. ⌜ r .j ≤ 10080 ⌝ }
+{
+    Counts {
+        j: most,
+        first: true,
+        up: false,
+    }
+}
+
+// Few, and at most half as many.
+fn few(j: u32) -> u32
+    ensures { λ r. ⌜ r ≤ 10080 ⌝ }
+{
+    if j < 8 {
+        return j / 2;
+    }
+    4
+}
+
+// Twice as many, at most the longest horizon.
+fn twice(j: u32) -> u32
+    ensures { λ r. ⌜ r ≤ 10080 ⌝ }
+{
+    if 5040 < j {
+        return 10080;
+    }
+    2 * j
+}
+
+// The next count, after one that held or did not.
+pub fn next_count(c: Counts, held: bool) -> Counts
+    requires { ⌜ c .j ≤ 10080 ⌝ }
+    ensures { λ r. ⌜ r .j ≤ 10080 ⌝ }
+{
+    if c.first && !held {
+        return Counts {
+            j: few(c.j),
+            first: false,
+            up: true,
+        };
+    }
+    if c.up && held {
+        return Counts {
+            j: twice(c.j),
+            first: false,
+            up: true,
+        };
+    }
+    Counts {
+        j: c.j / 2,
+        first: false,
+        up: false,
     }
 }
 
@@ -297,7 +343,7 @@ pub fn follow(
         moves::copy(after, since, cells);
         return counted(w, 1, turns);
     }
-    if w.rises <= w.want {
+    if w.rises < w.want {
         return counted(w, std::num::wrapping_add_u32(w.rises, 1), w.start);
     }
     tell(w, turns, after, cells)

@@ -1,21 +1,17 @@
 -- What holds of a table's cells holds of the strategy that it holds. Assumes nothing.
-use mathlib.Core.Path.{_≡_, refl, sym, _∙_}
+use mathlib.Core.Path.{_≡_, sym, _∙_}
 use mathlib.Core.Logic.{inl, inr}
-use mathlib.Core.Bool.{Bool, true, false, cond}
+use mathlib.Core.Bool.{true}
 use mathlib.Core.List.{List}
 use Prim.Native.Nat.{ℕ, _+_, _*_, _%_, _≤_, _<_}
 use native.Mathlib.Nat.{mul-mod-left, add-zero}
 use native.Mathlib.Omega.{arith}
-use borrow.Author.Tests.{eqb-true}
-use lib.Dec.{eqb}
 use lib.ListN.{length, getD}
 use lib.Seq.{ext-getD}
 use Rattle.prelude.proofs.Tests.{lt-or-ge}
-use Rattle.prelude.proofs.Bounded.{getD-tabulate}
-use Rattle.prelude.proofs.Cells.{by-cell, cell-lt, cell-of, column-of}
+use Rattle.prelude.proofs.Cells.{by-cell, cell-lt, cell-of}
 use Rattle.fixpoint.specs.Run.{within}
 use Rattle.fixpoint.specs.Straight.{moved}
-use Rattle.fixpoint.proofs.Within.{within-by}
 use Rattle.fixpoint.proofs.Moved.{length-moved, moved-at}
 use Rattle.network.specs.Build.{scenarios, cells}
 use Rattle.network.specs.declared.Network.{Network}
@@ -23,7 +19,7 @@ use Rattle.rows.specs.Rows.{Times}
 use Rattle.rows.proofs.Packed.{length-packed, packed-at}
 use Rattle.rounds.specs.Cap.{cap}
 use Rattle.rounds.specs.Rounds.{held}
-use Rattle.rounds.proofs.Ends.{length-cap}
+use Rattle.rounds.proofs.Cap.{within-cap}
 use Rattle.moves.specs.Moves.{partOf, Placed}
 use Rattle.moves.specs.Levels.{Some}
 
@@ -32,10 +28,6 @@ pub cell-few : {n c : ℕ} {e : List ℕ} → Times n c e → c ≤ 16 → (i : 
 cell-few {n} {c} {e} E h i l =
     let w = cell-of 16 c i (omega arith) in
     rw (w .place) (E .few (w .row) (w .column) (w .row-lt) (w .column-lt))
-
-cond-limit : (b : Bool) (x h : ℕ) → (b ≡ true → x ≡ 0) → x ≤ h → x ≤ cond b 0 h
-cond-limit true x h z l = omega (arith, z refl)
-cond-limit false x h z l = l
 
 module _ (Γ : Network) (few : Γ .events ≤ 16) where
   pub held-at : (t : List ℕ) (s u : ℕ) → s < scenarios Γ → u < Γ .events
@@ -87,20 +79,14 @@ module _ (Γ : Network) (few : Γ .events ≤ 16) where
   -- and is within the limits
   pub placed-within : {t d o : List ℕ} {lo hi j : ℕ} → Placed t d lo hi j (Γ .horizon) (scenarios Γ * 16) o
       → within (cap Γ) (held Γ o) ≡ true
-  placed-within {o = o} P =
-      within-by (cap Γ) (held Γ o) (λ i b.
-      by-cell (Γ .events) (scenarios Γ) (λ i. getD (held Γ o) i 0 ≤ getD (cap Γ) i 0)
-      (λ s u hs hu.
-      let limit = getD-tabulate (λ i. cond (eqb (i % Γ .events) 0) 0 (Γ .horizon)) (cells Γ) (s * Γ .events + u) 0
-      (cell-lt (Γ .events) (scenarios Γ) s u hs hu) in
+  placed-within {o = o} P = within-cap Γ (held Γ o) (λ s u hs hu.
       let inside : s * 16 + u < scenarios Γ * 16 = omega arith in
-      rw (limit, held-at o s u hs hu, column-of (Γ .events) s u hu)
-      (cond-limit (eqb u 0) (getD o (s * 16 + u) 0) (Γ .horizon)
-      (λ z.
-      let row : (s * 16 + u) % 16 ≡ 0 = rw (eqb-true u 0 z, add-zero) (mul-mod-left s 16) in
-      P .origin (s * 16 + u) inside row)
-      (P .low (s * 16 + u) inside)))
-      i (omega (arith, length-cap Γ)))
+      let here = held-at o s u hs hu in (
+        rw here (P .low (s * 16 + u) inside),
+        λ z.
+            let row : (s * 16 + u) % 16 ≡ 0 = rw (z, add-zero) (mul-mod-left s 16) in
+            here ∙ P .origin (s * 16 + u) inside row,
+      ))
 
   -- where some rise of the table is not 0, some rise of the strategy is not
   pub some-cell : {d : List ℕ} → Times (Γ .events) (scenarios Γ) d → Some d (scenarios Γ * 16)

@@ -1,12 +1,11 @@
 -- Where rounds from tables lead: none, some after others, one, and p from a table that is placed. Assumes nothing.
-use mathlib.Core.Path.{_≡_, refl, sym, _∙_, ap}
+use mathlib.Core.Path.{_≡_, refl, _∙_, ap}
 use mathlib.Core.List.{List}
-use Prim.Native.Nat.{ℕ, _+_, _*_, _≤_, _<_}
+use Prim.Native.Nat.{ℕ, _+_, _*_, _≤_}
 use native.Mathlib.Omega.{arith}
 use lib.ListN.{length, getD}
 use Rattle.fixpoint.specs.Near.{iterate}
 use Rattle.fixpoint.specs.Straight.{moved}
-use Rattle.fixpoint.specs.Leads.{Leads}
 use Rattle.fixpoint.proofs.Moved.{moved-ext}
 use Rattle.fixpoint.proofs.Leads.{leads-none, leads-join}
 use Rattle.network.specs.Build.{scenarios}

@@ -1,10 +1,10 @@
 -- The tests of `at_most` and `at_least` are those of the definitions: at a level between by a table that is made for
 -- it, at the lowest and the highest by tables that are there already. Assumes nothing.
-use mathlib.Core.Path.{_≡_, refl, sym, _∙_, ap}
+use mathlib.Core.Path.{_≡_, sym, _∙_, ap}
 use mathlib.Core.List.{List}
 use Prim.Native.Nat.{ℕ, _+_, _-_, _*_, _≤_, _<_, min}
 use native.Mathlib.Omega.{arith}
-use lib.ListN.{length, getD}
+use lib.ListN.{getD}
 use Rattle.fixpoint.specs.Near.{iterate}
 use Rattle.fixpoint.specs.Straight.{moved, AtMost, AtLeast}
 use Rattle.fixpoint.proofs.Moved.{moved-ext, moved-still}

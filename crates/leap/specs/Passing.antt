@@ -14,7 +14,7 @@ use Rattle.rounds.specs.Compiled.{Compiled}
 use Rattle.rounds.specs.Rounds.{held}
 
 module _ (frame : Frame) (counts lists : List ℕ) where
-  -- the rounds from low pass a limit in round q, and those from high not before it
+  -- the rounds from low have passed a limit by round q, and those from high not before it if high is within the limits
   pub record Closing (low high : List ℕ) (q : ℕ) : Type 0 where
     pub out : (Γ : Network) → Compiled Γ frame counts lists → within (cap Γ)
         (iterate q (propagate Γ) (held Γ low)) ≡ false

@@ -1,6 +1,6 @@
 // The end of a run that passes a limit, seen from its fastest times: the others need no period, only bounds.
 ghost use mathlib.Core.Path.{_≡_};
-ghost use Prim.Native.Nat.{ℕ, _+_, _*_, _≤_, _<_};
+ghost use Prim.Native.Nat.{_+_, _*_, _≤_, _<_};
 ghost use lib.ListN.{length};
 ghost use Rattle.rows.specs.Rows.{Times};
 ghost use Rattle.rounds.specs.Compiled.{Usable};
@@ -25,6 +25,7 @@ fn closing(
         × (0 < r → Closing frame (now (counts .entry)) (now (lists .entry)) (now (low .entry))
         (now (high .entry)) r) ⌝ }
 {
+    let cells = frame.scenarios * 16;
     let mut b: [u16; 256] = [0; 256];
     let mut q: u32 = 0;
     while q < most {
@@ -34,13 +35,13 @@ fn closing(
             Outcome::Rests => return 0,
             Outcome::Rises => {}
         }
-        *low = b;
+        moves::copy(&b, low, cells);
         match rounds::round(high, &mut b, frame, counts, lists) {
             Outcome::Passes => return 0,
             Outcome::Rests => return 0,
             Outcome::Rises => {}
         }
-        *high = b;
+        moves::copy(&b, high, cells);
     }
     0
 }
@@ -117,6 +118,7 @@ fn finish(
     ensures { λ r. ⌜ (r ≤ left) ×
         (0 < r → Passing frame (now (counts .entry)) (now (lists .entry)) r (now (a .entry))) ⌝ }
 {
+    // a longer period is not worth its test
     if 65535 < p {
         return 0;
     }
@@ -133,6 +135,7 @@ fn finish(
     let mut lower: [u16; 256] = [0; 256];
     moves::clip(&d, top, 0, &mut lower, cells);
     let j = guess::most(a, &lower, frame.horizon, p, left, cells);
+    // fewer moves are not worth their test
     if j < 8 {
         return 0;
     }

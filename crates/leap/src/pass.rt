@@ -1,7 +1,6 @@
 // The leap: rounds passed over at once, if p of them are seen to add the same rises again and again.
 ghost use mathlib.Core.Path.{_≡_};
-ghost use Prim.Native.Nat.{ℕ, _+_, _*_, _≤_, _<_};
-ghost use lib.ListN.{length};
+ghost use Prim.Native.Nat.{_+_, _*_, _≤_, _<_};
 ghost use Rattle.rows.specs.Rows.{Times};
 ghost use Rattle.rounds.specs.Compiled.{Usable};
 ghost use Rattle.moves.specs.Levels.{Some};
@@ -69,13 +68,12 @@ fn hop(
     made
 }
 
-// Takes a, from which p rounds lead to x, and x with it on by rounds that all raise within the limits: how many, of
-// those that are left. So many counts of moves are tried, each half the one before.
+// Takes a, from which p rounds lead to x, and x with it on by rounds that all raise within the limits: how many, of those
+// that are left. No more counts of moves are tried than the halves and doubles of a horizon.
 fn pass_over(
     a: &mut [u16; 256],
     x: &mut [u16; 256],
     p: u32,
-    tries: u32,
     left: u32,
     frame: Frame,
     counts: &[usize; 16],
@@ -87,6 +85,7 @@ fn pass_over(
         (now (a .exit))
         × Advanced frame (now (counts .entry)) (now (lists .entry)) p (now (a .exit)) (now (x .exit)) ⌝ }
 {
+    // a longer period is not worth its test
     if 65535 < p {
         return 0;
     }
@@ -96,26 +95,29 @@ fn pass_over(
     if moves::next_level(&d, 0, cells) == 0 {
         return 0;
     }
-    let mut j = guess::most(a, &d, frame.horizon, p, left, cells);
+    let mut c = guess::first_count(guess::most(a, &d, frame.horizon, p, left, cells));
     let mut made: u32 = 0;
     let mut tried: u32 = 0;
-    while tried < tries {
+    while tried < 64 {
+        let j = c.j;
+        // fewer moves are not worth their test
         if j < 4 {
             return made;
         }
-        made += hop(a, x, &d, j, p, left - made, frame, counts, lists);
-        j = j / 2;
+        let more = hop(a, x, &d, j, p, left - made, frame, counts, lists);
+        made += more;
+        c = guess::next_count(c, 0 < more);
         tried += 1;
     }
     made
 }
 
-// The same, where anything is to be tried.
+// The same, where it is to be tried.
 pub fn pass_over_if(
+    leaps: bool,
     a: &mut [u16; 256],
     x: &mut [u16; 256],
     p: u32,
-    tries: u32,
     left: u32,
     frame: Frame,
     counts: &[usize; 16],
@@ -127,8 +129,8 @@ pub fn pass_over_if(
         (now (a .exit))
         × Advanced frame (now (counts .entry)) (now (lists .entry)) p (now (a .exit)) (now (x .exit)) ⌝ }
 {
-    if tries == 0 {
+    if !leaps {
         return 0;
     }
-    pass_over(a, x, p, tries, left, frame, counts, lists)
+    pass_over(a, x, p, left, frame, counts, lists)
 }

@@ -1,8 +1,9 @@
-// Whether p rounds add the rises d to a table, and j times again, or at most, or at least d: by rounds from tables
-// far on.
+// Whether p rounds add the rises d to a table, and j times again, or at most d, or at least d: by rounds from tables far
+// on. Each test says true only where it is so; where it says false nothing is known. 200,000,000 is over every time j
+// moves on.
 ghost use mathlib.Core.Path.{_≡_};
 ghost use mathlib.Core.Bool.{true};
-ghost use Prim.Native.Nat.{ℕ, _+_, _*_, _≤_, _<_};
+ghost use Prim.Native.Nat.{_+_, _*_, _≤_, _<_};
 ghost use lib.ListN.{length};
 ghost use Rattle.fixpoint.specs.Near.{iterate};
 ghost use Rattle.fixpoint.specs.Straight.{AtMost, AtLeast};
@@ -28,6 +29,7 @@ pub fn advance(
     ensures { λ r. ⌜ (length (now (a .exit)) ≡ 256)
         × (r ≡ true → Advanced frame (now (counts .entry)) (now (lists .entry)) p (now (a .entry)) (now (a .exit))) ⌝ }
 {
+    let cells = frame.scenarios * 16;
     let mut b: [u16; 256] = [0; 256];
     let mut i: u32 = 0;
     while i < p {
@@ -36,7 +38,7 @@ pub fn advance(
             Outcome::Rests => return false,
             Outcome::Rises => {}
         }
-        *a = b;
+        moves::copy(&b, a, cells);
         i += 1;
     }
     true

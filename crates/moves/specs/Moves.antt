@@ -19,7 +19,7 @@ pub record Between (t d : List ℕ) (l least most : ℕ) (o : List ℕ) (cells :
   pub at : (i : ℕ) → i < cells → getD d i 0 ≡ l
       → (getD t i 0 + least ≤ getD o i 0) × (getD o i 0 ≤ getD t i 0 + most)
 
--- o has rises where d has, and none that a horizon does not allow if d has none
+-- o has rises only where d has, and none that a horizon does not allow where d's is none such
 pub record Clipped (d : List ℕ) (cells : ℕ) (o : List ℕ) : Type 0 where
   pub sized : length o ≡ 256
   pub low : (i : ℕ) → i < cells → getD d i 0 ≤ 10080 → getD o i 0 ≤ 10080

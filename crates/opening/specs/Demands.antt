@@ -17,7 +17,6 @@ use Rattle.network.specs.Least as L
 use Rattle.network.specs.declared.Network.{Network}
 use Rattle.sheet.specs.Reading.{read}
 use Rattle.sheet.specs.declared.Outcome.the-variants.{Accepted, Refused}
-use Rattle.sheet.specs.declared.Reading.{Reading}
 use Rattle.layout.specs.Layout.{Layout}
 use Rattle.checker.specs.Verdict.{verdict}
 use Rattle.checker.specs.First.{First}
@@ -25,7 +24,7 @@ use Rattle.checker.specs.declared.Breach.{Breach}
 use Rattle.checker.specs.declared.Verdict.the-variants.{Pass, Breach as Breached}
 use Rattle.rounds.specs.Hyperarcs.{Dynamic, Hyperarcs}
 use Rattle.solver.specs.Solve.{solve}
-use Rattle.opening.specs.Calls.{withoutLine, countsOf, summary, SummaryValues, noCounts, summaryValues, judgement, Left, solving, listed}
+use Rattle.opening.specs.Calls.{withoutLine, countsOf, summary, noCounts, summaryValues, judgement, Left, solving, listed}
 use Rattle.opening.specs.Bench.{benchSolving}
 use Rattle.opening.specs.declared.Judgement.the-variants as J
 use Rattle.opening.specs.declared.Written.the-variants as W

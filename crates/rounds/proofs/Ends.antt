@@ -2,22 +2,20 @@
 -- tell the two tests of a run. Assumes nothing.
 use mathlib.Core.Path.{_≡_, sym, _∙_, ap}
 use mathlib.Core.Logic.{_⊎_, inl, inr}
-use mathlib.Core.Bool.{Bool, true, false, cond}
+use mathlib.Core.Bool.{true, false, cond}
 use mathlib.Core.List.{List}
-use Prim.Native.Nat.{ℕ, _+_, _-_, _*_, _%_, _≤_, _<_}
+use Prim.Native.Nat.{ℕ, _+_, _-_, _*_, _≤_, _<_}
 use native.Mathlib.Omega.{arith}
-use borrow.Author.Tests.{ne-eqb}
 use lib.Dec.{eqb}
 use lib.ListN.{length, getD}
 use lib.Seq.{ext-getD}
 use Rattle.prelude.specs.Bounded.{maxBelow}
 use Rattle.prelude.specs.Bytes.{same}
-use Rattle.prelude.proofs.Tests.{lt-or-ge, eq-or-ne, false-of-not-true}
-use Rattle.prelude.proofs.Bounded.{le-maxBelow, maxBelow-le, length-tabulate, getD-tabulate}
+use Rattle.prelude.proofs.Tests.{lt-or-ge, false-of-not-true}
+use Rattle.prelude.proofs.Bounded.{le-maxBelow, maxBelow-le}
 use Rattle.prelude.proofs.Bytes.{same-true, same-of-eq}
-use Rattle.prelude.proofs.Cells.{cell-lt, column-of, by-cell}
+use Rattle.prelude.proofs.Cells.{by-cell}
 use Rattle.fixpoint.specs.Run.{within}
-use Rattle.fixpoint.proofs.Within.{within-at, within-by}
 use Rattle.network.specs.Build.{scenarios, cells}
 use Rattle.network.specs.declared.Network.{Network}
 use Rattle.rows.specs.declared.Frame.{Frame}
@@ -32,20 +30,7 @@ use Rattle.rounds.specs.Rounds.{outcomeOf, Rounded}
 use Rattle.rounds.proofs.Rounding.{Rounding, greatest, le-greatest, greatest-le}
 use Rattle.rounds.proofs.Raised.{raised-is, raised-beyond}
 use Rattle.rounds.proofs.Rising.{length-propagate, time-propagate}
-
-module _ (Γ : Network) where
-  pub length-cap : length (cap Γ) ≡ cells Γ
-  length-cap = length-tabulate (λ i. cond (eqb (i % Γ .events) 0) 0 (Γ .horizon)) (cells Γ)
-
-  cap-at : (s u : ℕ) → s < scenarios Γ → u < Γ .events → getD (cap Γ) (s * Γ .events + u) 0 ≡ cond (eqb u 0) 0 (Γ .horizon)
-  cap-at s u h l =
-      getD-tabulate (λ i. cond (eqb (i % Γ .events) 0) 0 (Γ .horizon)) (cells Γ) (s * Γ .events + u) 0
-      (cell-lt (Γ .events) (scenarios Γ) s u h l)
-      ∙ rw (column-of (Γ .events) s u l)
-
-cond-le : (b : Bool) (h : ℕ) → cond b 0 h ≤ h
-cond-le true h = omega arith
-cond-le false h = omega arith
+use Rattle.rounds.proofs.Cap.{cond-few, within-cap, cap-within}
 
 module _ {Γ : Network} {frame : Frame} {counts lists t new climb highest : List ℕ} (C : Compiled Γ frame counts lists)
     (T : Times (Γ .events) (scenarios Γ) t)
@@ -88,32 +73,21 @@ module _ {Γ : Network} {frame : Frame} {counts lists t new climb highest : List
   origin-is = R .highest-is .is 0 (omega arith)
 
   within-is : greatest highest ≤ Γ .horizon → getD highest 0 0 ≤ 0 → within (cap Γ) (propagate Γ σ) ≡ true
-  within-is p q =
-      within-by (cap Γ) (propagate Γ σ) (λ i b.
-      by-cell (Γ .events) (scenarios Γ) (λ k. getD (propagate Γ σ) k 0 ≤ getD (cap Γ) k 0)
-      (λ s u h l.
-      rw (made-at s u h l, cap-at Γ s u h l) (elim (eq-or-ne u 0) [
-        | inl z ↦ rw z (omega (arith, origin-is, le-maxBelow (λ r. made r 0) (scenarios Γ) s h))
-        | inr z ↦
-            rw (ne-eqb u 0 z) (omega (arith, le-greatest _ _ (R .highest-is) s u h (omega (arith, sixteen-events))))
-      ]))
-      i (omega (arith, length-cap Γ)))
+  within-is p q = within-cap Γ (propagate Γ σ) (λ s u h l. (
+    omega (arith, made-at s u h l, le-greatest _ _ (R .highest-is) s u h (omega (arith, sixteen-events))),
+    λ z.
+        let start : made s u ≤ 0 = rw z (omega (arith, origin-is, le-maxBelow (λ r. made r 0) (scenarios Γ) s h)) in
+        omega (arith, made-at s u h l),
+  ))
 
   limit-of : within (cap Γ) (propagate Γ σ) ≡ true → (s u : ℕ) → s < scenarios Γ → u < Γ .events → made s u ≤ cond (eqb u 0) 0 (Γ .horizon)
-  limit-of e s u h l =
-      omega (
-        arith,
-        within-at (cap Γ) (propagate Γ σ) e (s * Γ .events + u)
-            (omega (arith, length-cap Γ, cell-lt (Γ .events) (scenarios Γ) s u h l)),
-        made-at s u h l,
-        cap-at Γ s u h l,
-      )
+  limit-of e s u h l = omega (arith, cap-within Γ (propagate Γ σ) e s u h l, made-at s u h l)
 
   highest-of : within (cap Γ) (propagate Γ σ) ≡ true → greatest highest ≤ Γ .horizon
   highest-of e =
       greatest-le _ _ (R .highest-is) (Γ .horizon)
       (all-cells (λ s u. made s u ≤ Γ .horizon)
-      (λ s u h l. omega (arith, limit-of e s u h l, cond-le (eqb u 0) (Γ .horizon)))
+      (λ s u h l. omega (arith, limit-of e s u h l, cond-few (eqb u 0) (Γ .horizon) (Γ .horizon) (omega arith)))
       (λ s u h l m. omega (arith, beyond s u h l m)))
 
   origin-of : within (cap Γ) (propagate Γ σ) ≡ true → getD highest 0 0 ≤ 0

@@ -5,6 +5,7 @@
 pub mod Hyperarcs
 pub mod Bounds
 pub mod Rising
+pub mod Cap
 pub mod Differ
 pub mod Constrained
 pub mod Raise

@@ -21,7 +21,6 @@ use Rattle.network.specs.Constraint.{covers}
 use Rattle.network.specs.Strategy.{time}
 use Rattle.network.specs.Solution.{Holds}
 use Rattle.network.specs.WellFormed.{WellFormed}
-use Rattle.network.specs.declared.Constraint.{Constraint}
 use Rattle.network.specs.declared.Network.{Network}
 use Rattle.rounds.specs.Propagate.{isUpper, isLower, upperBound, lowerBound, leastKnown, hyperarc, raised, propagate}
 use Rattle.rounds.specs.Hyperarcs.{Hyperarcs}

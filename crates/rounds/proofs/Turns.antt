@@ -25,7 +25,7 @@ use Rattle.rounds.specs.Propagate.{propagate}
 use Rattle.rounds.specs.Cap.{cap}
 use Rattle.rounds.specs.Rounds.{held, outcome, outcomeOf, Rounded}
 use Rattle.rounds.proofs.Rising.{rising, nonexpansive}
-use Rattle.rounds.proofs.Ends.{length-cap}
+use Rattle.rounds.proofs.Cap.{length-cap}
 
 -- what an outcome tells of the two tests
 passes-false : (a b : Bool) → Passes ≡ outcome a b → a ≡ false

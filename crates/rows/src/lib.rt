@@ -35,8 +35,8 @@ pub fn frame_of(network: Network) -> Frame
     }
 }
 
-// The larger of two numbers below 32,768. They are compared with a sign: the machine has an instruction for eight such
-// maxima at once, and none for eight without a sign.
+// The larger of two numbers below 32,768. They are compared with a sign: every machine of this kind has an instruction
+// for eight such maxima at once, and not every one has it for eight without a sign.
 pub fn larger(a: u16, b: u16) -> u16
     requires { ⌜ (a ≤ 32767) × (b ≤ 32767) ⌝ }
     ensures { λ r. ⌜ r ≡ max a b ⌝ }

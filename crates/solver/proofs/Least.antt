@@ -1,20 +1,17 @@
 -- Demand 3 on the definitions: the solutions are the prefixpoints of the round within the cap, so a run from all
 -- zeros rests at the least solution, and where it does not rest there is none. Assumes nothing.
 use mathlib.Core.Path.{_≡_, sym, _∙_}
-use mathlib.Core.Bool.{true, cond}
+use mathlib.Core.Bool.{true}
 use mathlib.Core.List.{List}
-use Prim.Native.Nat.{ℕ, _+_, _*_, _%_, _≤_, _<_}
+use Prim.Native.Nat.{ℕ, _≤_, _<_}
 use native.Mathlib.Omega.{arith}
-use borrow.Author.Tests.{eq-eqb, eqb-true}
+use borrow.Author.Tests.{eq-eqb}
 use lib.Dec.{eqb}
-use lib.ListN.{length, getD, length-replicate}
+use lib.ListN.{length-replicate}
 use Rattle.prelude.proofs.Tests.{clash, by-cond}
-use Rattle.prelude.proofs.Bounded.{length-tabulate, getD-tabulate}
-use Rattle.prelude.proofs.Cells.{cell-lt, column-of, by-cell}
 use Rattle.fixpoint.specs.Step.{Prefixpoint}
 use Rattle.fixpoint.specs.Run.{within, Rests}
 use Rattle.fixpoint.proofs.Order.{zeros-below}
-use Rattle.fixpoint.proofs.Within.{within-at, within-by}
 use Rattle.fixpoint.proofs.Run.{Outcome, outcome}
 use Rattle.network.specs.Build.{scenarios, cells}
 use Rattle.network.specs.Strategy.{time}
@@ -26,39 +23,19 @@ use Rattle.rounds.specs.Propagate.{propagate}
 use Rattle.rounds.specs.Cap.{cap}
 use Rattle.solver.specs.Solve.{floor, solve}
 use Rattle.rounds.proofs.Hyperarcs.{hyperarcs-agree}
-use Rattle.rounds.proofs.Rising.{rising, closed-of, viable-of, hyperarcs-of}
+use Rattle.rounds.proofs.Rising.{closed-of, viable-of, hyperarcs-of}
+use Rattle.rounds.proofs.Cap.{length-cap, within-cap, cap-within}
+use Rattle.rounds.proofs.Turns.{step-rises}
 
 module _ (Γ : Network) where
-  -- the limit of a cell: nothing for the origin, and else the horizon
-  abbrev limit : ℕ → ℕ
-  limit i = cond (eqb (i % Γ .events) 0) 0 (Γ .horizon)
-
-  pub length-cap : length (cap Γ) ≡ cells Γ
-  length-cap = length-tabulate limit (cells Γ)
-
-  getD-cap : (s u : ℕ) → s < scenarios Γ → u < Γ .events → getD (cap Γ) (s * Γ .events + u) 0 ≡ cond (eqb u 0) 0
-      (Γ .horizon)
-  getD-cap s u hs hu =
-      getD-tabulate limit (cells Γ) (s * Γ .events + u) 0 (cell-lt (Γ .events) (scenarios Γ) s u hs hu)
-      ∙ rw (column-of (Γ .events) s u hu)
-
   -- point 1 is to be within the cap
   module _ (σ : List ℕ) where
-    limited : (h u m : ℕ) → m ≤ h → (u ≡ 0 → m ≡ 0) → m ≤ cond (eqb u 0) 0 h
-    limited h u m a b = by-cond (λ (z : ℕ). m ≤ z) (eqb u 0) 0 h (λ e. omega (arith, b (eqb-true u 0 e))) (λ _. a)
-
     within-of-on-time : ((s u : ℕ) → s < scenarios Γ → u < Γ .events → OnTime Γ σ s u) → within (cap Γ) σ ≡ true
-    within-of-on-time h = within-by (cap Γ) σ (λ i l.
-        by-cell (Γ .events) (scenarios Γ) (λ i. getD σ i 0 ≤ getD (cap Γ) i 0)
-        (λ s u hs hu. rw (getD-cap s u hs hu)
-        (limited (Γ .horizon) u _ (h s u hs hu .in-horizon) (h s u hs hu .origin)))
-        i (rw length-cap at l))
+    within-of-on-time h = within-cap Γ σ (λ s u hs hu. (h s u hs hu .in-horizon, h s u hs hu .origin))
 
     on-time-of-within : within (cap Γ) σ ≡ true → (s u : ℕ) → s < scenarios Γ → u < Γ .events → OnTime Γ σ s u
     on-time-of-within e s u hs hu =
-        let low : time (Γ .events) σ s u ≤ cond (eqb u 0) 0 (Γ .horizon) =
-        rw (getD-cap s u hs hu) at
-        (within-at (cap Γ) σ e (s * Γ .events + u) (rw length-cap (cell-lt (Γ .events) (scenarios Γ) s u hs hu))) in
+        let low = cap-within Γ σ e s u hs hu in
         record {
           in-horizon = by-cond (λ (z : ℕ). time (Γ .events) σ s u ≤ z → time (Γ .events) σ s u ≤ Γ .horizon)
               (eqb u 0) 0 (Γ .horizon)
@@ -88,10 +65,10 @@ module _ (Γ : Network) where
       dynamic = hyperarcs-agree Γ σ w .1 (hyperarcs-of Γ σ w (p .closed)) .alike;
     }
 
-    ends : Outcome (propagate Γ) (cap Γ) (rw length-cap (rising Γ)) (floor Γ) (solve Γ)
+    ends : Outcome (propagate Γ) (cap Γ) (step-rises Γ) (floor Γ) (solve Γ)
     unfolding solve
-    ends = outcome (propagate Γ) (cap Γ) (rw length-cap (rising Γ)) (floor Γ)
-        (length-replicate (cells Γ) 0 ∙ sym length-cap)
+    ends = outcome (propagate Γ) (cap Γ) (step-rises Γ) (floor Γ)
+        (length-replicate (cells Γ) 0 ∙ sym (length-cap Γ))
 
     -- where the run rests it has the least solution
     pub solve-least : solve Γ .end ≡ Rests → Least Γ (solve Γ .reached)

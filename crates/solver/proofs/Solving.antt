@@ -1,17 +1,14 @@
 -- A run from all zeros with a budget of more than the room below the limits is the solver's. Assumes nothing.
 use mathlib.Core.Path.{_≡_, refl, sym, _∙_, ap}
-use mathlib.Core.Bool.{Bool, true, false, cond}
 use mathlib.Core.List.{List, _++_}
-use Prim.Native.Nat.{ℕ, zero, suc, _+_, _-_, _*_, _%_, _≤_, _<_}
+use Prim.Native.Nat.{ℕ, zero, suc, _+_, _-_, _*_, _≤_, _<_}
 use native.Mathlib.Nat.{mul-le-mul}
 use native.Mathlib.Omega.{arith}
-use lib.Dec.{eqb}
 use lib.ListN.{length, getD, drop, replicate, length-replicate, length-append, length-drop}
 use lib.Seq.{ext-getD}
 use Rattle.prelude.specs.Bounded.{sumBelow}
-use Rattle.prelude.proofs.Bounded.{getD-tabulate}
 use Rattle.prelude.proofs.Cells.{by-cell}
-use Rattle.fixpoint.specs.Run.{room, End, Rests, Passes, Spent, Run}
+use Rattle.fixpoint.specs.Run.{room, End, Rests, Passes, Spent}
 use Rattle.fixpoint.proofs.Budget.{enough}
 use Rattle.network.specs.Build.{scenarios, cells}
 use Rattle.network.specs.WellFormed.{WellFormed}
@@ -24,7 +21,7 @@ use Rattle.bounds.specs.Listed.{Lists}
 use Rattle.rounds.specs.Propagate.{propagate}
 use Rattle.rounds.specs.Cap.{cap}
 use Rattle.rounds.specs.Rounds.{held}
-use Rattle.rounds.proofs.Ends.{length-cap}
+use Rattle.rounds.proofs.Cap.{length-cap, cap-few}
 use Rattle.rounds.proofs.Turns.{length-held, step-rises}
 use Rattle.solver.specs.declared.Solved.the-variants.{Found, Inconsistent}
 use Rattle.solver.specs.declared.Ended.{Ended}
@@ -58,10 +55,6 @@ zero-lists n h = record {
 sumBelow-le : (f : ℕ → ℕ) (n m : ℕ) → ((k : ℕ) → k < n → f k ≤ m) → sumBelow n f ≤ n * m
 sumBelow-le f zero m h = omega arith
 sumBelow-le f (suc n) m h = omega (arith, h n (omega arith), sumBelow-le f n m (λ k l. h k (omega arith)))
-
-cond-few : (b : Bool) (h m : ℕ) → h ≤ m → cond b 0 h ≤ m
-cond-few true h m l = omega arith
-cond-few false h m l = l
 
 -- what an answer tells of the run: any end but rest finds that there is none
 ended-rests : (e : End) (m n k j : ℕ) → ended.Rests k j ≡ endedBy e m n → (e ≡ Rests) × (k ≡ m)
@@ -102,9 +95,7 @@ module _ (Γ : Network) (W : WellFormed Γ) where
       let size : cells Γ ≤ 256 = mul-le-mul (W .events) (sixteen (Γ .signals) (W .signals)) in
       let most : room (cap Γ) (floor Γ) ≤ length (cap Γ) * 10080 =
       sumBelow-le (λ i. getD (cap Γ) i 0 - getD (floor Γ) i 0) (length (cap Γ)) 10080 (λ i l.
-      let at = getD-tabulate (λ j. cond (eqb (j % Γ .events) 0) 0 (Γ .horizon)) (cells Γ) i 0
-      (omega (arith, length-cap Γ)) in
-      omega (arith, at, cond-few (eqb (i % Γ .events) 0) (Γ .horizon) 10080 (W .horizon)))
+      omega (arith, cap-few Γ i (omega (arith, length-cap Γ)), W .horizon))
       in
       omega (arith, most, length-cap Γ, size)
 

@@ -1,7 +1,7 @@
 -- What the loop of `run` keeps, and where it ends: the run from t comes to u after k rounds, and ends there as u's
 -- next rounds say. Assumes nothing.
 use mathlib.Core.Path.{_≡_, refl, sym, _∙_}
-use mathlib.Core.Logic.{inl, inr, ⊎-elim}
+use mathlib.Core.Logic.{⊎-elim}
 use mathlib.Core.List.{List}
 use Prim.Native.Nat.{ℕ, suc, _+_, _-_, _*_, _≤_, _<_}
 use native.Mathlib.Nat.{zero-add}
@@ -23,7 +23,6 @@ use Rattle.rounds.proofs.Turns.{rounded-as, round-passes, round-rests}
 use Rattle.leap.specs.Tables.{Advanced}
 use Rattle.leap.specs.Passing.{Passing}
 use Rattle.leap.proofs.Tables.{advanced-none, advanced-join, advanced-round, advanced-copied, advanced-here}
-use Rattle.solver.specs.declared.Ended.{Ended}
 use Rattle.solver.specs.declared.Ended.the-variants as ended
 use Rattle.solver.specs.Run.{RunIs, Kept}
 

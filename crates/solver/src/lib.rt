@@ -91,12 +91,11 @@ pub fn run(
         v = guess::follow(v, turns, &mut since, a, &b, cells);
         moves::copy(&b, a, cells);
         at = keep(w.keep, a, &mut base, at, rounds, cells);
-        let tries = w.tries;
         let made = leap::pass::pass_over_if(
+            w.leaps,
             &mut base,
             a,
             rounds - at,
-            tries,
             budget - rounds,
             frame,
             counts,

@@ -2,15 +2,10 @@
 // rounds, one after another. Proved safe and ending; what it answers is compared, not proved. (That the run counts as
 // the definition does is proved of it.)
 //
-// An answer's lower four bytes are the rounds. Behind them stands the sum of the table, or all ones where there is
-// none. A sheet that is refused gets 0.
-ghost use mathlib.Core.Path.{_≡_};
-ghost use Prim.Native.Nat.{_+_, _*_, _≤_};
-ghost use lib.ListN.{length};
-ghost use Rattle.network.specs.WellFormed.{WellFormed};
-ghost use Rattle.rows.specs.Rows.{Times};
+// An answer's lower four bytes are the rounds. Behind them stands a sum of the table, or all ones where there is none;
+// `tally_turns` answers with the rounds made one by one. A sheet that is refused gets 0.
+ghost use Prim.Native.Nat.{_+_, _*_};
 ghost use Rattle.rounds.specs.Compiled.{Usable};
-use network::Network;
 use rounds::Outcome;
 use rows::Frame;
 use solver::Ended;
@@ -32,7 +27,7 @@ fn wide(x: u16) -> u32 {
     x as u32
 }
 
-// The sum of the times, and of the sums on the way, so that exchanged times show.
+// The sum of the sums of the times on the way, so that exchanged times show.
 fn sum_of(t: &[u16; 256]) -> u32 {
     let mut one: u32 = 0;
     let mut two: u32 = 0;

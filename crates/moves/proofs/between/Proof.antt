@@ -1,20 +1,16 @@
--- `between` meets its contract: it goes on only past a cell that is between. The invariant: the first i cells of rise
--- l are between. The measure is what is left of the cells. Assumes nothing.
+-- `between` meets its contract: it goes on only past a cell that is between. The invariant: the first i cells of rise l are between. The
+-- measure is what is left of the cells. Assumes nothing.
 use mathlib.Core.Path.{_≡_, refl}
 use mathlib.Core.Bool.{false}
-use Prim.Native.Nat.{ℕ, _+_, _-_, _≤_, _<_}
+use Prim.Native.Nat.{_-_, _≤_}
 use native.Mathlib.Omega.{arith}
 use borrow.Author.Needs.{needs}
 use borrow.Author.Tests.{not-false}
-use lib.ListN.{getD}
 use Rattle.prelude.proofs.Tests.{clash}
 use Rattle.moves.specs.Moves.{Between}
 use Rattle.moves.proofs.Moves.{between-none, between-next}
 use Rattle.moves.proofs.between.Statement.{statement}
 use Rattle.moves.proofs.between.Tie as tie
-use Rattle.moves.proofs.between.Reads as reads
-use Rattle.moves.proofs.between.Lts as lts
-use Rattle.moves.proofs.is_between.Reads as is-between-reads
 
 abbrev Inv-loop : tie.InvT-loop
 Inv-loop t d l low high o cells i₀ i = (i ≤ cells) × Between t d l low high o i
@@ -22,57 +18,44 @@ Inv-loop t d l low high o cells i₀ i = (i ≤ cells) × Between t d l low high
 abbrev μ-loop : tie.MeasureT-loop
 μ-loop t d l low high o cells i₀ i = cells - i
 
--- src/lib.rt:167:5
 loop-holds : tie.Need-loop-holds Inv-loop μ-loop
 loop-holds c = (omega arith, between-none _ _ _ _ _ _)
 
--- src/lib.rt:168:22
 mul-is-between : tie.Need-mul-is-between Inv-loop μ-loop
 mul-is-between c = search needs
 
--- src/lib.rt:168:22
 element-copy-out-is-between : tie.Need-element-copy-out-is-between Inv-loop μ-loop
 element-copy-out-is-between c = search needs
 
--- src/lib.rt:168:28
 mul-is-between-2 : tie.Need-mul-is-between-2 Inv-loop μ-loop
 mul-is-between-2 c = search needs
 
--- src/lib.rt:168:28
 element-copy-out-is-between-2 : tie.Need-element-copy-out-is-between-2 Inv-loop μ-loop
 element-copy-out-is-between-2 c = search needs
 
--- src/lib.rt:168:40
 mul-is-between-3 : tie.Need-mul-is-between-3 Inv-loop μ-loop
 mul-is-between-3 c = search needs
 
--- src/lib.rt:168:40
 element-copy-out-is-between-3 : tie.Need-element-copy-out-is-between-3 Inv-loop μ-loop
 element-copy-out-is-between-3 c = search needs
 
--- src/lib.rt:168:13
 is-between-requires : tie.Need-is-between-requires Inv-loop μ-loop
 is-between-requires c κs = search needs
 
--- src/lib.rt:169:13
 returns : tie.Need-returns Inv-loop μ-loop
 returns c = λ e. clash false e refl
 
--- src/lib.rt:171:9
 add-i : tie.Need-add-i Inv-loop μ-loop
 add-i c = search needs
 
--- src/lib.rt:167:5
 loop-less : tie.Need-loop-less Inv-loop μ-loop
 loop-less c = search needs
 
--- src/lib.rt:167:5
 loop-again : tie.Need-loop-again Inv-loop μ-loop
 loop-again c =
     let loop = c .before .before .before .before .before .before .loop in
     (omega arith, between-next (loop .inv .1) (c .before .is-between .ensures (not-false _ (c .if1 .left))))
 
--- src/lib.rt:161:1
 returns-2 : tie.Need-returns-2 Inv-loop μ-loop
 returns-2 c =
     let loop = c .before .loop in

@@ -1,6 +1,6 @@
--- `clip` meets its contract: each turn writes one clipped rise. The invariant: i rises are clipped. The measure is
--- what is left of the cells. Assumes nothing.
-use mathlib.Core.Path.{_≡_, refl}
+-- `clip` meets its contract: each turn writes one clipped rise. The invariant: i rises are clipped. The measure is what is left of the
+-- cells. Assumes nothing.
+use mathlib.Core.Path.{_≡_}
 use Prim.Native.Nat.{_-_, _≤_}
 use native.Mathlib.Omega.{arith}
 use borrow.Author.Needs.{needs}
@@ -8,9 +8,6 @@ use Rattle.moves.specs.Moves.{Clipped}
 use Rattle.moves.proofs.Moves.{clipped-none, clipped-next}
 use Rattle.moves.proofs.clip.Statement.{statement}
 use Rattle.moves.proofs.clip.Tie as tie
-use Rattle.moves.proofs.clip.Reads as reads
-use Rattle.moves.proofs.clip.Lts as lts
-use Rattle.moves.proofs.clip_one.Reads as clip-one-reads
 
 abbrev Inv-loop : tie.InvT-loop
 Inv-loop d top m o₀ cells i₀ o i = (i ≤ cells) × Clipped d i o
@@ -18,48 +15,38 @@ Inv-loop d top m o₀ cells i₀ o i = (i ≤ cells) × Clipped d i o
 abbrev μ-loop : tie.MeasureT-loop
 μ-loop d top m o₀ cells i₀ o i = cells - i
 
--- src/lib.rt:550:5
 loop-holds : tie.Need-loop-holds Inv-loop μ-loop
 loop-holds c = (omega arith, clipped-none _ (c .pre .1))
 
--- src/lib.rt:551:27
 mul-clip-one : tie.Need-mul-clip-one Inv-loop μ-loop
 mul-clip-one c = search needs
 
--- src/lib.rt:551:27
 element-copy-out-clip-one : tie.Need-element-copy-out-clip-one Inv-loop μ-loop
 element-copy-out-clip-one c = search needs
 
--- src/lib.rt:551:16
 clip-one-requires : tie.Need-clip-one-requires Inv-loop μ-loop
 clip-one-requires c κs = search needs
 
--- src/lib.rt:551:9
 mul-o : tie.Need-mul-o Inv-loop μ-loop
 mul-o c = search needs
 
--- src/lib.rt:551:9
 element-write-o : tie.Need-element-write-o Inv-loop μ-loop
 element-write-o c =
     let loop = c .before .before .before .loop in
     omega (arith, loop .inv .1 .sized)
 
--- src/lib.rt:552:9
 add-i : tie.Need-add-i Inv-loop μ-loop
 add-i c = search needs
 
--- src/lib.rt:550:5
 loop-less : tie.Need-loop-less Inv-loop μ-loop
 loop-less c = search needs
 
--- src/lib.rt:550:5
 loop-again : tie.Need-loop-again Inv-loop μ-loop
 loop-again c =
     let loop = c .before .before .before .loop in
     let one = c .clip-one .ensures in
     (omega arith, clipped-next _ _ _ (omega (arith, loop .inv .1 .sized)) (loop .inv .1) (one .0) (one .1))
 
--- src/lib.rt:545:1
 returns : tie.Need-returns Inv-loop μ-loop
 returns c =
     let loop = c .before .loop in

@@ -1,5 +1,5 @@
--- `copy` meets its contract: each turn writes one cell. The invariant: i cells are copied, and the rest is as it was.
--- The measure is what is left of the cells. Assumes nothing.
+-- `copy` meets its contract: each turn writes one cell. The invariant: i cells are copied, and the rest is as it was. The measure is
+-- what is left of the cells. Assumes nothing.
 use mathlib.Core.Path.{_≡_, refl}
 use Prim.Native.Nat.{_-_, _≤_}
 use native.Mathlib.Omega.{arith}
@@ -9,8 +9,6 @@ use Rattle.rows.specs.Rows.{Wrote}
 use Rattle.rows.proofs.Wrote.{wrote-none, wrote-next}
 use Rattle.moves.proofs.copy.Statement.{statement}
 use Rattle.moves.proofs.copy.Tie as tie
-use Rattle.moves.proofs.copy.Reads as reads
-use Rattle.moves.proofs.copy.Lts as lts
 
 abbrev Inv-loop : tie.InvT-loop
 Inv-loop b a₀ cells i₀ a i = (i ≤ cells) × Wrote a₀ a 0 i (λ k. getD b k 0)
@@ -18,39 +16,30 @@ Inv-loop b a₀ cells i₀ a i = (i ≤ cells) × Wrote a₀ a 0 i (λ k. getD b
 abbrev μ-loop : tie.MeasureT-loop
 μ-loop b a₀ cells i₀ a i = cells - i
 
--- src/lib.rt:569:5
 loop-holds : tie.Need-loop-holds Inv-loop μ-loop
 loop-holds c = (omega arith, wrote-none _ _ _)
 
--- src/lib.rt:570:16
 mul-a : tie.Need-mul-a Inv-loop μ-loop
 mul-a c = search needs
 
--- src/lib.rt:570:16
 element-copy-out-a : tie.Need-element-copy-out-a Inv-loop μ-loop
 element-copy-out-a c = search needs
 
--- src/lib.rt:570:9
 mul-a-2 : tie.Need-mul-a-2 Inv-loop μ-loop
 mul-a-2 c = search needs
 
--- src/lib.rt:570:9
 element-write-a : tie.Need-element-write-a Inv-loop μ-loop
 element-write-a c = omega (arith, c .before .before .loop .inv .1 .sized)
 
--- src/lib.rt:571:9
 add-i : tie.Need-add-i Inv-loop μ-loop
 add-i c = search needs
 
--- src/lib.rt:569:5
 loop-less : tie.Need-loop-less Inv-loop μ-loop
 loop-less c = search needs
 
--- src/lib.rt:569:5
 loop-again : tie.Need-loop-again Inv-loop μ-loop
 loop-again c = (omega arith, wrote-next _ _ _ (c .before .before .loop .inv .1) (omega arith) (omega arith) refl)
 
--- src/lib.rt:564:1
 returns : tie.Need-returns Inv-loop μ-loop
 returns c =
     let loop = c .before .loop in

@@ -7,18 +7,13 @@ use borrow.Author.Tests.{eqb-true}
 use Rattle.prelude.proofs.Tests.{clash}
 use Rattle.moves.proofs.fits.Statement.{statement}
 use Rattle.moves.proofs.fits.Tie as tie
-use Rattle.moves.proofs.fits.Reads as reads
-use Rattle.moves.proofs.fits.Lts as lts
 
--- src/lib.rt:85:9
 returns : tie.Need-returns
 returns c = λ e. clash false e refl
 
--- src/lib.rt:88:9
 returns-2 : tie.Need-returns-2
 returns-2 c = λ e. (omega arith, λ _. eqb-true _ _ e)
 
--- src/lib.rt:81:1
 returns-3 : tie.Need-returns-3
 returns-3 c = search needs
 

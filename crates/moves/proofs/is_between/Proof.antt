@@ -5,30 +5,22 @@ use borrow.Author.Needs.{needs}
 use Rattle.prelude.proofs.Tests.{clash}
 use Rattle.moves.proofs.is_between.Statement.{statement}
 use Rattle.moves.proofs.is_between.Tie as tie
-use Rattle.moves.proofs.is_between.Reads as reads
-use Rattle.moves.proofs.is_between.Lts as lts
 
--- src/lib.rt:141:9
 returns : tie.Need-returns
 returns c = search needs
 
--- src/lib.rt:143:21
 add-if2 : tie.Need-add-if2
 add-if2 c = search needs
 
--- src/lib.rt:144:9
 returns-2 : tie.Need-returns-2
 returns-2 c = λ e. clash false e refl
 
--- src/lib.rt:146:8
 add-if3 : tie.Need-add-if3
 add-if3 c = search needs
 
--- src/lib.rt:147:9
 returns-3 : tie.Need-returns-3
 returns-3 c = λ e. clash false e refl
 
--- src/lib.rt:136:1
 returns-4 : tie.Need-returns-4
 returns-4 c = search needs
 

@@ -1,5 +1,5 @@
--- `next_level` meets its contract. The invariant: r is the least level above l of the first i cells. The measure is
--- what is left of the cells. Assumes nothing.
+-- `next_level` meets its contract. The invariant: r is the least level above l of the first i cells. The measure is what is left of the
+-- cells. Assumes nothing.
 use mathlib.Core.Path.{_≡_}
 use Prim.Native.Nat.{_-_, _≤_}
 use native.Mathlib.Omega.{arith}
@@ -8,9 +8,6 @@ use Rattle.moves.specs.Levels.{NextLevel}
 use Rattle.moves.proofs.Levels.{level-none, level-next}
 use Rattle.moves.proofs.next_level.Statement.{statement}
 use Rattle.moves.proofs.next_level.Tie as tie
-use Rattle.moves.proofs.next_level.Reads as reads
-use Rattle.moves.proofs.next_level.Lts as lts
-use Rattle.moves.proofs.nearer.Reads as nearer-reads
 
 abbrev Inv-loop : tie.InvT-loop
 Inv-loop d l cells r₀ i₀ r i = (i ≤ cells) × NextLevel d l i r
@@ -18,38 +15,30 @@ Inv-loop d l cells r₀ i₀ r i = (i ≤ cells) × NextLevel d l i r
 abbrev μ-loop : tie.MeasureT-loop
 μ-loop d l cells r₀ i₀ r i = cells - i
 
--- src/lib.rt:207:5
 loop-holds : tie.Need-loop-holds Inv-loop μ-loop
 loop-holds c = (omega arith, level-none _ _)
 
--- src/lib.rt:208:20
 mul-nearer : tie.Need-mul-nearer Inv-loop μ-loop
 mul-nearer c = search needs
 
--- src/lib.rt:208:20
 element-copy-out-nearer : tie.Need-element-copy-out-nearer Inv-loop μ-loop
 element-copy-out-nearer c = search needs
 
--- src/lib.rt:208:9
 nearer-requires : tie.Need-nearer-requires Inv-loop μ-loop
 nearer-requires c κs = search needs
 
--- src/lib.rt:209:9
 add-i : tie.Need-add-i Inv-loop μ-loop
 add-i c = search needs
 
--- src/lib.rt:207:5
 loop-less : tie.Need-loop-less Inv-loop μ-loop
 loop-less c = search needs
 
--- src/lib.rt:207:5
 loop-again : tie.Need-loop-again Inv-loop μ-loop
 loop-again c =
     let loop = c .before .before .before .loop in
     let one = c .nearer .ensures in
     (omega arith, level-next _ _ _ _ _ (loop .inv .1) (one .0) (one .1) (one .2))
 
--- src/lib.rt:201:1
 returns : tie.Need-returns Inv-loop μ-loop
 returns c =
     let loop = c .before .loop in

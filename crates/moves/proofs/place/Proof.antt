@@ -1,22 +1,17 @@
--- `place` meets its contract: a cell is written only if it fits, so a table that is finished fits everywhere. The
--- invariant: i cells are placed. The measure is what is left of the cells. Assumes nothing.
-use mathlib.Core.Path.{_≡_, refl, _∙_}
+-- `place` meets its contract: a cell is written only if it fits, so a table that is finished fits everywhere. The invariant: i cells
+-- are placed. The measure is what is left of the cells. Assumes nothing.
+use mathlib.Core.Path.{_≡_, refl}
 use mathlib.Core.Bool.{false}
-use Prim.Native.Nat.{_*_, _+_, _-_, _≤_}
+use Prim.Native.Nat.{_-_, _≤_}
 use native.Mathlib.Omega.{arith}
 use borrow.Author.Needs.{needs}
 use borrow.Author.Tests.{not-false}
-use lib.ListN.{length, getD, length-set}
+use lib.ListN.{length, length-set}
 use Rattle.prelude.proofs.Tests.{clash}
-use Rattle.moves.specs.Moves.{partOf, Placed}
+use Rattle.moves.specs.Moves.{Placed}
 use Rattle.moves.proofs.Moves.{placed-none, placed-next}
 use Rattle.moves.proofs.place.Statement.{statement}
 use Rattle.moves.proofs.place.Tie as tie
-use Rattle.moves.proofs.place.Reads as reads
-use Rattle.moves.proofs.place.Lts as lts
-use Rattle.moves.proofs.fits.Reads as fits-reads
-use Rattle.moves.proofs.part.Reads as part-reads
-use Rattle.moves.proofs.reached.Reads as reached-reads
 
 abbrev Inv-loop : tie.InvT-loop
 Inv-loop t d lo hi j horizon cells o₀ i₀ o i = (i ≤ cells) × (length o ≡ 256) × Placed t d lo hi j horizon i o
@@ -24,67 +19,52 @@ Inv-loop t d lo hi j horizon cells o₀ i₀ o i = (i ≤ cells) × (length o �
 abbrev μ-loop : tie.MeasureT-loop
 μ-loop t d lo hi j horizon cells o₀ i₀ o i = cells - i
 
--- src/lib.rt:93:5
 loop-holds : tie.Need-loop-holds Inv-loop μ-loop
 loop-holds c = (omega arith, c .pre .1, placed-none _ _ _ _ _ _ _)
 
--- src/lib.rt:94:22
 mul-part : tie.Need-mul-part Inv-loop μ-loop
 mul-part c = search needs
 
--- src/lib.rt:94:22
 element-copy-out-part : tie.Need-element-copy-out-part Inv-loop μ-loop
 element-copy-out-part c = search needs
 
--- src/lib.rt:94:13
 part-requires : tie.Need-part-requires Inv-loop μ-loop
 part-requires c κs = search needs
 
--- src/lib.rt:95:25
 mul-reached : tie.Need-mul-reached Inv-loop μ-loop
 mul-reached c = search needs
 
--- src/lib.rt:95:25
 element-copy-out-reached : tie.Need-element-copy-out-reached Inv-loop μ-loop
 element-copy-out-reached c = search needs
 
--- src/lib.rt:95:13
 reached-requires : tie.Need-reached-requires Inv-loop μ-loop
 reached-requires c κs =
     let pre = c .before .before .before .before .before .pre in
     (omega (arith, c .before .part .ensures, pre .3), pre .2)
 
--- src/lib.rt:96:13
 fits-requires : tie.Need-fits-requires Inv-loop μ-loop
 fits-requires c κs = search needs
 
--- src/lib.rt:97:13
 returns : tie.Need-returns Inv-loop μ-loop
 returns c =
     let loop = c .before .before .before .before .before .before .before .loop in
     (loop .inv .1, λ e. clash false e refl)
 
--- src/lib.rt:99:16
 cast-o : tie.Need-cast-o Inv-loop μ-loop
 cast-o c = omega (arith, c .before .fits2 .ensures (not-false _ (c .if1 .left)) .0)
 
--- src/lib.rt:99:9
 mul-o : tie.Need-mul-o Inv-loop μ-loop
 mul-o c = search needs
 
--- src/lib.rt:99:9
 element-write-o : tie.Need-element-write-o Inv-loop μ-loop
 element-write-o c = search needs
 
--- src/lib.rt:100:9
 add-i : tie.Need-add-i Inv-loop μ-loop
 add-i c = search needs
 
--- src/lib.rt:93:5
 loop-less : tie.Need-loop-less Inv-loop μ-loop
 loop-less c = search needs
 
--- src/lib.rt:93:5
 loop-again : tie.Need-loop-again Inv-loop μ-loop
 loop-again c =
     let part = c .before .before .before .before .part in
@@ -94,7 +74,6 @@ loop-again c =
     let next = placed-next _ _ _ (omega (arith, loop .inv .1)) (loop .inv .2) here (fit .0) (fit .1) in
     (omega arith, simp length-set (loop .inv .1), next)
 
--- src/lib.rt:78:1
 returns-2 : tie.Need-returns-2 Inv-loop μ-loop
 returns-2 c =
     let loop = c .before .loop in

@@ -1,25 +1,19 @@
--- `reached` meets its contract: neither the product nor the sum wraps, since rise and count are at most 10,080.
--- Assumes nothing.
+-- `reached` meets its contract: neither the product nor the sum wraps, since rise and count are at most 10,080. Assumes nothing.
 use Prim.Native.Nat.{_*_, _≤_}
 use native.Mathlib.Nat.{mul-le-mul}
 use native.Mathlib.Omega.{arith}
 use borrow.Author.Needs.{needs}
 use Rattle.moves.proofs.reached.Statement.{statement}
 use Rattle.moves.proofs.reached.Tie as tie
-use Rattle.moves.proofs.reached.Reads as reads
-use Rattle.moves.proofs.reached.Lts as lts
 
--- src/lib.rt:77:16
 mul-result : tie.Need-mul-result
 mul-result c =
     let h : c .args .j * c .args .e ≤ 10080 * 10080 = mul-le-mul (c .pre .1) (c .pre .0) in omega arith
 
--- src/lib.rt:77:5
 add-result : tie.Need-add-result
 add-result c =
     let h : c .args .j * c .args .e ≤ 10080 * 10080 = mul-le-mul (c .pre .1) (c .pre .0) in omega arith
 
--- src/lib.rt:73:1
 returns : tie.Need-returns
 returns c = search needs
 

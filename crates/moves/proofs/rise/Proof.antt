@@ -1,5 +1,5 @@
--- `rise` meets its contract: each turn writes one difference. The invariant: i differences are written, and the rest
--- is as it was. The measure is what is left of the cells. Assumes nothing.
+-- `rise` meets its contract: each turn writes one difference. The invariant: i differences are written, and the rest is as it was.
+-- The measure is what is left of the cells. Assumes nothing.
 use mathlib.Core.Path.{_≡_}
 use Prim.Native.Nat.{_-_, _≤_}
 use native.Mathlib.Omega.{arith}
@@ -9,9 +9,6 @@ use Rattle.rows.specs.Rows.{Wrote}
 use Rattle.rows.proofs.Wrote.{wrote-none, wrote-next}
 use Rattle.moves.proofs.rise.Statement.{statement}
 use Rattle.moves.proofs.rise.Tie as tie
-use Rattle.moves.proofs.rise.Reads as reads
-use Rattle.moves.proofs.rise.Lts as lts
-use Rattle.moves.proofs.above.Reads as above-reads
 
 abbrev Inv-loop : tie.InvT-loop
 Inv-loop t x d₀ cells i₀ d i = (i ≤ cells) × Wrote d₀ d 0 i (λ k. getD x k 0 - getD t k 0)
@@ -19,53 +16,41 @@ Inv-loop t x d₀ cells i₀ d i = (i ≤ cells) × Wrote d₀ d 0 i (λ k. getD
 abbrev μ-loop : tie.MeasureT-loop
 μ-loop t x d₀ cells i₀ d i = cells - i
 
--- src/lib.rt:42:5
 loop-holds : tie.Need-loop-holds Inv-loop μ-loop
 loop-holds c = (omega arith, wrote-none _ _ _)
 
--- src/lib.rt:43:22
 mul-above : tie.Need-mul-above Inv-loop μ-loop
 mul-above c = search needs
 
--- src/lib.rt:43:22
 element-copy-out-above : tie.Need-element-copy-out-above Inv-loop μ-loop
 element-copy-out-above c = search needs
 
--- src/lib.rt:43:28
 mul-above-2 : tie.Need-mul-above-2 Inv-loop μ-loop
 mul-above-2 c = search needs
 
--- src/lib.rt:43:28
 element-copy-out-above-2 : tie.Need-element-copy-out-above-2 Inv-loop μ-loop
 element-copy-out-above-2 c = search needs
 
--- src/lib.rt:43:16
 above-requires : tie.Need-above-requires Inv-loop μ-loop
 above-requires c κs = search needs
 
--- src/lib.rt:43:9
 mul-d : tie.Need-mul-d Inv-loop μ-loop
 mul-d c = search needs
 
--- src/lib.rt:43:9
 element-write-d : tie.Need-element-write-d Inv-loop μ-loop
 element-write-d c = search needs
 
--- src/lib.rt:44:9
 add-i : tie.Need-add-i Inv-loop μ-loop
 add-i c = search needs
 
--- src/lib.rt:42:5
 loop-less : tie.Need-loop-less Inv-loop μ-loop
 loop-less c = search needs
 
--- src/lib.rt:42:5
 loop-again : tie.Need-loop-again Inv-loop μ-loop
 loop-again c =
     let loop = c .before .before .before .before .loop in
     (omega arith, wrote-next _ _ _ (loop .inv .1) (omega arith) (omega arith) (c .above .ensures))
 
--- src/lib.rt:37:1
 returns : tie.Need-returns Inv-loop μ-loop
 returns c =
     let loop = c .before .loop in

@@ -1,9 +1,8 @@
--- `run` meets its contract: its loop is underway from the floor, by one round a turn and those that are passed over,
--- and it ends where a round or the law of the two far tables says. The invariant: at most `budget` rounds lead from
--- the table at entry to a, by way of the one that is kept. The measure is what is left of the budget. Assumes
--- nothing.
+-- `run` meets its contract: its loop is underway from the floor, by one round a turn and those that are passed over, and it ends where a
+-- round or the law of the two far tables says. The invariant: at most `budget` rounds lead from the table at entry to a, by way of the
+-- one that is kept. The measure is what is left of the budget. Assumes nothing.
 use mathlib.Core.Path.{_≡_, refl}
-use Prim.Native.Nat.{_+_, _*_, _-_, _≤_, _<_}
+use Prim.Native.Nat.{_-_, _≤_, _<_}
 use native.Mathlib.Omega.{arith}
 use borrow.Author.Needs.{needs}
 use lib.ListN.{length}
@@ -12,71 +11,46 @@ use Rattle.rounds.proofs.Turns.{rounded-as}
 use Rattle.solver.proofs.Underway.{Underway, underway-start, underway-turn, underway-leapt, all-of, ended-passing, ended-resting, ended-later, ended-spent}
 use Rattle.solver.proofs.run.Statement.{statement}
 use Rattle.solver.proofs.run.Tie as tie
-use Rattle.solver.proofs.run.Reads as reads
-use Rattle.solver.proofs.run.Lts as lts
-use Rattle.guess.proofs.after_tries.Reads as after-tries-reads
-use Rattle.guess.proofs.first_pace.Reads as first-pace-reads
-use Rattle.guess.proofs.first_watch.Reads as first-watch-reads
-use Rattle.guess.proofs.follow.Reads as follow-reads
-use Rattle.guess.proofs.watch.Reads as watch-reads
-use Rattle.leap.proofs.pace.finish_if.Reads as finish-if-reads
-use Rattle.leap.proofs.pass.pass_over_if.Reads as pass-over-if-reads
-use Rattle.moves.proofs.copy.Reads as copy-reads
-use Rattle.rounds.proofs.round.Reads as round-reads
-use Rattle.solver.proofs.cells_of.Reads as cells-of-reads
-use Rattle.solver.proofs.keep.Reads as keep-reads
-use Rattle.std.proofs.num.wrapping_add_u32.Reads as wrapping-add-u32-reads
 
 abbrev Inv-loop : tie.InvT-loop
-Inv-loop a₀ budget frame counts lists cells b₀ base₀ at₀ mark₀ w₀ since₀ v₀ turns₀ rounds₀ a b base at mark w since v turns
-    rounds =
+Inv-loop a₀ budget frame counts lists cells b₀ base₀ at₀ mark₀ w₀ since₀ v₀ turns₀ rounds₀ a b base at mark w since v turns rounds =
     (rounds ≤ budget) × (length b ≡ 256) × (length mark ≡ 256) × (length since ≡ 256) × (v .cell < 256)
     × Underway frame counts lists a₀ base a at rounds
 
 abbrev μ-loop : tie.MeasureT-loop
-μ-loop a₀ budget frame counts lists cells b₀ base₀ at₀ mark₀ w₀ since₀ v₀ turns₀ rounds₀ a b base at mark w since v turns
-    rounds = budget - rounds
+μ-loop a₀ budget frame counts lists cells b₀ base₀ at₀ mark₀ w₀ since₀ v₀ turns₀ rounds₀ a b base at mark w since v turns rounds = budget - rounds
 
--- src/lib.rt:70:9
 cells-of-requires : tie.Need-cells-of-requires Inv-loop μ-loop
 cells-of-requires c κs = scenarios-in (c .pre .0)
 
--- src/lib.rt:75:9
 first-watch-requires : tie.Need-first-watch-requires Inv-loop μ-loop
 first-watch-requires c κs = search needs
 
--- src/lib.rt:77:9
 first-pace-requires : tie.Need-first-pace-requires Inv-loop μ-loop
 first-pace-requires c κs = search needs
 
--- src/lib.rt:80:5
 loop-holds : tie.Need-loop-holds Inv-loop μ-loop
 loop-holds c =
     let pre = c .before .before .before .before .pre in
     (omega arith, refl, refl, refl, c .first-pace .ensures, underway-start (pre .1))
 
--- src/lib.rt:81:9
 add-rounds : tie.Need-add-rounds Inv-loop μ-loop
 add-rounds c =
     let fits = c .before .before .before .before .before .before .fits in
     omega (arith, c .loop-test .taken, fits .budget)
 
--- src/lib.rt:82:9
 wrapping-add-u32-requires : tie.Need-wrapping-add-u32-requires Inv-loop μ-loop
 wrapping-add-u32-requires c κs = search needs
 
--- src/lib.rt:83:15
 round-requires : tie.Need-round-requires Inv-loop μ-loop
 round-requires c κs =
     let loop = c .before .before .before .before .loop in
     let pre = c .before .before .before .before .before .before .before .before .before .pre in
     (pre .0, loop .inv .5 .from-base .times, loop .inv .1)
 
--- src/lib.rt:84:32
 enum-told : tie.Need-enum-told Inv-loop μ-loop
 enum-told c = search needs
 
--- src/lib.rt:84:32
 returns : tie.Need-returns Inv-loop μ-loop
 returns c =
     let loop-test = c .before .before .before .before .before .before .loop-test in
@@ -87,11 +61,9 @@ returns c =
           (rounded-as (c .enum-told .given .1) (c .before .before .round .ensures Γ C)),
     )
 
--- src/lib.rt:88:31
 enum-told-2 : tie.Need-enum-told-2 Inv-loop μ-loop
 enum-told-2 c = search needs
 
--- src/lib.rt:88:31
 returns-2 : tie.Need-returns-2 Inv-loop μ-loop
 returns-2 c =
     let loop-test = c .before .before .before .before .before .before .loop-test in
@@ -105,13 +77,11 @@ returns-2 c =
 enum-told-3 : tie.Need-enum-told-3 Inv-loop μ-loop
 enum-told-3 c = search needs
 
--- src/lib.rt:94:44
 sub-watch : tie.Need-sub-watch Inv-loop μ-loop
 sub-watch c =
     let loop = c .before .before .before .before .before .before .before .loop in
     omega (arith, loop .inv .5 .order)
 
--- src/lib.rt:94:9
 watch-requires : tie.Need-watch-requires Inv-loop μ-loop
 watch-requires c κs =
     let back = c .before .before .before .before .before .before .before .before .before .before in
@@ -119,7 +89,6 @@ watch-requires c κs =
     let cells-of = back .before .before .before .before .cells-of in
     (cells-of .ensures .1, loop .inv .2)
 
--- src/lib.rt:95:9
 follow-requires : tie.Need-follow-requires Inv-loop μ-loop
 follow-requires c κs =
     let back = c .before .before .before .before .before .before .before .before .before .before in
@@ -127,7 +96,6 @@ follow-requires c κs =
     let cells-of = back .before .before .before .before .before .before .before .before .cells-of in
     (cells-of .ensures .1, loop .inv .3, loop .inv .4)
 
--- src/lib.rt:96:9
 copy-requires : tie.Need-copy-requires Inv-loop μ-loop
 copy-requires c κs =
     let back = c .before .before .before .before .before .before .before .before .before .before in
@@ -136,7 +104,6 @@ copy-requires c κs =
     let cells-of = back2 .before .cells-of in
     (cells-of .ensures .1, loop .inv .5 .from-base .times .sized)
 
--- src/lib.rt:97:9
 keep-requires : tie.Need-keep-requires Inv-loop μ-loop
 keep-requires c κs =
     let back = c .before .before .before .before .before .before .before .before .before .before in
@@ -145,7 +112,6 @@ keep-requires c κs =
     let cells-of = back2 .before .before .before .before .cells-of in
     (cells-of .ensures .1, loop .inv .5 .to-base .times .sized)
 
--- src/lib.rt:99:59
 sub-pass-over-if : tie.Need-sub-pass-over-if Inv-loop μ-loop
 sub-pass-over-if c =
     let back = c .before .before .before .before .before .before .before .before .before .before in
@@ -160,7 +126,6 @@ sub-pass-over-if c =
     (copy .ensures) (c .before .before .keep .ensures) in
     omega (arith, K .order)
 
--- src/lib.rt:99:79
 sub-pass-over-if-2 : tie.Need-sub-pass-over-if-2 Inv-loop μ-loop
 sub-pass-over-if-2 c =
     let back = c .before .before .before .before .before .before .before .before .before .before in
@@ -168,7 +133,6 @@ sub-pass-over-if-2 c =
     let loop-test = back2 .before .before .loop-test in
     omega (arith, loop-test .taken)
 
--- src/lib.rt:99:13
 pass-over-if-requires : tie.Need-pass-over-if-requires Inv-loop μ-loop
 pass-over-if-requires c κs =
     let back = c .before .before .before .before .before .before .before .before .before .before in
@@ -183,7 +147,6 @@ pass-over-if-requires c κs =
     (copy .ensures) (c .before .before .keep .ensures) in
     (pre .0, K .to-base .times, K .from-base)
 
--- src/lib.rt:100:9
 add-rounds-2 : tie.Need-add-rounds-2 Inv-loop μ-loop
 add-rounds-2 c =
     let back = c .before .before .before .before .before .before .before .before .before .before in
@@ -192,7 +155,6 @@ add-rounds-2 c =
     let fits = back2 .before .before .before .before .before .before .before .before .before .fits in
     omega (arith, loop-test .taken, c .pass-over-if .ensures .0, fits .budget)
 
--- src/lib.rt:101:9
 add-at : tie.Need-add-at Inv-loop μ-loop
 add-at c =
     let back = c .before .before .before .before .before .before .before .before .before .before in
@@ -210,11 +172,9 @@ add-at c =
     (copy .ensures) (keep .ensures) in
     omega (arith, K .order, loop-test .taken, c .pass-over-if .ensures .0, fits .budget)
 
--- src/lib.rt:102:9
 after-tries-requires : tie.Need-after-tries-requires Inv-loop μ-loop
 after-tries-requires c κs = search needs
 
--- src/lib.rt:104:56
 sub-finish-if : tie.Need-sub-finish-if Inv-loop μ-loop
 sub-finish-if c =
     let back = c .before .before .before .before .before .before .before .before .before .before in
@@ -223,7 +183,6 @@ sub-finish-if c =
     let loop-test = back2 .before .before .before .before .before .before .loop-test in
     omega (arith, loop-test .taken, pass-over-if .ensures .0)
 
--- src/lib.rt:104:13
 finish-if-requires : tie.Need-finish-if-requires Inv-loop μ-loop
 finish-if-requires c κs =
     let back = c .before .before .before .before .before .before .before .before .before .before in
@@ -233,7 +192,6 @@ finish-if-requires c κs =
     let pre = back3 .before .before .pre in
     (pre .0, pass-over-if .ensures .2 .times)
 
--- src/lib.rt:106:13
 add-rounds-3 : tie.Need-add-rounds-3 Inv-loop μ-loop
 add-rounds-3 c =
     let back = c .before .before .before .before .before .before .before .before .before .before in
@@ -244,7 +202,6 @@ add-rounds-3 c =
     let fits = back3 .before .before .before .before .fits in
     omega (arith, loop-test .taken, pass-over-if .ensures .0, c .before .finish-if .ensures .0, fits .budget)
 
--- src/lib.rt:107:13
 returns-3 : tie.Need-returns-3 Inv-loop μ-loop
 returns-3 c =
     let back = c .before .before .before .before .before .before .before .before .before .before in
@@ -263,12 +220,10 @@ returns-3 c =
     (copy .ensures) (keep .ensures) in
     let J = underway-leapt K (pass-over-if .ensures .1) (pass-over-if .ensures .2) in (
       J .from-base .times .sized,
-      λ Γ C. ended-later (all-of J) Γ C _ _
-          (omega (arith, loop-test .taken, pass-over-if .ensures .0, c .before .finish-if .ensures .0))
+      λ Γ C. ended-later (all-of J) Γ C _ _ (omega (arith, loop-test .taken, pass-over-if .ensures .0, c .before .finish-if .ensures .0))
           (c .before .finish-if .ensures .1 (c .if1 .taken)),
     )
 
--- src/lib.rt:80:5
 loop-less : tie.Need-loop-less Inv-loop μ-loop
 loop-less c =
     let back = c .before .before .before .before .before .before .before .before .before .before in
@@ -277,7 +232,6 @@ loop-less c =
     let loop-test = back2 .before .before .before .before .before .before .before .before .loop-test in
     omega (arith, loop-test .taken, pass-over-if .ensures .0)
 
--- src/lib.rt:80:5
 loop-again : tie.Need-loop-again Inv-loop μ-loop
 loop-again c =
     let back = c .before .before .before .before .before .before .before .before .before .before in
@@ -305,7 +259,6 @@ loop-again c =
       J,
     )
 
--- src/lib.rt:59:1
 returns-4 : tie.Need-returns-4 Inv-loop μ-loop
 returns-4 c =
     let G = c .before .loop .inv .5 in (

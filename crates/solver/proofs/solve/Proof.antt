@@ -1,50 +1,35 @@
--- `solve` meets its contract: the budget is more than the room below the limits, so its run is the definition's.
--- Assumes nothing.
-use mathlib.Core.Path.{_≡_, refl}
-use Prim.Native.Nat.{_+_, _≤_, _<_}
+-- `solve` meets its contract: the budget is more than the room below the limits, so its run is the definition's. Assumes nothing.
+use mathlib.Core.Path.{refl}
 use native.Mathlib.Omega.{arith}
 use borrow.Author.Needs.{needs}
 use Rattle.bounds.proofs.Halves.{scenarios-few}
 use Rattle.solver.proofs.Solving.{zeros-at, zero-times, zero-lists, solved-resting, solved-passing, solved-spent, run-as, cells-framed, copied-framed, copied-length}
 use Rattle.solver.proofs.solve.Statement.{statement}
 use Rattle.solver.proofs.solve.Tie as tie
-use Rattle.solver.proofs.solve.Reads as reads
-use Rattle.solver.proofs.solve.Lts as lts
-use Rattle.rounds.proofs.compile.list_constraints.Reads as list-constraints-reads
-use Rattle.rows.proofs.copy_out.Reads as copy-out-reads
-use Rattle.rows.proofs.frame_of.Reads as frame-of-reads
-use Rattle.solver.proofs.run.Reads as run-reads
 
--- src/lib.rt:125:9
 frame-of-requires : tie.Need-frame-of-requires
 frame-of-requires c κs = search needs
 
--- src/lib.rt:128:5
 list-constraints-requires : tie.Need-list-constraints-requires
 list-constraints-requires c κs =
     let pre = c .before .before .before .before .pre in
     let F = c .before .before .frame-of .ensures in
     (pre .0, F, zero-lists _ (omega (arith, F .events, pre .0 .some-event)), zeros-at 16)
 
--- src/lib.rt:130:9
 run-requires : tie.Need-run-requires
 run-requires c κs =
     let list-constraints = c .before .before .before .list-constraints in
     (record { network = _; compiled = list-constraints .ensures }, zero-times _ _)
 
--- src/lib.rt:132:25
 enum-known-ended : tie.Need-enum-known-ended
 enum-known-ended c = search needs
 
--- src/lib.rt:133:24
 enum-known-ended-2 : tie.Need-enum-known-ended-2
 enum-known-ended-2 c = search needs
 
--- src/lib.rt:134:24
 enum-known-ended-3 : tie.Need-enum-known-ended-3
 enum-known-ended-3 c = search needs
 
--- src/lib.rt:135:13
 copy-out-requires : tie.Need-copy-out-requires
 copy-out-requires c κs =
     let back = c .before .before .before .before .before .before .before .before .before .before in
@@ -54,7 +39,6 @@ copy-out-requires c κs =
     let W = pre .0 in
     (scenarios-few _ _ W F, W .some-event, W .events, cells-framed _ _ F _ (pre .1))
 
--- src/lib.rt:121:1
 returns : tie.Need-returns
 returns c =
     let back = c .before .before .before .before .before .before .before .before .before .before in
@@ -64,7 +48,6 @@ returns c =
     let A = run .ensures .1 _ (list-constraints .ensures) in
     solved-passing _ (pre .0) (run-as (c .before .ended .given .1) A) _
 
--- src/lib.rt:121:1
 returns-2 : tie.Need-returns-2
 returns-2 c =
     let back = c .before .before .before .before .before .before .before .before .before .before in
@@ -74,7 +57,6 @@ returns-2 c =
     let A = run .ensures .1 _ (list-constraints .ensures) in
     solved-spent _ (pre .0) (run-as (c .before .ended2 .given .1) A) _
 
--- src/lib.rt:121:1
 same-length : tie.Need-same-length
 same-length c =
     let back = c .before .before .before .before .before .before .before .before .before .before in
@@ -82,7 +64,6 @@ same-length c =
     let pre = back .before .before .before .before .before .before .before .pre in
     copied-length _ _ (list-constraints .ensures .framed) _ _ _ _ refl (pre .1) (c .before .before .copy-out .ensures)
 
--- src/lib.rt:121:1
 returns-3 : tie.Need-returns-3
 returns-3 c =
     let back = c .before .before .before .before .before .before .before .before .before .before in

@@ -3,40 +3,28 @@ use borrow.Author.Needs.{needs}
 use Rattle.solver.proofs.Solving.{zero-times}
 use Rattle.tally.proofs.by_leaps.Statement.{statement}
 use Rattle.tally.proofs.by_leaps.Tie as tie
-use Rattle.tally.proofs.by_leaps.Reads as reads
-use Rattle.tally.proofs.by_leaps.Lts as lts
-use Rattle.solver.proofs.run.Reads as run-reads
-use Rattle.tally.proofs.sum_of.Reads as sum-of-reads
 
--- src/lib.rt:51:9
 run-requires : tie.Need-run-requires
 run-requires c κs = (c .before .pre, zero-times _ _)
 
--- src/lib.rt:53:24
 enum-known-ended : tie.Need-enum-known-ended
 enum-known-ended c = search needs
 
--- src/lib.rt:56:18
 sum-of-requires : tie.Need-sum-of-requires
 sum-of-requires c κs = search needs
 
--- src/lib.rt:58:25
 enum-known-ended-2 : tie.Need-enum-known-ended-2
 enum-known-ended-2 c = search needs
 
--- src/lib.rt:63:24
 enum-known-ended-3 : tie.Need-enum-known-ended-3
 enum-known-ended-3 c = search needs
 
--- src/lib.rt:47:1
 returns : tie.Need-returns
 returns c = search needs
 
--- src/lib.rt:47:1
 returns-2 : tie.Need-returns-2
 returns-2 c = search needs
 
--- src/lib.rt:47:1
 returns-3 : tie.Need-returns-3
 returns-3 c = search needs
 

@@ -1,10 +1,10 @@
--- `by_rounds` is safe: a round may go from a, which holds zeros or what a round made. The measure is what is left of
--- the budget. Assumes nothing.
+-- `by_rounds` is safe: a round may go from a, which holds zeros or what a round made. The measure is what is left of the budget. Assumes
+-- nothing.
 use mathlib.Core.Path.{_≡_, refl}
-use Prim.Native.Nat.{_*_, _-_, _≤_}
+use Prim.Native.Nat.{_-_, _≤_}
 use native.Mathlib.Omega.{arith}
 use borrow.Author.Needs.{needs}
-use lib.ListN.{length, getD}
+use lib.ListN.{length}
 use Rattle.rows.specs.Rows.{Times}
 use Rattle.rounds.proofs.Usable.{scenarios-in}
 use Rattle.rounds.proofs.Turns.{rounded-as, times-framed}
@@ -12,11 +12,6 @@ use Rattle.moves.proofs.Moves.{wrote-times}
 use Rattle.solver.proofs.Solving.{zero-times}
 use Rattle.tally.proofs.by_rounds.Statement.{statement}
 use Rattle.tally.proofs.by_rounds.Tie as tie
-use Rattle.tally.proofs.by_rounds.Reads as reads
-use Rattle.tally.proofs.by_rounds.Lts as lts
-use Rattle.moves.proofs.copy.Reads as copy-reads
-use Rattle.rounds.proofs.round.Reads as round-reads
-use Rattle.tally.proofs.sum_of.Reads as sum-of-reads
 
 abbrev Inv-loop : tie.InvT-loop
 Inv-loop frame counts lists cells a₀ b₀ rounds₀ a b rounds =
@@ -25,60 +20,48 @@ Inv-loop frame counts lists cells a₀ b₀ rounds₀ a b rounds =
 abbrev μ-loop : tie.MeasureT-loop
 μ-loop frame counts lists cells a₀ b₀ rounds₀ a b rounds = 2580481 - rounds
 
--- src/lib.rt:74:17
 mul-cells : tie.Need-mul-cells Inv-loop μ-loop
 mul-cells c = omega (arith, scenarios-in (c .before .pre))
 
--- src/lib.rt:78:5
 loop-holds : tie.Need-loop-holds Inv-loop μ-loop
 loop-holds c = (omega arith, refl, zero-times _ _)
 
--- src/lib.rt:79:9
 add-rounds : tie.Need-add-rounds Inv-loop μ-loop
 add-rounds c = search needs
 
--- src/lib.rt:80:15
 round-requires : tie.Need-round-requires Inv-loop μ-loop
 round-requires c κs =
     let loop = c .before .before .before .loop in
     let pre = c .before .before .before .before .before .pre in
     (pre, loop .inv .2, loop .inv .1)
 
--- src/lib.rt:81:32
 enum-told : tie.Need-enum-told Inv-loop μ-loop
 enum-told c = search needs
 
--- src/lib.rt:81:32
 returns : tie.Need-returns Inv-loop μ-loop
 returns c = search needs
 
--- src/lib.rt:89:29
 enum-told-2 : tie.Need-enum-told-2 Inv-loop μ-loop
 enum-told-2 c = search needs
 
--- src/lib.rt:89:22
 sum-of-requires : tie.Need-sum-of-requires Inv-loop μ-loop
 sum-of-requires c κs = search needs
 
--- src/lib.rt:86:31
 returns-2 : tie.Need-returns-2 Inv-loop μ-loop
 returns-2 c = search needs
 
 enum-told-3 : tie.Need-enum-told-3 Inv-loop μ-loop
 enum-told-3 c = search needs
 
--- src/lib.rt:93:9
 copy-requires : tie.Need-copy-requires Inv-loop μ-loop
 copy-requires c κs =
     let loop = c .before .before .before .before .before .before .before .before .loop in
     let pre = c .before .before .before .before .before .before .before .before .before .before .pre in
     (omega (arith, scenarios-in pre), loop .inv .2 .sized)
 
--- src/lib.rt:78:5
 loop-less : tie.Need-loop-less Inv-loop μ-loop
 loop-less c = search needs
 
--- src/lib.rt:78:5
 loop-again : tie.Need-loop-again Inv-loop μ-loop
 loop-again c =
     let enum-told3 = c .before .before .before .enum-told3 in
@@ -94,7 +77,6 @@ loop-again c =
       wrote-times _ times (loop .inv .2 .sized) (c .copy .ensures) (λ i. omega arith),
     )
 
--- src/lib.rt:71:1
 returns-3 : tie.Need-returns-3 Inv-loop μ-loop
 returns-3 c = search needs
 

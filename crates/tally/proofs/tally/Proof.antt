@@ -1,7 +1,7 @@
 -- `tally` is safe: what the reader accepts is well-formed, so it may be compiled and run. Assumes nothing.
 use mathlib.Core.Path.{_≡_, sym, _∙_, ap}
 use mathlib.Core.List.{List}
-use Prim.Native.Nat.{ℕ, _≤_}
+use Prim.Native.Nat.{ℕ}
 use native.Mathlib.Omega.{arith}
 use borrow.Author.Needs.{needs}
 use Rattle.network.specs.WellFormed.{WellFormed}
@@ -12,37 +12,25 @@ use Rattle.sheet.proofs.WellFormed.{accepted-well-formed}
 use Rattle.solver.proofs.Solving.{zeros-at, zero-lists}
 use Rattle.tally.proofs.tally.Statement.{statement}
 use Rattle.tally.proofs.tally.Tie as tie
-use Rattle.tally.proofs.tally.Reads as reads
-use Rattle.tally.proofs.tally.Lts as lts
-use Rattle.rounds.proofs.compile.list_constraints.Reads as list-constraints-reads
-use Rattle.rows.proofs.frame_of.Reads as frame-of-reads
-use Rattle.sheet.proofs.read.Reads as read-reads
-use Rattle.tally.proofs.by_leaps.Reads as by-leaps-reads
-use Rattle.tally.proofs.by_rounds.Reads as by-rounds-reads
 
 -- what is accepted is well-formed
 formed : (sheet : List ℕ) (g : Reading) → g ≡ read sheet → g .outcome ≡ Accepted → WellFormed (g .network)
 formed sheet g e a = rw e (accepted-well-formed sheet (sym (ap (λ (x : Reading). x .outcome) e) ∙ a) .0)
 
--- src/lib.rt:104:9
 read-requires : tie.Need-read-requires
 read-requires c κs = search needs
 
--- src/lib.rt:108:39
 enum-told : tie.Need-enum-told
 enum-told c = search needs
 
--- src/lib.rt:114:17
 enum-told-2 : tie.Need-enum-told-2
 enum-told-2 c = search needs
 
--- src/lib.rt:114:17
 frame-of-requires : tie.Need-frame-of-requires
 frame-of-requires c κs =
     let read = c .before .before .before .read in
     formed _ _ (read .ensures) (c .enum-told2 .given .1)
 
--- src/lib.rt:117:13
 list-constraints-requires : tie.Need-list-constraints-requires
 list-constraints-requires c κs =
     let enum-told2 = c .before .before .before .enum-told2 in
@@ -51,27 +39,22 @@ list-constraints-requires c κs =
     let W = formed _ _ (read .ensures) (enum-told2 .given .1) in
     (W, F, zero-lists _ (omega (arith, F .events, W .some-event)), zeros-at 16)
 
--- src/lib.rt:119:17
 by-rounds-requires : tie.Need-by-rounds-requires
 by-rounds-requires c κs =
     let list-constraints = c .before .before .before .list-constraints in
     record { network = _; compiled = list-constraints .ensures }
 
--- src/lib.rt:119:17
 returns : tie.Need-returns
 returns c = search needs
 
--- src/lib.rt:121:13
 by-leaps-requires : tie.Need-by-leaps-requires
 by-leaps-requires c κs =
     let list-constraints = c .before .before .before .list-constraints in
     record { network = _; compiled = list-constraints .ensures }
 
--- src/lib.rt:103:1
 returns-2 : tie.Need-returns-2
 returns-2 c = search needs
 
--- src/lib.rt:103:1
 returns-3 : tie.Need-returns-3
 returns-3 c = search needs
 

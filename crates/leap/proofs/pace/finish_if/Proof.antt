@@ -3,19 +3,13 @@ use native.Mathlib.Omega.{arith}
 use borrow.Author.Needs.{needs}
 use Rattle.leap.proofs.pace.finish_if.Statement.{statement}
 use Rattle.leap.proofs.pace.finish_if.Tie as tie
-use Rattle.leap.proofs.pace.finish_if.Reads as reads
-use Rattle.leap.proofs.pace.finish_if.Lts as lts
-use Rattle.leap.proofs.pace.finish.Reads as finish-reads
 
--- src/pace.rt:149:9
 returns : tie.Need-returns
 returns c = (omega arith, λ h. absurd (omega arith))
 
--- src/pace.rt:151:5
 finish-requires : tie.Need-finish-requires
 finish-requires c κs = search needs
 
--- src/pace.rt:136:1
 returns-2 : tie.Need-returns-2
 returns-2 c = search needs
 

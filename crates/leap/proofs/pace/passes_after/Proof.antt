@@ -1,41 +1,25 @@
 -- `passes_after` meets its contract: each test that it goes past is a premise of the law. Assumes nothing.
-use mathlib.Core.Path.{_≡_, refl}
-use mathlib.Core.Bool.{false}
-use Prim.Native.Nat.{_+_, _*_, _≤_, _<_}
+use mathlib.Core.Path.{refl}
 use native.Mathlib.Omega.{arith}
 use borrow.Author.Tests.{not-false}
-use borrow.Author.Needs.{needs}
 use Rattle.leap.proofs.Passing.{passing-of}
 use Rattle.leap.proofs.pace.passes_after.Statement.{statement}
 use Rattle.leap.proofs.pace.passes_after.Tie as tie
-use Rattle.leap.proofs.pace.passes_after.Reads as reads
-use Rattle.leap.proofs.pace.passes_after.Lts as lts
-use Rattle.leap.proofs.pace.closing.Reads as closing-reads
-use Rattle.leap.proofs.pace.total.Reads as total-reads
-use Rattle.leap.proofs.test.advance.Reads as advance-reads
-use Rattle.leap.proofs.test.at_least.Reads as at-least-reads
-use Rattle.leap.proofs.test.at_most.Reads as at-most-reads
-use Rattle.leap.proofs.test.far.Reads as far-reads
 
--- src/pace.rt:72:9
 far-requires : tie.Need-far-requires
 far-requires c κs = (c .before .pre .0, c .before .pre .1, c .before .pre .3, omega arith, c .before .pre .4, refl)
 
--- src/pace.rt:73:9
 returns : tie.Need-returns
 returns c = (omega arith, λ h. absurd (omega arith))
 
--- src/pace.rt:76:9
 advance-requires : tie.Need-advance-requires
 advance-requires c κs =
     let pre = c .before .before .before .before .before .pre in
     (pre .0, pre .1)
 
--- src/pace.rt:77:9
 returns-2 : tie.Need-returns-2
 returns-2 c = (omega arith, λ h. absurd (omega arith))
 
--- src/pace.rt:79:9
 at-most-requires : tie.Need-at-most-requires
 at-most-requires c κs =
     let advance = c .before .before .before .advance in
@@ -45,33 +29,27 @@ at-most-requires c κs =
     let high = far .ensures .1 (not-false _ (if1 .left)) in
     (pre .0, pre .1, pre .3, pre .4, advance .ensures .1 (not-false _ (c .before .before .if2 .left)), high)
 
--- src/pace.rt:80:9
 returns-3 : tie.Need-returns-3
 returns-3 c = (omega arith, λ h. absurd (omega arith))
 
--- src/pace.rt:83:9
 far-requires-2 : tie.Need-far-requires-2
 far-requires-2 c κs =
     let back = c .before .before .before .before .before .before .before .before .before .before in
     let pre = back .before .before .pre in
     (pre .0, pre .1, pre .2, omega arith, pre .4, refl)
 
--- src/pace.rt:84:9
 returns-4 : tie.Need-returns-4
 returns-4 c = (omega arith, λ h. absurd (omega arith))
 
--- src/pace.rt:86:9
 at-least-requires : tie.Need-at-least-requires
 at-least-requires c κs =
     let back = c .before .before .before .before .before .before .before .before .before .before in
     let pre = back .before .before .before .before .before .pre in
     (pre .0, pre .1, pre .2, pre .4, c .before .before .far2 .ensures .1 (not-false _ (c .before .if4 .left)))
 
--- src/pace.rt:87:9
 returns-5 : tie.Need-returns-5
 returns-5 c = (omega arith, λ h. absurd (omega arith))
 
--- src/pace.rt:89:9
 closing-requires : tie.Need-closing-requires
 closing-requires c κs =
     let back = c .before .before .before .before .before .before .before .before .before .before in
@@ -84,11 +62,9 @@ closing-requires c κs =
     let low = far2 .ensures .1 (not-false _ (if4 .left)) in
     (pre .0, low .times, high .times)
 
--- src/pace.rt:91:9
 returns-6 : tie.Need-returns-6
 returns-6 c = (omega arith, λ h. absurd (omega arith))
 
--- src/pace.rt:93:9
 total-requires : tie.Need-total-requires
 total-requires c κs =
     let back = c .before .before .before .before .before .before .before .before .before .before in
@@ -96,11 +72,9 @@ total-requires c κs =
     let pre = back2 .before .pre in
     (pre .4, pre .5, omega (arith, c .before .closing .ensures .0, pre .5))
 
--- src/pace.rt:95:9
 returns-7 : tie.Need-returns-7
 returns-7 c = (omega arith, λ h. absurd (omega arith))
 
--- src/pace.rt:55:1
 returns-8 : tie.Need-returns-8
 returns-8 c =
     let back = c .before .before .before .before .before .before .before .before .before .before in

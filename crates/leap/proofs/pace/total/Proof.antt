@@ -5,26 +5,20 @@ use native.Mathlib.Omega.{arith}
 use borrow.Author.Needs.{needs}
 use Rattle.leap.proofs.pace.total.Statement.{statement}
 use Rattle.leap.proofs.pace.total.Tie as tie
-use Rattle.leap.proofs.pace.total.Reads as reads
-use Rattle.leap.proofs.pace.total.Lts as lts
 
--- src/pace.rt:50:5
 mul-result : tie.Need-mul-result
 mul-result c =
     let h : c .args .j * c .args .p ≤ 10080 * 65535 = mul-le-mul (c .pre .0) (c .pre .1) in
     omega arith
 
--- src/pace.rt:50:14
 add-result : tie.Need-add-result
 add-result c = search needs
 
--- src/pace.rt:50:5
 add-result-2 : tie.Need-add-result-2
 add-result-2 c =
     let h : c .args .j * c .args .p ≤ 10080 * 65535 = mul-le-mul (c .pre .0) (c .pre .1) in
     omega arith
 
--- src/pace.rt:46:1
 returns : tie.Need-returns
 returns c = search needs
 

@@ -1,8 +1,6 @@
--- `hop` meets its contract: where a test fails nothing is altered, which no rounds lead to; where none fails the
--- placed table is where j times p rounds lead, and p more lead from it to what was made of it. Assumes nothing.
-use mathlib.Core.Path.{_≡_, refl}
-use mathlib.Core.Bool.{false}
-use Prim.Native.Nat.{_*_, _≤_}
+-- `hop` meets its contract: where a test fails nothing is altered, which no rounds lead to; where none fails the placed table is where
+-- j times p rounds lead, and p more lead from it to what was made of it. Assumes nothing.
+use mathlib.Core.Path.{refl}
 use native.Mathlib.Omega.{arith}
 use borrow.Author.Tests.{not-false}
 use borrow.Author.Needs.{needs}
@@ -12,43 +10,30 @@ use Rattle.leap.proofs.Tables.{horizon-few, advanced-none, far-of}
 use Rattle.leap.proofs.Hop.{advanced-hop}
 use Rattle.leap.proofs.pass.hop.Statement.{statement}
 use Rattle.leap.proofs.pass.hop.Tie as tie
-use Rattle.leap.proofs.pass.hop.Reads as reads
-use Rattle.leap.proofs.pass.hop.Lts as lts
-use Rattle.leap.proofs.pass.product.Reads as product-reads
-use Rattle.leap.proofs.test.advance.Reads as advance-reads
-use Rattle.leap.proofs.test.at_least.Reads as at-least-reads
-use Rattle.leap.proofs.test.at_most.Reads as at-most-reads
-use Rattle.moves.proofs.place.Reads as place-reads
 
--- src/pass.rt:38:9
 product-requires : tie.Need-product-requires
 product-requires c κs = search needs
 
--- src/pass.rt:40:9
 returns : tie.Need-returns
 returns c =
     let pre = c .before .before .pre in
     (omega arith, advanced-none (pre .1), pre .6)
 
--- src/pass.rt:43:56
 mul-place : tie.Need-mul-place
 mul-place c =
     let pre = c .before .before .before .before .pre in
     omega (arith, scenarios-in (pre .0))
 
--- src/pass.rt:43:9
 place-requires : tie.Need-place-requires
 place-requires c κs =
     let pre = c .before .before .before .before .before .pre in
     (omega (arith, scenarios-in (pre .0)), refl, pre .3, omega arith)
 
--- src/pass.rt:44:9
 returns-2 : tie.Need-returns-2
 returns-2 c =
     let pre = c .before .before .before .before .before .before .before .pre in
     (omega arith, advanced-none (pre .1), pre .6)
 
--- src/pass.rt:47:9
 advance-requires : tie.Need-advance-requires
 advance-requires c κs =
     let place = c .before .before .place in
@@ -56,13 +41,11 @@ advance-requires c κs =
     let placed = place .ensures .1 (not-false _ (c .before .if2 .left)) in
     (pre .0, placed-times (pre .1) (pre .2) placed (place .ensures .0) (horizon-few (pre .0)))
 
--- src/pass.rt:48:9
 returns-3 : tie.Need-returns-3
 returns-3 c =
     let pre = c .before .before .before .before .before .before .before .before .before .before .pre in
     (omega arith, advanced-none (pre .1), pre .6)
 
--- src/pass.rt:50:9
 at-most-requires : tie.Need-at-most-requires
 at-most-requires c κs =
     let back = c .before .before .before .before .before .before .before .before .before .before in
@@ -75,14 +58,12 @@ at-most-requires c κs =
     let led = advance .ensures .1 (not-false _ (if3 .left)) in
     (pre .0, pre .1, pre .2, pre .3, pre .6, far-of placed led)
 
--- src/pass.rt:51:9
 returns-4 : tie.Need-returns-4
 returns-4 c =
     let back = c .before .before .before .before .before .before .before .before .before .before in
     let pre = back .before .before .before .before .before .pre in
     (omega arith, advanced-none (pre .1), pre .6)
 
--- src/pass.rt:53:9
 at-least-requires : tie.Need-at-least-requires
 at-least-requires c κs =
     let back = c .before .before .before .before .before .before .before .before .before .before in
@@ -95,14 +76,12 @@ at-least-requires c κs =
     let led = advance .ensures .1 (not-false _ (if3 .left)) in
     (pre .0, pre .1, pre .2, pre .3, far-of placed led)
 
--- src/pass.rt:54:9
 returns-5 : tie.Need-returns-5
 returns-5 c =
     let back = c .before .before .before .before .before .before .before .before .before .before in
     let pre = back .before .before .before .before .before .before .before .before .before .pre in
     (omega arith, advanced-none (pre .1), pre .6)
 
--- src/pass.rt:21:1
 returns-6 : tie.Need-returns-6
 returns-6 c =
     let back = c .before .before .before .before .before .before .before .before .before .before in

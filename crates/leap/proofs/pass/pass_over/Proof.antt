@@ -1,9 +1,8 @@
--- `pass_over` meets its contract. The invariant: so many rounds, of those that are left, lead from a at entry to a,
--- and p from a to x. The measure is what is left of the tries. Assumes nothing.
-use mathlib.Core.Path.{_≡_, refl}
-use Prim.Native.Nat.{_+_, _*_, _-_, _≤_}
+-- `pass_over` meets its contract. The invariant: so many rounds, of those that are left, lead from a at entry to a, and p from a to x. The
+-- measure is what is left of the tries. Assumes nothing.
+use mathlib.Core.Path.{refl}
+use Prim.Native.Nat.{_-_, _≤_}
 use native.Mathlib.Omega.{arith}
-use borrow.Author.Needs.{needs}
 use Rattle.rounds.proofs.Usable.{scenarios-in}
 use Rattle.moves.proofs.Moves.{wrote-times}
 use Rattle.moves.proofs.Levels.{some-of}
@@ -11,82 +10,68 @@ use Rattle.leap.specs.Tables.{Advanced}
 use Rattle.leap.proofs.Tables.{advanced-none, advanced-join}
 use Rattle.leap.proofs.pass.pass_over.Statement.{statement}
 use Rattle.leap.proofs.pass.pass_over.Tie as tie
-use Rattle.leap.proofs.pass.pass_over.Reads as reads
-use Rattle.leap.proofs.pass.pass_over.Lts as lts
-use Rattle.guess.proofs.most.Reads as most-reads
-use Rattle.leap.proofs.pass.hop.Reads as hop-reads
-use Rattle.moves.proofs.next_level.Reads as next-level-reads
-use Rattle.moves.proofs.rise.Reads as rise-reads
 
 abbrev Inv-loop : tie.InvT-loop
-Inv-loop a₀ x₀ p tries left frame counts lists cells d j₀ made₀ tried₀ a x j made tried =
-    (made ≤ left) × (j ≤ 10080) × (tried ≤ tries) × Advanced frame counts lists made a₀ a
-    × Advanced frame counts lists p a x
+Inv-loop a₀ x₀ p left frame counts lists cells d c₀ made₀ tried₀ a x c made tried =
+    (made ≤ left) × (c .j ≤ 10080) × (tried ≤ 64) × Advanced frame counts lists made a₀ a × Advanced frame counts lists p a x
 
 abbrev μ-loop : tie.MeasureT-loop
-μ-loop a₀ x₀ p tries left frame counts lists cells d j₀ made₀ tried₀ a x j made tried = tries - tried
+μ-loop a₀ x₀ p left frame counts lists cells d c₀ made₀ tried₀ a x c made tried = 64 - tried
 
--- src/pass.rt:79:9
 returns : tie.Need-returns Inv-loop μ-loop
 returns c = (omega arith, advanced-none (c .before .pre .1), c .before .pre .2)
 
--- src/pass.rt:81:17
 mul-cells : tie.Need-mul-cells Inv-loop μ-loop
 mul-cells c = omega (arith, scenarios-in (c .before .before .pre .0))
 
--- src/pass.rt:83:5
 rise-requires : tie.Need-rise-requires Inv-loop μ-loop
 rise-requires c κs =
     let pre = c .before .before .before .before .before .pre in
     (omega (arith, scenarios-in (pre .0)), refl)
 
--- src/pass.rt:84:8
 next-level-requires : tie.Need-next-level-requires Inv-loop μ-loop
 next-level-requires c κs =
     let pre = c .before .before .before .before .before .before .before .pre in
     omega (arith, scenarios-in (pre .0))
 
--- src/pass.rt:85:9
 returns-2 : tie.Need-returns-2 Inv-loop μ-loop
 returns-2 c =
     let pre = c .before .before .before .before .before .before .before .before .before .pre in
     (omega arith, advanced-none (pre .1), pre .2)
 
--- src/pass.rt:87:9
 most-requires : tie.Need-most-requires Inv-loop μ-loop
 most-requires c κs =
     let pre = c .before .before .before .before .before .before .before .before .before .before .before .pre in
     omega (arith, scenarios-in (pre .0))
 
--- src/pass.rt:90:5
+first-count-requires : tie.Need-first-count-requires Inv-loop μ-loop
+first-count-requires c κs = c .most .ensures
+
 loop-holds : tie.Need-loop-holds Inv-loop μ-loop
 loop-holds c =
     let back = c .before .before .before .before .before .before .before .before .before .before in
-    let pre = back .before .before .pre in
-    (omega arith, c .most .ensures, omega arith, advanced-none (pre .1), pre .2)
+    let pre = back .before .before .before .pre in
+    (omega arith, c .first-count .ensures, omega arith, advanced-none (pre .1), pre .2)
 
--- src/pass.rt:92:13
 returns-3 : tie.Need-returns-3 Inv-loop μ-loop
 returns-3 c =
     let loop = c .before .before .loop in
     (loop .inv .0, loop .inv .3, loop .inv .4)
 
--- src/pass.rt:94:37
 sub-hop : tie.Need-sub-hop Inv-loop μ-loop
 sub-hop c =
     let loop = c .before .before .before .before .before .loop in
     omega (arith, loop .inv .0)
 
--- src/pass.rt:94:17
 hop-requires : tie.Need-hop-requires Inv-loop μ-loop
 hop-requires c κs =
     let back = c .before .before .before .before .before .before .before .before .before .before in
     let loop = c .before .before .before .before .before .loop in
-    let if2 = c .before .before .before .before .before .before .before .before .before .if2 in
-    let next-level = back .next-level in
-    let rise = back .before .before .rise in
-    let if1 = back .before .before .before .before .before .before .before .if1 in
-    let pre = back .before .before .before .before .before .before .before .before .pre in (
+    let if2 = back .if2 in
+    let next-level = back .before .next-level in
+    let rise = back .before .before .before .rise in
+    let if1 = back .before .before .before .before .before .before .before .before .if1 in
+    let pre = back .before .before .before .before .before .before .before .before .before .pre in (
       pre .0,
       loop .inv .3 .times,
       wrote-times _ (pre .2 .times) refl (rise .ensures) (λ i. omega arith),
@@ -96,41 +81,39 @@ hop-requires c κs =
       loop .inv .4,
     )
 
--- src/pass.rt:94:9
 add-made : tie.Need-add-made Inv-loop μ-loop
 add-made c =
     let back = c .before .before .before .before .before .before .before .before .before .before in
     let loop = c .before .before .before .before .before .before .loop in
-    let fits = back .before .before .before .before .before .before .before .before .before .fits in
+    let fits = back .before .before .before .before .before .before .before .before .before .before .fits in
     omega (arith, loop .inv .0, c .hop .ensures .0, fits .left)
 
--- src/pass.rt:96:9
+next-count-requires : tie.Need-next-count-requires Inv-loop μ-loop
+next-count-requires c κs =
+    let loop = c .before .before .before .before .before .before .loop in
+    loop .inv .1
+
 add-tried : tie.Need-add-tried Inv-loop μ-loop
 add-tried c =
-    let back = c .before .before .before .before .before .before .before .before .before .before in
-    let loop-test = c .before .before .before .before .before .loop-test in
-    let fits = back .before .before .before .before .before .before .before .before .before .fits in
-    omega (arith, loop-test .taken, fits .tries)
-
--- src/pass.rt:90:5
-loop-less : tie.Need-loop-less Inv-loop μ-loop
-loop-less c =
-    let loop-test = c .before .before .before .before .before .loop-test in
+    let loop-test = c .before .before .before .before .before .before .loop-test in
     omega (arith, loop-test .taken)
 
--- src/pass.rt:90:5
+loop-less : tie.Need-loop-less Inv-loop μ-loop
+loop-less c =
+    let loop-test = c .before .before .before .before .before .before .loop-test in
+    omega (arith, loop-test .taken)
+
 loop-again : tie.Need-loop-again Inv-loop μ-loop
 loop-again c =
-    let loop-test = c .before .before .before .before .before .loop-test in
-    let loop = c .before .before .before .before .before .before .loop in (
-      omega (arith, loop .inv .0, c .hop .ensures .0),
-      omega (arith, loop .inv .1),
+    let loop-test = c .before .before .before .before .before .before .loop-test in
+    let loop = c .before .before .before .before .before .before .before .loop in (
+      omega (arith, loop .inv .0, c .before .hop .ensures .0),
+      c .next-count .ensures,
       omega (arith, loop-test .taken),
-      advanced-join (loop .inv .3) (c .hop .ensures .1),
-      c .hop .ensures .2,
+      advanced-join (loop .inv .3) (c .before .hop .ensures .1),
+      c .before .hop .ensures .2,
     )
 
--- src/pass.rt:63:1
 returns-4 : tie.Need-returns-4 Inv-loop μ-loop
 returns-4 c = (c .before .loop .inv .0, c .before .loop .inv .3, c .before .loop .inv .4)
 
@@ -146,11 +129,13 @@ pass-over-spec =
     next-level-requires
     returns-2
     most-requires
+    first-count-requires
     loop-holds
     returns-3
     sub-hop
     hop-requires
     add-made
+    next-count-requires
     add-tried
     loop-less
     loop-again

@@ -5,16 +5,12 @@ use native.Mathlib.Omega.{arith}
 use borrow.Author.Needs.{needs}
 use Rattle.leap.proofs.pass.product.Statement.{statement}
 use Rattle.leap.proofs.pass.product.Tie as tie
-use Rattle.leap.proofs.pass.product.Reads as reads
-use Rattle.leap.proofs.pass.product.Lts as lts
 
--- src/pass.rt:16:5
 mul-result : tie.Need-mul-result
 mul-result c =
     let h : c .args .j * c .args .p ≤ 10080 * 65535 = mul-le-mul (c .pre .0) (c .pre .1) in
     omega arith
 
--- src/pass.rt:12:1
 returns : tie.Need-returns
 returns c = search needs
 

@@ -1,11 +1,10 @@
--- `at_least` meets its contract. The invariant: every cell of a level below l is known not to be raised by slower
--- ones. The next level is higher, and none is above 10,080: what is left below that is the measure. Assumes nothing.
-use mathlib.Core.Path.{_≡_, refl}
+-- `at_least` meets its contract. The invariant: every cell of a level below l is known not to be raised by slower ones. The next level is
+-- higher, and none is above 10,080: what is left below that is the measure. Assumes nothing.
+use mathlib.Core.Path.{refl}
 use mathlib.Core.Bool.{false}
-use Prim.Native.Nat.{_*_, _-_, _≤_, _<_}
+use Prim.Native.Nat.{_*_, _-_, _≤_}
 use native.Mathlib.Nat.{mul-le-mul}
 use native.Mathlib.Omega.{arith}
-use borrow.Author.Needs.{needs}
 use borrow.Author.Tests.{not-false}
 use Rattle.prelude.proofs.Tests.{clash}
 use Rattle.network.specs.declared.Network.{Network}
@@ -17,12 +16,6 @@ use Rattle.leap.proofs.Levels.{Lower, lower-start, lower-next}
 use Rattle.leap.proofs.Tested.{next-framed, at-least-of}
 use Rattle.leap.proofs.test.at_least.Statement.{statement}
 use Rattle.leap.proofs.test.at_least.Tie as tie
-use Rattle.leap.proofs.test.at_least.Reads as reads
-use Rattle.leap.proofs.test.at_least.Lts as lts
-use Rattle.leap.proofs.test.slower_hold.Reads as slower-hold-reads
-use Rattle.moves.proofs.between.Reads as between-reads
-use Rattle.moves.proofs.next_level.Reads as next-level-reads
-use Rattle.moves.proofs.reached.Reads as reached-reads
 
 abbrev Inv-loop : tie.InvT-loop
 Inv-loop t d o j p frame counts lists cells l₀ l =
@@ -31,25 +24,20 @@ Inv-loop t d o j p frame counts lists cells l₀ l =
 abbrev μ-loop : tie.MeasureT-loop
 μ-loop t d o j p frame counts lists cells l₀ l = 10080 - l
 
--- src/test.rt:197:17
 mul-cells : tie.Need-mul-cells Inv-loop μ-loop
 mul-cells c = omega (arith, scenarios-in (c .before .pre .0))
 
--- src/test.rt:199:5
 loop-holds : tie.Need-loop-holds Inv-loop μ-loop
 loop-holds c = (omega arith, λ Γ C. lower-start)
 
--- src/test.rt:200:13
 next-level-requires : tie.Need-next-level-requires Inv-loop μ-loop
 next-level-requires c κs = omega (arith, scenarios-in (c .before .before .pre .0))
 
--- src/test.rt:202:17
 reached-requires : tie.Need-reached-requires Inv-loop μ-loop
 reached-requires c κs =
     let pre = c .before .before .before .before .pre in
     (c .before .before .loop .inv .0, pre .3)
 
--- src/test.rt:203:13
 between-requires : tie.Need-between-requires Inv-loop μ-loop
 between-requires c κs =
     let loop = c .before .before .before .loop in
@@ -58,7 +46,6 @@ between-requires c κs =
     let h : args .j * loop .l ≤ 10080 * 10080 = mul-le-mul (pre .3) (loop .inv .0) in
     (omega (arith, scenarios-in (pre .0)), omega (arith, c .reached .ensures, loop .inv .0), omega arith)
 
--- src/test.rt:203:13
 returns : tie.Need-returns Inv-loop μ-loop
 returns c =
     let next-level = c .before .before .before .next-level in
@@ -67,17 +54,14 @@ returns c =
     λ e Γ C. at-least-of C (pre .2) (next-level .ensures) (c .before .before .if1 .taken) (c .before .reached .ensures)
     (loop .inv .1 Γ C) (pre .4) (c .between .ensures e)
 
--- src/test.rt:205:13
 slower-hold-requires : tie.Need-slower-hold-requires Inv-loop μ-loop
 slower-hold-requires c κs =
     let pre = c .before .before .before .before .pre in
     (pre .0, pre .1, pre .2, pre .3, c .before .before .loop .inv .0)
 
--- src/test.rt:206:13
 returns-2 : tie.Need-returns-2 Inv-loop μ-loop
 returns-2 c = λ e. clash false e refl
 
--- src/test.rt:199:5
 loop-less : tie.Need-loop-less Inv-loop μ-loop
 loop-less c =
     let if1 = c .before .before .if1 in
@@ -87,7 +71,6 @@ loop-less c =
     let w = next .found (if1 .left) in
     omega (arith, next .more (if1 .left), w .2, cell-few (pre .2) (scenarios-in (pre .0)) (w .0) (w .1))
 
--- src/test.rt:199:5
 loop-again : tie.Need-loop-again Inv-loop μ-loop
 loop-again c =
     let if1 = c .before .before .if1 in

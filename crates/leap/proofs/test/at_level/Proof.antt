@@ -1,42 +1,31 @@
 -- `at_level` meets its contract: the far table that it made is the one that it tests. Assumes nothing.
-use mathlib.Core.Path.{_≡_, refl}
+use mathlib.Core.Path.{refl}
 use mathlib.Core.Bool.{false}
-use Prim.Native.Nat.{_*_, _≤_}
 use native.Mathlib.Omega.{arith}
 use borrow.Author.Tests.{not-false}
-use borrow.Author.Needs.{needs}
 use Rattle.prelude.proofs.Tests.{clash}
 use Rattle.rounds.proofs.Usable.{scenarios-in}
 use Rattle.leap.proofs.test.at_level.Statement.{statement}
 use Rattle.leap.proofs.test.at_level.Tie as tie
-use Rattle.leap.proofs.test.at_level.Reads as reads
-use Rattle.leap.proofs.test.at_level.Lts as lts
-use Rattle.leap.proofs.test.far.Reads as far-reads
-use Rattle.moves.proofs.between.Reads as between-reads
 
--- src/test.rt:91:9
 far-requires : tie.Need-far-requires
 far-requires c κs =
     let pre = c .before .pre in
     (pre .0, pre .1, pre .2, pre .3, pre .4, refl)
 
--- src/test.rt:92:9
 returns : tie.Need-returns
 returns c = λ e. clash false e refl
 
--- src/test.rt:94:44
 mul-between : tie.Need-mul-between
 mul-between c =
     let pre = c .before .before .before .before .before .pre in
     omega (arith, scenarios-in (pre .0))
 
--- src/test.rt:94:5
 between-requires : tie.Need-between-requires
 between-requires c κs =
     let pre = c .before .before .before .before .before .pre in
     (omega (arith, scenarios-in (pre .0)), pre .5, pre .6)
 
--- src/test.rt:70:1
 returns-2 : tie.Need-returns-2
 returns-2 c =
     let if1 = c .before .before .before .if1 in

@@ -1,8 +1,8 @@
--- `at_most` meets its contract. The invariant: every cell of a level below l is known not to be raised by faster
--- ones. The next level is higher, and none is above 10,080: what is left below that is the measure. Assumes nothing.
-use mathlib.Core.Path.{_≡_, refl}
+-- `at_most` meets its contract. The invariant: every cell of a level below l is known not to be raised by faster ones. The next level is
+-- higher, and none is above 10,080: what is left below that is the measure. Assumes nothing.
+use mathlib.Core.Path.{refl}
 use mathlib.Core.Bool.{false}
-use Prim.Native.Nat.{_*_, _-_, _≤_, _<_}
+use Prim.Native.Nat.{_-_, _≤_}
 use native.Mathlib.Omega.{arith}
 use borrow.Author.Needs.{needs}
 use borrow.Author.Tests.{not-false}
@@ -16,11 +16,6 @@ use Rattle.leap.proofs.Levels.{Lower, lower-start, lower-next}
 use Rattle.leap.proofs.Tested.{next-framed, at-most-of}
 use Rattle.leap.proofs.test.at_most.Statement.{statement}
 use Rattle.leap.proofs.test.at_most.Tie as tie
-use Rattle.leap.proofs.test.at_most.Reads as reads
-use Rattle.leap.proofs.test.at_most.Lts as lts
-use Rattle.leap.proofs.test.faster_hold.Reads as faster-hold-reads
-use Rattle.moves.proofs.between.Reads as between-reads
-use Rattle.moves.proofs.next_level.Reads as next-level-reads
 
 abbrev Inv-loop : tie.InvT-loop
 Inv-loop t d x o j p frame counts lists cells l₀ l =
@@ -29,29 +24,23 @@ Inv-loop t d x o j p frame counts lists cells l₀ l =
 abbrev μ-loop : tie.MeasureT-loop
 μ-loop t d x o j p frame counts lists cells l₀ l = 10080 - l
 
--- src/test.rt:141:17
 mul-cells : tie.Need-mul-cells Inv-loop μ-loop
 mul-cells c = omega (arith, scenarios-in (c .before .pre .0))
 
--- src/test.rt:143:5
 loop-holds : tie.Need-loop-holds Inv-loop μ-loop
 loop-holds c = (omega arith, λ Γ C. lower-start)
 
--- src/test.rt:144:13
 next-level-requires : tie.Need-next-level-requires Inv-loop μ-loop
 next-level-requires c κs = omega (arith, scenarios-in (c .before .before .pre .0))
 
--- src/test.rt:146:47
 cast-between : tie.Need-cast-between Inv-loop μ-loop
 cast-between c = search needs
 
--- src/test.rt:146:13
 between-requires : tie.Need-between-requires Inv-loop μ-loop
 between-requires c κs =
     let pre = c .before .before .before .before .pre in
     (omega (arith, scenarios-in (pre .0)), omega arith, omega (arith, c .before .before .loop .inv .0))
 
--- src/test.rt:146:13
 returns : tie.Need-returns Inv-loop μ-loop
 returns c =
     let loop = c .before .before .before .loop in
@@ -60,17 +49,14 @@ returns c =
     (loop .inv .1 Γ C) (pre .4)
     (c .between .ensures e)
 
--- src/test.rt:148:13
 faster-hold-requires : tie.Need-faster-hold-requires Inv-loop μ-loop
 faster-hold-requires c κs =
     let pre = c .before .before .before .before .pre in
     (pre .0, pre .1, pre .2, pre .3, c .before .before .loop .inv .0, pre .5)
 
--- src/test.rt:149:13
 returns-2 : tie.Need-returns-2 Inv-loop μ-loop
 returns-2 c = λ e. clash false e refl
 
--- src/test.rt:143:5
 loop-less : tie.Need-loop-less Inv-loop μ-loop
 loop-less c =
     let if1 = c .before .before .if1 in
@@ -80,7 +66,6 @@ loop-less c =
     let w = next .found (if1 .left) in
     omega (arith, next .more (if1 .left), w .2, cell-few (pre .2) (scenarios-in (pre .0)) (w .0) (w .1))
 
--- src/test.rt:143:5
 loop-again : tie.Need-loop-again Inv-loop μ-loop
 loop-again c =
     let if1 = c .before .before .if1 in

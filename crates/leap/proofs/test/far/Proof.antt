@@ -1,9 +1,7 @@
 -- `far` meets its contract: rounds may go from a table that is placed, and p of them are made. Assumes nothing.
-use mathlib.Core.Path.{_≡_, refl}
+use mathlib.Core.Path.{refl}
 use mathlib.Core.Bool.{false}
-use Prim.Native.Nat.{_*_, _≤_}
 use native.Mathlib.Omega.{arith}
-use borrow.Author.Needs.{needs}
 use borrow.Author.Tests.{not-false}
 use Rattle.prelude.proofs.Tests.{clash}
 use Rattle.rounds.proofs.Usable.{scenarios-in}
@@ -11,26 +9,18 @@ use Rattle.moves.proofs.Moves.{placed-times}
 use Rattle.leap.proofs.Tables.{horizon-few, far-of}
 use Rattle.leap.proofs.test.far.Statement.{statement}
 use Rattle.leap.proofs.test.far.Tie as tie
-use Rattle.leap.proofs.test.far.Reads as reads
-use Rattle.leap.proofs.test.far.Lts as lts
-use Rattle.leap.proofs.test.advance.Reads as advance-reads
-use Rattle.moves.proofs.place.Reads as place-reads
 
--- src/test.rt:62:17
 mul-cells : tie.Need-mul-cells
 mul-cells c = omega (arith, scenarios-in (c .before .pre .0))
 
--- src/test.rt:63:9
 place-requires : tie.Need-place-requires
 place-requires c κs =
     let pre = c .before .before .pre in
     (omega (arith, scenarios-in (pre .0)), pre .5, pre .4, pre .3)
 
--- src/test.rt:64:9
 returns : tie.Need-returns
 returns c = (c .before .place .ensures .0, λ e. clash false e refl)
 
--- src/test.rt:66:5
 advance-requires : tie.Need-advance-requires
 advance-requires c κs =
     let place = c .before .before .place in
@@ -38,7 +28,6 @@ advance-requires c κs =
     let placed = place .ensures .1 (not-false _ (c .before .if1 .left)) in
     (pre .0, placed-times (pre .1) (pre .2) placed (place .ensures .0) (horizon-few (pre .0)))
 
--- src/test.rt:45:1
 returns-2 : tie.Need-returns-2
 returns-2 c =
     let place = c .before .before .before .place in

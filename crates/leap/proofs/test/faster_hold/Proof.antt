@@ -1,39 +1,26 @@
--- `faster_hold` meets its contract: at the lowest level by the table that is there, at another by one that is made.
--- Assumes nothing.
-use mathlib.Core.Path.{_≡_}
-use Prim.Native.Nat.{_*_, _≤_}
+-- `faster_hold` meets its contract: at the lowest level by the table that is there, at another by one that is made. Assumes nothing.
 use native.Mathlib.Omega.{arith}
-use borrow.Author.Needs.{needs}
 use Rattle.rounds.proofs.Usable.{scenarios-in}
 use Rattle.leap.proofs.Tested.{faster-lowest, faster-level}
 use Rattle.leap.proofs.test.faster_hold.Statement.{statement}
 use Rattle.leap.proofs.test.faster_hold.Tie as tie
-use Rattle.leap.proofs.test.faster_hold.Reads as reads
-use Rattle.leap.proofs.test.faster_hold.Lts as lts
-use Rattle.leap.proofs.test.at_level.Reads as at-level-reads
-use Rattle.moves.proofs.between.Reads as between-reads
 
--- src/test.rt:117:49
 mul-between : tie.Need-mul-between
 mul-between c = omega (arith, scenarios-in (c .before .before .pre .0))
 
--- src/test.rt:117:9
 between-requires : tie.Need-between-requires
 between-requires c κs = (omega (arith, scenarios-in (c .before .before .pre .0)), omega arith, omega arith)
 
--- src/test.rt:117:9
 returns : tie.Need-returns
 returns c =
     let pre = c .before .before .before .pre in
     λ e Γ C. rw (c .before .before .if1 .taken) (faster-lowest C (pre .2) (pre .5) (c .between .ensures e))
 
--- src/test.rt:119:5
 at-level-requires : tie.Need-at-level-requires
 at-level-requires c κs =
     let pre = c .before .pre in
     (pre .0, pre .1, pre .2, omega arith, pre .3, omega arith, omega (arith, pre .4))
 
--- src/test.rt:99:1
 returns-2 : tie.Need-returns-2
 returns-2 c = λ e Γ C. faster-level C (c .before .before .pre .2) (c .at-level .ensures e)
 

@@ -1,28 +1,18 @@
--- `slower_hold` meets its contract: at the lowest level there is nothing to show, at another a table is made. Assumes
--- nothing.
-use mathlib.Core.Path.{_≡_}
+-- `slower_hold` meets its contract: at the lowest level there is nothing to show, at another a table is made. Assumes nothing.
 use Prim.Native.Nat.{_*_, _≤_}
 use native.Mathlib.Nat.{mul-le-mul}
 use native.Mathlib.Omega.{arith}
-use borrow.Author.Needs.{needs}
 use Rattle.leap.proofs.Levels.{slower-lowest}
 use Rattle.leap.proofs.Tested.{slower-level}
 use Rattle.leap.proofs.test.slower_hold.Statement.{statement}
 use Rattle.leap.proofs.test.slower_hold.Tie as tie
-use Rattle.leap.proofs.test.slower_hold.Reads as reads
-use Rattle.leap.proofs.test.slower_hold.Lts as lts
-use Rattle.leap.proofs.test.at_level.Reads as at-level-reads
-use Rattle.moves.proofs.reached.Reads as reached-reads
 
--- src/test.rt:173:9
 returns : tie.Need-returns
 returns c = λ _ Γ C. rw (c .if1 .taken) (slower-lowest Γ (C .formed .events) _ _ _ _)
 
--- src/test.rt:175:9
 reached-requires : tie.Need-reached-requires
 reached-requires c κs = (c .before .pre .4, c .before .pre .3)
 
--- src/test.rt:176:5
 at-level-requires : tie.Need-at-level-requires
 at-level-requires c κs =
     let args = c .before .before .args in
@@ -30,7 +20,6 @@ at-level-requires c κs =
     let h : args .j * args .l ≤ 10080 * 10080 = mul-le-mul (pre .3) (pre .4) in
     (pre .0, pre .1, pre .2, pre .4, pre .3, omega (arith, c .reached .ensures, pre .4), omega arith)
 
--- src/test.rt:157:1
 returns-2 : tie.Need-returns-2
 returns-2 c =
     let pre = c .before .before .before .pre in

@@ -1,0 +1,284 @@
+//! A solver that passes over many rounds at once, in the place of `libtally.a` in standalone builds; and wrong ones like it, to see that the
+//! mode `count` notices them.
+//!
+//! A round gives each cell the greatest of its bounds, and a bound is the least of some cells, each with minutes added. Where the rises of
+//! the last rounds repeat those of the rounds before them, a period further on each table is that of a period before with each cell moved on
+//! by its rise in a period. This stays so as long as no bound of a cell gets above the cell moved on, as one that rises faster may, and one
+//! of its bounds keeps it up, as one that a signal holds up may not. Both are asked of each round of the period, and the answer is a number
+//! of periods, since everything moves along lines.
+
+use crate::library::own;
+use crate::library::Tally;
+use crate::model::{self, agrees, truth, Kind, Net};
+use crate::rounds::{self, Run};
+
+/// A bound of a cell: the least of these cells, each with these minutes added.
+type Bound = Vec<(usize, i64)>;
+type Table = Vec<i64>;
+
+/// More periods than any run has.
+const MANY: i64 = 1_000_000;
+/// After so many tables, and then each time there are a quarter more, a period is looked for.
+const FIRST_LOOK: usize = 6;
+/// So many tables are kept to look for a period.
+const TABLES_MOST: usize = 6_000;
+
+/// What is wrong with a solver.
+#[derive(Clone, Copy, PartialEq)]
+enum Slip {
+    None,
+    LastNotCounted,
+    IdleNotCounted,
+    PassingNotCounted,
+    PeriodAsOne,
+    OneTooMany,
+    FasterIgnored,
+    HoldUpIgnored,
+    GuessNotTested,
+    StartPassedOver,
+    StartNotLimited,
+    HorizonPassedOver,
+    HorizonExcluded,
+    LimitTestedBefore,
+    TableBeforeLeap,
+    SameMinute,
+    OneSignalCases,
+    RaisedInPlace,
+}
+
+pub const COUNT_FAULTS: [(&str, Tally); 20] = [
+    ("last-round-not-counted", wrong(|sheet| answer(sheet, Slip::LastNotCounted))),
+    ("idle-round-not-counted", wrong(|sheet| answer(sheet, Slip::IdleNotCounted))),
+    ("passing-round-not-counted", wrong(|sheet| answer(sheet, Slip::PassingNotCounted))),
+    ("period-counted-as-one-round", wrong(|sheet| answer(sheet, Slip::PeriodAsOne))),
+    ("one-period-too-many", wrong(|sheet| answer(sheet, Slip::OneTooMany))),
+    ("faster-cells-ignored", wrong(|sheet| answer(sheet, Slip::FasterIgnored))),
+    ("leaps-past-a-hold-up", wrong(|sheet| answer(sheet, Slip::HoldUpIgnored))),
+    ("guess-not-tested", wrong(|sheet| answer(sheet, Slip::GuessNotTested))),
+    ("leaps-past-the-start's-limit", wrong(|sheet| answer(sheet, Slip::StartPassedOver))),
+    ("start-has-no-limit", wrong(|sheet| answer(sheet, Slip::StartNotLimited))),
+    ("leaps-past-the-horizon", wrong(|sheet| answer(sheet, Slip::HorizonPassedOver))),
+    ("horizon-excluded", wrong(|sheet| answer(sheet, Slip::HorizonExcluded))),
+    ("limit-tested-before-the-round", wrong(|sheet| answer(sheet, Slip::LimitTestedBefore))),
+    ("table-from-before-the-leap", wrong(|sheet| answer(sheet, Slip::TableBeforeLeap))),
+    ("signal-in-its-own-minute", wrong(|sheet| answer(sheet, Slip::SameMinute))),
+    ("one-signal-cases-only", wrong(|sheet| answer(sheet, Slip::OneSignalCases))),
+    ("raised-in-place", wrong(|sheet| answer(sheet, Slip::RaisedInPlace))),
+    ("refused-sheet-counts-one", wrong(|sheet| leaping(sheet).max(1))),
+    ("plain-rounds-wrong", Tally { plain: |sheet| answer(sheet, Slip::LastNotCounted), ..own::TALLY }),
+    ("never-leaps", Tally { leaping: own::plain, plain: own::plain, turns: |sheet| own::plain(sheet) & 0xffff_ffff }),
+];
+
+const fn wrong(leaping: fn(&[u8]) -> u64) -> Tally {
+    Tally { leaping, plain: own::plain, turns }
+}
+
+/// The right one.
+pub fn leaping(sheet: &[u8]) -> u64 {
+    answer(sheet, Slip::None)
+}
+
+/// How many rounds the right one makes one by one.
+pub fn turns(sheet: &[u8]) -> u64 {
+    model::read(sheet).map_or(0, |net| u64::from(Leaper::new(&net, Slip::None).run().1))
+}
+
+fn answer(sheet: &[u8], slip: Slip) -> u64 {
+    model::read(sheet).map_or(0, |net| rounds::answer(&net, &Leaper::new(&net, slip).run().0))
+}
+
+struct Leaper {
+    /// The bounds of each cell; the first is its own value.
+    bounds: Vec<Vec<Bound>>,
+    limits: Table,
+    events: usize,
+    slip: Slip,
+}
+
+/// Where a run may be taken up: so many periods of so many rounds further on.
+struct Leap {
+    period: usize,
+    times: i64,
+    table: Table,
+}
+
+impl Leaper {
+    fn new(net: &Net, slip: Slip) -> Self {
+        let events = net.events.len();
+        let horizon = if slip == Slip::HorizonExcluded { net.horizon - 1 } else { net.horizon };
+        let limit = |cell: usize| if cell % events == 0 && slip != Slip::StartNotLimited { 0 } else { horizon };
+        let bounds = |cell: usize| bounds(net, cell / events, cell % events, slip);
+        let cells = 0..net.cells();
+        Leaper { bounds: cells.clone().map(bounds).collect(), limits: cells.map(limit).collect(), events, slip }
+    }
+
+    /// The run, and how many rounds were made one by one.
+    fn run(&self) -> (Run, u32) {
+        let mut tables = vec![vec![0; self.limits.len()]];
+        let (mut count, mut turns, mut look) = (0u32, 0, FIRST_LOOK);
+        let mut before_leap = None;
+        loop {
+            let before = tables.last().unwrap();
+            let after = self.round(before);
+            (count, turns) = (count + 1, turns + 1);
+            if self.passed(if self.slip == Slip::LimitTestedBefore { before } else { &after }) {
+                return (self.ended(count, None), turns);
+            }
+            if after == *before {
+                let found = if self.slip == Slip::TableBeforeLeap { before_leap.unwrap_or(after) } else { after };
+                return (self.ended(count, Some(found)), turns);
+            }
+            tables.push(after);
+            if tables.len() >= look {
+                look += look / 4;
+                if let Some(leap) = self.leap(&tables) {
+                    count = count.wrapping_add(self.passed_over(&leap));
+                    before_leap = tables.pop();
+                    tables = vec![leap.table];
+                    look = FIRST_LOOK;
+                }
+            }
+            if tables.len() > TABLES_MOST {
+                tables.drain(..tables.len() - 1);
+                look = FIRST_LOOK;
+            }
+        }
+    }
+
+    fn ended(&self, count: u32, table: Option<Table>) -> Run {
+        let uncounted = match self.slip {
+            Slip::LastNotCounted => true,
+            Slip::IdleNotCounted => table.is_some(),
+            Slip::PassingNotCounted => table.is_none(),
+            _ => false,
+        };
+        Run { count: count - u32::from(uncounted), table: table.map(|table| table.into_iter().map(|minute| minute as u16).collect()) }
+    }
+
+    fn passed_over(&self, leap: &Leap) -> u32 {
+        (leap.times * if self.slip == Slip::PeriodAsOne { 1 } else { leap.period as i64 }) as u32
+    }
+
+    fn round(&self, before: &Table) -> Table {
+        let mut after = before.clone();
+        for (cell, bounds) in self.bounds.iter().enumerate() {
+            for bound in bounds {
+                let from = if self.slip == Slip::RaisedInPlace { &after } else { before };
+                let minute = bound.iter().map(|&(other, wait)| from[other] + wait).min().unwrap();
+                after[cell] = after[cell].max(minute);
+            }
+        }
+        after
+    }
+
+    fn passed(&self, table: &Table) -> bool {
+        table.iter().zip(&self.limits).any(|(minute, limit)| minute > limit)
+    }
+
+    /// A leap from the last of these tables, if the rises before it repeat and will do so for some time.
+    fn leap(&self, tables: &[Table]) -> Option<Leap> {
+        let period = period(tables)?;
+        let tables = &tables[tables.len() - 1 - period..];
+        let (first, last) = (&tables[0], &tables[period]);
+        let rises: Table = last.iter().zip(first).map(|(last, first)| last - first).collect();
+        let mut times = self.periods(tables, &rises) - 1;
+        if self.slip != Slip::HorizonPassedOver {
+            times = (0..last.len()).filter(|&cell| rises[cell] > 0).map(|cell| (self.limits[cell] - last[cell]) / rises[cell]).fold(times, i64::min);
+        }
+        if times < 1 {
+            return None;
+        }
+        times += i64::from(self.slip == Slip::OneTooMany);
+        Some(Leap { period, times, table: last.iter().zip(&rises).map(|(last, rise)| last + times * rise).collect() })
+    }
+
+    /// For how many periods the rounds between these tables are made alike, the first time included.
+    fn periods(&self, tables: &[Table], rises: &Table) -> i64 {
+        let mut periods = MANY;
+        for pair in tables.windows(2) {
+            for cell in 0..rises.len() {
+                periods = periods.min(self.periods_of_cell(cell, &pair[0], pair[1][cell], rises));
+            }
+        }
+        periods
+    }
+
+    /// The same for one cell in one round; `after` is what the round made of it.
+    fn periods_of_cell(&self, cell: usize, before: &Table, after: i64, rises: &Table) -> i64 {
+        let (mut above, mut kept) = (MANY, 0);
+        for bound in &self.bounds[cell] {
+            let parts = bound.iter().map(|&(other, wait)| (before[other] + wait - after, rises[other] - rises[cell]));
+            above = above.min(first_above(parts.clone()));
+            kept = kept.max(times_kept(parts));
+        }
+        let is_start = cell % self.events == 0;
+        match self.slip {
+            Slip::GuessNotTested => MANY,
+            Slip::FasterIgnored if !is_start => kept,
+            Slip::StartPassedOver if is_start => kept,
+            Slip::HoldUpIgnored => above,
+            _ => above.min(kept),
+        }
+    }
+}
+
+/// All bounds of one cell.
+fn bounds(net: &Net, s: usize, u: usize, slip: Slip) -> Vec<Bound> {
+    let mut bounds = vec![vec![(net.cell(s, u), 0)]];
+    for rule in net.rules.iter().filter(|rule| agrees(rule, s)) {
+        if rule.to == u && rule.kind != Kind::Max {
+            bounds.push(vec![(net.cell(s, rule.from), rule.limit)]);
+        }
+        if rule.from == u && rule.kind != Kind::Min {
+            bounds.push(vec![(net.cell(s, rule.to), -rule.limit)]);
+        }
+    }
+    let reaction = if slip == Slip::SameMinute { 0 } else { 1 };
+    for r in (0..net.cases()).filter(|&r| r != s && (slip != Slip::OneSignalCases || (r ^ s).is_power_of_two())) {
+        let mut bound = vec![(net.cell(r, u), 0)];
+        for (signal, given) in net.signals.iter().enumerate() {
+            if truth(s, signal) != truth(r, signal) {
+                bound.push((net.cell(s, given.event), reaction));
+            }
+        }
+        bounds.push(bound);
+    }
+    bounds
+}
+
+/// The least number of rounds whose rises, up to the last table, are those of as many rounds before them.
+fn period(tables: &[Table]) -> Option<usize> {
+    let last = tables.len() - 1;
+    let rise = |round: usize, cell: usize| tables[round][cell] - tables[round - 1][cell];
+    let alike = |one: usize, other: usize| (0..tables[0].len()).all(|cell| rise(one, cell) == rise(other, cell));
+    (1..=last / 2).find(|&period| (0..period).all(|back| alike(last - back, last - back - period)))
+}
+
+/// The first time at which all parts are above 0. A part is what it is at time 0, and its gain from each time to the next.
+fn first_above(parts: impl Iterator<Item = (i64, i64)>) -> i64 {
+    let (mut first, mut last) = (0, MANY);
+    for (part, gain) in parts {
+        if part > 0 && gain < 0 {
+            last = last.min((part - 1) / -gain);
+        } else if part <= 0 && gain > 0 {
+            first = first.max(-part / gain + 1);
+        } else if part <= 0 {
+            return MANY;
+        }
+    }
+    if first <= last { first } else { MANY }
+}
+
+/// For how many times, from 0 on, no part is below 0.
+fn times_kept(parts: impl Iterator<Item = (i64, i64)>) -> i64 {
+    let mut times = MANY;
+    for (part, gain) in parts {
+        if part < 0 {
+            return 0;
+        }
+        if gain < 0 {
+            times = times.min(part / -gain + 1);
+        }
+    }
+    times
+}
