@@ -6,7 +6,7 @@ ghost use lib.ListN.{length};
 
 // A round that raises as the marked one did ends a period. From round `from` on a round is marked, and another after
 // `window` rounds in which none was alike. What is to be done next: `keep` the table as the one that periods are
-// counted from; `tries`, how often to try.
+// counted from; `leaps`, whether to try a leap.
 pub struct Watching {
     pub from: u32,
     pub window: u32,
@@ -130,7 +130,7 @@ pub fn watch(
     }
 }
 
-// The watch after tries that passed over so many rounds: after none not soon.
+// The watch after tests by which so many rounds were passed over: after none not soon.
 pub fn after_tries(w: Watching, turns: u32, made: u32) -> Watching {
     if !w.leaps {
         return w;
@@ -148,8 +148,8 @@ pub fn after_tries(w: Watching, turns: u32, made: u32) -> Watching {
     }
 }
 
-// Which counts of moves are tried: first the most that the horizon allows; if that is too many, few, and twice as many as long as they hold;
-// then half as many each time.
+// Which counts of moves are tried: first the most that the horizon allows; if that is too many, few, and twice as many as
+// long as they hold; then half as many each time.
 pub struct Counts {
     pub j: u32,
     pub first: bool,
