@@ -38,7 +38,7 @@ module _ (n : ℕ) (step : List ℕ → List ℕ) (N : Nonexpansive n step) (t d
         omega (
           arith,
           N .near (i * getD d c 0) (moved t j ahead) (on i) (length-moved t j ahead ∙ l) (on-sized i) o .at c,
-          S .faster c b′,
+          S .faster c b′ .is,
           moved-at t (suc i) (λ k. getD d k 0) c b′,
           suc-mul i (getD d c 0),
         ))
@@ -62,7 +62,7 @@ module _ (n : ℕ) (step : List ℕ → List ℕ) (N : Nonexpansive n step) (t d
         omega (
           arith,
           N .near (r * getD d c 0) (on i) (moved t j behind) (on-sized i) (length-moved t j behind ∙ l) o .at c,
-          S .slower c b′,
+          S .slower c b′ .is,
           moved-at t (suc i) (λ k. getD d k 0) c b′,
           suc-mul i (getD d c 0),
         ))

@@ -100,7 +100,7 @@ module _ {frame : Frame} {counts lists : List ℕ} {Γ : Network} (C : Compiled 
         at-most-of L A B = record {
           faster = λ c b.
               each-level few L (faster-highest A B) (next-framed N) z c
-              (omega (arith, length-packed (Γ .events) (scenarios Γ) t)) .is;
+              (omega (arith, length-packed (Γ .events) (scenarios Γ) t));
         }
 
         pub at-least-of : {o : List ℕ} {least most : ℕ} → least ≡ l + j * l → Lower Γ d l (Slower Γ p j t d)
@@ -109,5 +109,5 @@ module _ {frame : Frame} {counts lists : List ℕ} {Γ : Network} (C : Compiled 
         at-least-of e L F B = record {
           slower = λ c b.
               each-level few L (slower-highest e F B) (next-framed N) z c
-              (omega (arith, length-packed (Γ .events) (scenarios Γ) t)) .is;
+              (omega (arith, length-packed (Γ .events) (scenarios Γ) t));
         }

@@ -1,10 +1,10 @@
--- What is tested of the cells of one rise (AtMost and AtLeast ask it of every cell).
+-- What is tested of the cells of one rise.
 use mathlib.Core.Path.{_≡_}
 use mathlib.Core.List.{List}
-use Prim.Native.Nat.{ℕ, _+_, _-_, _*_, _≤_, _<_, min}
+use Prim.Native.Nat.{ℕ, _+_, _*_, _<_}
 use lib.ListN.{getD}
 use Rattle.fixpoint.specs.Near.{iterate}
-use Rattle.fixpoint.specs.Straight.{moved}
+use Rattle.fixpoint.specs.Straight as S
 use Rattle.network.specs.Build.{scenarios}
 use Rattle.network.specs.declared.Network.{Network}
 use Rattle.rows.specs.declared.Frame.{Frame}
@@ -20,19 +20,12 @@ pub record AtLevel (frame : Frame) (counts lists : List ℕ) (p j : ℕ) (t d : 
   pub far : Far frame counts lists p j t d lo hi table
   pub between : Between t d l least most table (frame .scenarios * 16)
 
-module _ (Γ : Network) (p j : ℕ) (t d : List ℕ) (c : ℕ) where
-  abbrev rise : ℕ → ℕ
-  rise i = getD (held Γ d) i 0
+-- at a cell of the strategy that t holds, p rounds for the step
+abbrev pub Faster : Network → ℕ → ℕ → List ℕ → List ℕ → ℕ → Type 0
+Faster Γ p j t d = S.Faster (iterate p (propagate Γ)) (held Γ t) (held Γ d) j
 
-  -- at the cell c, others that are faster, j leads ahead, do not raise it by more than its rise
-  pub record Faster : Type 0 where
-    pub is : getD (iterate p (propagate Γ) (moved (held Γ t) j (λ i. rise i - rise c))) c 0 ≤ getD
-        (held Γ t) c 0 + rise c
-
-  -- others that are slower, j lags behind, are not what raises it
-  pub record Slower : Type 0 where
-    pub is : getD (held Γ t) c 0 + rise c + j * rise c
-        ≤ getD (iterate p (propagate Γ) (moved (held Γ t) j (λ i. min (rise i) (rise c)))) c 0
+abbrev pub Slower : Network → ℕ → ℕ → List ℕ → List ℕ → ℕ → Type 0
+Slower Γ p j t d = S.Slower (iterate p (propagate Γ)) (held Γ t) (held Γ d) j
 
 -- so it is at each cell whose rise is l
 pub record Level (Γ : Network) (d : List ℕ) (l : ℕ) (P : ℕ → Type 0) : Type 0 where

@@ -2,13 +2,16 @@
 use Prim.Native.Nat.{_*_, _≤_}
 use native.Mathlib.Nat.{mul-le-mul}
 use native.Mathlib.Omega.{arith}
+use denote.Ref.{now}
 use Rattle.leap.proofs.Levels.{slower-lowest}
 use Rattle.leap.proofs.Tested.{slower-level}
 use Rattle.leap.proofs.test.slower_hold.Statement.{statement}
 use Rattle.leap.proofs.test.slower_hold.Tie as tie
 
 returns : tie.Need-returns
-returns c = λ _ Γ C. rw (c .if1 .taken) (slower-lowest Γ (C .formed .events) _ _ _ _)
+returns c = λ _ Γ C.
+    let args = c .before .args in
+    rw (c .if1 .taken) (slower-lowest Γ (C .formed .events) (args .p) (args .j) (now (args .t)) (now (args .d)))
 
 reached-requires : tie.Need-reached-requires
 reached-requires c κs = (c .before .pre .4, c .before .pre .3)
