@@ -1,4 +1,5 @@
--- Each constraint of a network can be listed; the bound of each half may be listed, and the lists remain lists. Assumes nothing.
+-- Each constraint of a network can be listed; the bound of each half may be listed, and the lists remain lists.
+-- Assumes nothing.
 use mathlib.Core.List.{List}
 use Prim.Native.Nat.{ℕ, _≤_, _<_}
 use native.Mathlib.Omega.{arith}
@@ -53,8 +54,10 @@ module _ (frame : Frame) (c : Constraint) (ok : Listable frame c) where
     weight-in = lower-few (c .bound) (ok .bound);
   }
 
-  pub upper-lists : {ks ls ks′ ls′ : List ℕ} → UpperAdded frame c ks ls ks′ ls′ → Lists (frame .events) ks ls → Lists (frame .events) ks′ ls′
+  pub upper-lists : {ks ls ks′ ls′ : List ℕ} → UpperAdded frame c ks ls ks′ ls′ → Lists (frame .events) ks ls
+      → Lists (frame .events) ks′ ls′
   upper-lists A L = A .keeps (frame .events) (ok .from) (ok .to) (upper-few (c .bound) (ok .bound)) L
 
-  pub lower-lists : {ks ls ks′ ls′ : List ℕ} → LowerAdded frame c ks ls ks′ ls′ → Lists (frame .events) ks ls → Lists (frame .events) ks′ ls′
+  pub lower-lists : {ks ls ks′ ls′ : List ℕ} → LowerAdded frame c ks ls ks′ ls′ → Lists (frame .events) ks ls
+      → Lists (frame .events) ks′ ls′
   lower-lists A L = A .keeps (frame .events) (ok .to) (ok .from) (lower-few (c .bound) (ok .bound)) L

@@ -39,9 +39,11 @@ module _ (lists : List ℕ) (b x y z : ℕ) where
       record {
         target-is =
             getD-set-other two (b * 3 + 2) (b * 3) z 0 (λ e. omega arith)
-            ∙ (getD-set-other one (b * 3 + 1) (b * 3) y 0 (λ e. omega arith) ∙ getD-set-same lists (b * 3) x 0 (omega arith));
+            ∙ (getD-set-other one (b * 3 + 1) (b * 3) y 0 (λ e. omega arith)
+            ∙ getD-set-same lists (b * 3) x 0 (omega arith));
         source-is =
-            getD-set-other two (b * 3 + 2) (b * 3 + 1) z 0 (λ e. omega arith) ∙ getD-set-same one (b * 3 + 1) y 0 (omega arith);
+            getD-set-other two (b * 3 + 2) (b * 3 + 1) z 0 (λ e. omega arith)
+            ∙ getD-set-same one (b * 3 + 1) y 0 (omega arith);
         weight-is = getD-set-same two (b * 3 + 2) z 0 (omega arith);
       }
 
@@ -52,7 +54,8 @@ module _ (lists : List ℕ) (b x y z : ℕ) where
       getD-set-other (set (set lists (b * 3) x) (b * 3 + 1) y) (b * 3 + 2) i z 0 r
       ∙ (getD-set-other (set lists (b * 3) x) (b * 3 + 1) i y 0 q ∙ getD-set-other lists (b * 3) i x 0 p)
 
-  listAfter-other : (k : ℕ) → (k ≡ b → ⊥) → Three (listAfter lists b x y z) k (target lists k) (source lists k) (weight lists k)
+  listAfter-other : (k : ℕ) → (k ≡ b → ⊥) → Three (listAfter lists b x y z) k (target lists k) (source lists k)
+      (weight lists k)
   listAfter-other k h = record {
     target-is = apart (k * 3) (λ e. h (omega arith)) (λ e. omega arith) (λ e. omega arith);
     source-is = apart (k * 3 + 1) (λ e. omega arith) (λ e. h (omega arith)) (λ e. omega arith);
@@ -78,7 +81,8 @@ module _ (counts : List ℕ) (s : ℕ) where
   length-countAfter = length-set counts s (getD counts s 0 + 1)
 
 -- one bound more for scenario s
-module _ (n : ℕ) (counts lists : List ℕ) (s x y z : ℕ) (L : Lists n counts lists) (h : s < 16) (few : getD counts s 0 < 128) where
+module _ (n : ℕ) (counts lists : List ℕ) (s x y z : ℕ) (L : Lists n counts lists) (h : s < 16)
+    (few : getD counts s 0 < 128) where
   abbrev b : ℕ
   b = s * 128 + getD counts s 0
 
@@ -108,11 +112,13 @@ module _ (n : ℕ) (counts lists : List ℕ) (s x y z : ℕ) (L : Lists n counts
 
   module _ (row : List ℕ) (u : ℕ) where
     same : (k : ℕ) → (k ≡ b → ⊥)
-        → asking (target (listAfter lists b x y z) k) (source (listAfter lists b x y z) k) (weight (listAfter lists b x y z) k) row u
+        → asking (target (listAfter lists b x y z) k) (source (listAfter lists b x y z) k)
+        (weight (listAfter lists b x y z) k) row u
         ≡ asking (target lists k) (source lists k) (weight lists k) row u
     same k e = asks-three (listAfter lists b x y z) k _ _ _ row u (listAfter-other lists b x y z k e)
 
-    append-here : listed (countAfter counts s) (listAfter lists b x y z) s row u ≡ max (listed counts lists s row u) (asking x y z row u)
+    append-here : listed (countAfter counts s) (listAfter lists b x y z) s row u ≡ max (listed counts lists s row u)
+        (asking x y z row u)
     append-here =
         let rest = maxBelow-ext _ _ (getD counts s 0) (λ j l. same (s * 128 + j) (λ e. omega arith)) in
         rw (countAfter-here counts s (omega (arith, L .counts-sized)), add-one)
@@ -157,23 +163,28 @@ module _ (ℓ : Label) (x y z : ℕ) (counts lists : List ℕ) where
       below r = omega (arith, A .grows r, short r)
 
       pub added-one : satisfies s ℓ ≡ true
-          → Added ℓ x y z counts lists (countAfter counts′ s) (listAfter lists′ (s * 128 + getD counts′ s 0) x y z) (s + 1)
+          → Added ℓ x y z counts lists (countAfter counts′ s) (listAfter lists′ (s * 128 + getD counts′ s 0) x y z)
+          (s + 1)
       added-one e = record {
         keeps = λ m p q r M. append-lists m counts′ lists′ s x y z (A .keeps m p q r M) h room p q r;
         grows =
             λ r. elim (eq-or-ne r s) [
-              | inl q ↦ rw q (omega (arith, countAfter-here counts′ s (omega (arith, L .counts-sized)), A .count-later s (omega arith)))
+              | inl q ↦ rw q (omega
+                  (arith, countAfter-here counts′ s (omega (arith, L .counts-sized)), A .count-later s (omega arith)))
               | inr q ↦ omega (arith, countAfter-other counts′ s r q, A .grows r)
             ];
         adds =
             λ r l row u. elim (eq-or-ne r s) [
-              | inl q ↦ rw (q, e) (omega (arith, append-here n counts′ lists′ s x y z L h room row u, A .later s (omega arith) row u))
-              | inr q ↦ append-other n counts′ lists′ s x y z L h room row u r q (below r) ∙ A .adds r (omega arith) row u
+              | inl q ↦ rw (q, e) (omega
+                  (arith, append-here n counts′ lists′ s x y z L h room row u, A .later s (omega arith) row u))
+              | inr q ↦ append-other n counts′ lists′ s x y z L h room row u r q (below r)
+                  ∙ A .adds r (omega arith) row u
             ];
         count-later = λ r l. countAfter-other counts′ s r (λ q. omega arith) ∙ A .count-later r (omega arith);
         later =
             λ r l row u.
-            append-other n counts′ lists′ s x y z L h room row u r (λ q. omega arith) (below r) ∙ A .later r (omega arith) row u;
+            append-other n counts′ lists′ s x y z L h room row u r (λ q. omega arith) (below r)
+            ∙ A .later r (omega arith) row u;
       }
 
 pub lists-wider : (n m : ℕ) (counts lists : List ℕ) → n ≤ m → Lists n counts lists → Lists m counts lists

@@ -1,6 +1,6 @@
--- Constraints as lists of difference bounds. Bound b has three numbers from place 3 b on: its target, its source and its weight. It
--- asks that the target's time is at least the source's and the weight, less 10,080: so no number is signed. The bounds of scenario s
--- are those from 128 s on, and counts says how many.
+-- Constraints as lists of difference bounds. Bound b has three numbers from place 3 b on: its target, its source and
+-- its weight. It asks that the target's time is at least the source's and the weight, less 10,080: so no number is
+-- signed. The bounds of scenario s are those from 128 s on, and counts says how many.
 use mathlib.Core.Path.{_≡_}
 use mathlib.Core.Bool.{cond}
 use mathlib.Core.List.{List}
@@ -38,7 +38,8 @@ module _ (lists : List ℕ) where
 -- what the list of scenario s asks
 abbrev pub listed : List ℕ → List ℕ → ℕ → List ℕ → ℕ → ℕ
 listed counts lists s row u =
-    maxBelow (getD counts s 0) (λ j. asking (target lists (s * 128 + j)) (source lists (s * 128 + j)) (weight lists (s * 128 + j)) row u)
+    maxBelow (getD counts s 0)
+    (λ j. asking (target lists (s * 128 + j)) (source lists (s * 128 + j)) (weight lists (s * 128 + j)) row u)
 
 -- one bound more for scenario s
 unfoldable pub countAfter : List ℕ → ℕ → List ℕ
@@ -78,6 +79,7 @@ pub record Added (ℓ : Label) (target source weight : ℕ) (counts lists counts
   pub keeps : (n : ℕ) → target < n → source < n → weight ≤ 20160 → Lists n counts lists → Lists n counts′ lists′
   pub grows : (s : ℕ) → getD counts′ s 0 ≤ getD counts s 0 + 1
   pub adds : (s : ℕ) → s < c → (row : List ℕ) (u : ℕ)
-      → listed counts′ lists′ s row u ≡ max (listed counts lists s row u) (cond (satisfies s ℓ) (asking target source weight row u) 0)
+      → listed counts′ lists′ s row u ≡ max (listed counts lists s row u)
+      (cond (satisfies s ℓ) (asking target source weight row u) 0)
   pub count-later : (s : ℕ) → c ≤ s → getD counts′ s 0 ≡ getD counts s 0
   pub later : (s : ℕ) → c ≤ s → (row : List ℕ) (u : ℕ) → listed counts′ lists′ s row u ≡ listed counts lists s row u

@@ -41,7 +41,8 @@ fn append(
     requires { ⌜ (s < 16) × (target < 16) × (source < 16) × (length (now counts) ≡ 16)
         × (length (now lists) ≡ 6144) × (getD (now counts) s 0 < 128) ⌝ }
     ensures { λ _. ⌜ (now (counts .exit) ≡ countAfter (now (counts .entry)) s)
-        × (now (lists .exit) ≡ listAfter (now (lists .entry)) (s * 128 + getD (now (counts .entry)) s 0) target source weight) ⌝ }
+        × (now (lists .exit) ≡ listAfter (now (lists .entry))
+        (s * 128 + getD (now (counts .entry)) s 0) target source weight) ⌝ }
 {
     let count = counts[s];
     let e = (s * 128 + count) * 3;
@@ -79,7 +80,8 @@ fn list_bound(
 // The bound of a constraint's upper half: `to` comes at most the limit after `from`.
 pub fn list_upper(frame: Frame, c: Constraint, counts: &mut [usize; 16], lists: &mut [u16; 6144])
     requires { ⌜ Listable frame c × Lists (frame .events) (now counts) (now lists) × Short 127 (now counts) ⌝ }
-    ensures { λ _. ⌜ UpperAdded frame c (now (counts .entry)) (now (lists .entry)) (now (counts .exit)) (now (lists .exit)) ⌝ }
+    ensures { λ _. ⌜ UpperAdded frame c (now (counts .entry)) (now (lists .entry)) (now (counts .exit))
+        (now (lists .exit)) ⌝ }
 {
     let label = c.label;
     let weight = upper_weight(c.bound);
@@ -89,7 +91,8 @@ pub fn list_upper(frame: Frame, c: Constraint, counts: &mut [usize; 16], lists: 
 // The bound of its lower half: `to` comes at least the limit after `from`.
 pub fn list_lower(frame: Frame, c: Constraint, counts: &mut [usize; 16], lists: &mut [u16; 6144])
     requires { ⌜ Listable frame c × Lists (frame .events) (now counts) (now lists) × Short 127 (now counts) ⌝ }
-    ensures { λ _. ⌜ LowerAdded frame c (now (counts .entry)) (now (lists .entry)) (now (counts .exit)) (now (lists .exit)) ⌝ }
+    ensures { λ _. ⌜ LowerAdded frame c (now (counts .entry)) (now (lists .entry)) (now (counts .exit))
+        (now (lists .exit)) ⌝ }
 {
     let label = c.label;
     let weight = lower_weight(c.bound);
@@ -119,7 +122,8 @@ pub fn raise_by_bounds(
     requires { ⌜ (s < 16) × Lists 16 (now counts) (now lists) × Short 128 (now counts)
         × Few 10080 (now row) × (length (now o) ≡ 16) × Few 32767 (now o) ⌝ }
     ensures { λ _. ⌜ Row (now (o .exit))
-        (λ u. max (getD (now (o .entry)) u 0) (listed (now (counts .entry)) (now (lists .entry)) s (now (row .entry)) u)) ⌝ }
+        (λ u. max (getD (now (o .entry)) u 0)
+        (listed (now (counts .entry)) (now (lists .entry)) s (now (row .entry)) u)) ⌝ }
 {
     let count = counts[s];
     let base = s * 128;

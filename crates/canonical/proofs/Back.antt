@@ -1,5 +1,5 @@
--- The form is a sheet, and what is read from it is what was written: its rules are the rows that remain, row for row, since a name
--- tells its event, and the letters of a label tell the label. Assumes nothing.
+-- The form is a sheet, and what is read from it is what was written: its rules are the rows that remain, row for row,
+-- since a name tells its event, and the letters of a label tell the label. Assumes nothing.
 use mathlib.Core.Path.{_≡_, sym, _∙_, ap}
 use mathlib.Core.List.{List, [], map}
 use Prim.Native.Nat.{ℕ, _^_, _<_}

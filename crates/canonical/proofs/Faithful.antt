@@ -1,5 +1,6 @@
--- What is known of the network of an accepted sheet, in the words of the form: its event list and signal list are the layout's, so
--- they keep the layout's rules, and no row's label asks a letter to be both true and false. Assumes nothing.
+-- What is known of the network of an accepted sheet, in the words of the form: its event list and signal list are the
+-- layout's, so they keep the layout's rules, and no row's label asks a letter to be both true and false. Assumes
+-- nothing.
 use mathlib.Core.Path.{_≡_, sym, _∙_}
 use mathlib.Core.List.{List, []}
 use Prim.Native.Nat.{ℕ, _<_}

@@ -1,6 +1,6 @@
--- "Two sheets give equal bytes if and only if their horizons, event lists, signal lists and remaining rows are equal" (02, point 2).
--- Equal bytes are read to one network, which has the horizon, the lists and the rows of each sheet; and the bytes are written from
--- these alone. Assumes nothing.
+-- "Two sheets give equal bytes if and only if their horizons, event lists, signal lists and remaining rows are equal"
+-- (02, point 2). Equal bytes are read to one network, which has the horizon, the lists and the rows of each sheet;
+-- and the bytes are written from these alone. Assumes nothing.
 use mathlib.Core.Path.{_≡_, sym, _∙_, ap}
 use mathlib.Core.Logic.{_↔_}
 use mathlib.Core.List.{List}

@@ -1,5 +1,5 @@
--- The rows that an array holds: they are no more than the array has room for, each is proper, and their lines are those of the rows
--- that remain. Assumes nothing.
+-- The rows that an array holds: they are no more than the array has room for, each is proper, and their lines are
+-- those of the rows that remain. Assumes nothing.
 use mathlib.Core.Path.{_≡_, sym, _∙_}
 use mathlib.Core.Bool.{true}
 use mathlib.Core.List.{List, map}

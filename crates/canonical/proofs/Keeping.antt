@@ -1,6 +1,6 @@
--- What the form contains keeps the layout's rules, where no more rows remain than a sheet may have: the events and signals are those of a
--- sheet, and each row that remains has events of it for its ends, a limit in range, and letters of it, each once, for its label.
--- Assumes nothing.
+-- What the form contains keeps the layout's rules, where no more rows remain than a sheet may have: the events and
+-- signals are those of a sheet, and each row that remains has events of it for its ends, a limit in range, and
+-- letters of it, each once, for its label. Assumes nothing.
 use mathlib.Core.Path.{_≡_}
 use mathlib.Core.List.{List, [], map}
 use Prim.Native.Nat.{ℕ, _≤_, _<_}

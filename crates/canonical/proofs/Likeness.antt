@@ -1,5 +1,5 @@
--- Sheets with equal horizons, event lists, signal lists and remaining rows have forms that contain the same: a row says its ends by names
--- and its label by letters, which stand in those lists. Assumes nothing.
+-- Sheets with equal horizons, event lists, signal lists and remaining rows have forms that contain the same: a row
+-- says its ends by names and its label by letters, which stand in those lists. Assumes nothing.
 use mathlib.Core.Path.{_≡_, _∙_, ap}
 use mathlib.Core.List.{List, map}
 use Prim.Native.Nat.{ℕ, _<_}

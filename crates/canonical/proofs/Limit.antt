@@ -1,5 +1,5 @@
--- A limit as it is written from an i32: below zero it is negated, and then, as from zero on, it is cast to 16 bits as it is and its
--- digits are those of the definition. For each sign. Assumes nothing.
+-- A limit as it is written from an i32: below zero it is negated, and then, as from zero on, it is cast to 16 bits as
+-- it is and its digits are those of the definition. For each sign. Assumes nothing.
 use mathlib.Core.Path.{_≡_, refl, _∙_}
 use mathlib.Core.Bool.{true, false}
 use mathlib.Core.List.{_∷_}

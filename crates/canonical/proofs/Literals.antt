@@ -1,5 +1,5 @@
--- Laws of a label as it is written: signal by signal, what the label asks of each; and `-` exactly where nothing was written.
--- Assumes nothing.
+-- Laws of a label as it is written: signal by signal, what the label asks of each; and `-` exactly where nothing was
+-- written. Assumes nothing.
 use mathlib.Core.Path.{_≡_, refl, _∙_, ap}
 use mathlib.Core.Bool.{Bool, true, false}
 use mathlib.Core.List.{List, [], _∷_, _++_}

@@ -1,5 +1,5 @@
--- Laws of a section: its lines are texts one behind the other, so a loop that writes them behind the section's first line writes
--- the section. Assumes nothing.
+-- Laws of a section: its lines are texts one behind the other, so a loop that writes them behind the section's first
+-- line writes the section. Assumes nothing.
 use mathlib.Core.Path.{_≡_, refl, ap}
 use mathlib.Core.List.{List, [], _∷_, _++_}
 use Prim.Native.Nat.{ℕ, zero, suc, _+_, _≤_}

@@ -1,4 +1,5 @@
--- How long a form is at most: part by part what `specs/Most.antt` says, which is less than a sheet may have. Assumes nothing.
+-- How long a form is at most: part by part what `specs/Most.antt` says, which is less than a sheet may have. Assumes
+-- nothing.
 use mathlib.Core.Path.{_≡_}
 use mathlib.Core.Bool.{Bool, true, false}
 use mathlib.Core.List.{List, [], _∷_, _++_, map}

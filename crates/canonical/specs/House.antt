@@ -1,5 +1,6 @@
--- A sheet in its house form (02, point 2): its horizon, events and signals as they are, and the rows that remain. "Label letters stand in
--- signal order". What the form contains is said as the layout says what any sheet contains, and it is written as any sheet is.
+-- A sheet in its house form (02, point 2): its horizon, events and signals as they are, and the rows that remain.
+-- "Label letters stand in signal order". What the form contains is said as the layout says what any sheet contains,
+-- and it is written as any sheet is.
 use mathlib.Core.Bool.{Bool, true, false}
 use mathlib.Core.Option.{Option, some}
 use mathlib.Core.List.{List, map}

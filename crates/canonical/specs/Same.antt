@@ -1,5 +1,6 @@
--- What two sheets have in common whose forms are the same bytes (02, point 2): "their horizons, event lists, signal lists and
--- remaining rows are equal". A row names its events by their places, which are the same events where the event lists are equal.
+-- What two sheets have in common whose forms are the same bytes (02, point 2): "their horizons, event lists, signal
+-- lists and remaining rows are equal". A row names its events by their places, which are the same events where the
+-- event lists are equal.
 use mathlib.Core.Path.{_≡_}
 use mathlib.Core.List.{List}
 use Prim.Native.Nat.{ℕ}

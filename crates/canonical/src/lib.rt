@@ -1,5 +1,5 @@
-// A sheet in its house form. Each function that writes a part of it takes the place where the part begins and answers the place where it
-// ends; each section has its own.
+// A sheet in its house form. Each function that writes a part of it takes the place where the part begins and answers
+// the place where it ends; each section has its own.
 ghost use mathlib.Core.Path.{_≡_};
 ghost use mathlib.Core.Bool.{true};
 ghost use mathlib.Core.List.{[], _∷_, map};
@@ -161,7 +161,8 @@ fn push_rules(page: &mut [u8], at: usize, sheet: &[u8], network: Network, rows: 
 // No form is longer.
 const LONGEST: usize = 2673;
 
-// The form into out, where the rows that remain fit a sheet: how many bytes were written, or that out is too short for them.
+// The form into out, where the rows that remain fit a sheet: how many bytes were written, or that out is too short
+// for them.
 pub fn write(sheet: &[u8], network: Network, rows: Rows, out: &mut [u8]) -> Written
     requires { ⌜ WellFormed network × Named (now sheet) network × RowsAre (remainingOf network) rows × (rows .fits ≡ true) ⌝ }
     ensures { λ r. ⌜ WrittenIs (houseText (now (sheet .entry)) network) (now (out .entry)) (now (out .exit)) r ⌝ }

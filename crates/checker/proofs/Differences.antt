@@ -1,5 +1,5 @@
--- The difference of two times as a signed number, and the bounds on it. Times are below 2^16, so it fits 32 bits with its sign.
--- Assumes nothing.
+-- The difference of two times as a signed number, and the bounds on it. Times are below 2^16, so it fits 32 bits with
+-- its sign. Assumes nothing.
 use mathlib.Core.Path.{_≡_, sym, _∙_, ap, ap₂}
 use mathlib.Core.Logic.{inl, inr}
 use mathlib.Core.Bool.{true, _&&_}

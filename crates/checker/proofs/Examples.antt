@@ -17,7 +17,8 @@ use Rattle.checker.specs.declared.Breach.the-variants.{Late, Rule, Unhea
 use Rattle.checker.specs.declared.Verdict.{Verdict}
 use Rattle.checker.specs.declared.Verdict.the-variants.{Pass, Breach as Breached}
 
--- a network by its horizon, its count of events, the observation event of each proposition, and its constraints; no name matters here
+-- a network by its horizon, its count of events, the observation event of each proposition, and its constraints; no
+-- name matters here
 abbrev withEvents : ℕ → Network → Network
 withEvents zero Γ = Γ
 withEvents (suc n) Γ = withEvents n (withEvent Γ 0 0)
@@ -69,7 +70,8 @@ examples =
     example safe (0 ∷ 5 ∷ 6 ∷ 0 ∷ 5 ∷ 20 ∷ []) Pass
     -- a door at 5 uses the signal in the minute it is given
     ∷ example safe (0 ∷ 5 ∷ 5 ∷ 0 ∷ 5 ∷ 20 ∷ []) (Breached (Unheard 0 1 2))
-    -- "With the signal at 5 and 2 in cases 0 and 1, and an event before it in the sheet at 3 and 4, the breach is cases 0, 1"
+    -- "With the signal at 5 and 2 in cases 0 and 1, and an event before it in the sheet at 3 and 4, the breach is
+    -- cases 0, 1"
     ∷ example (heard-last []) (0 ∷ 3 ∷ 5 ∷ 0 ∷ 4 ∷ 2 ∷ []) (Breached (Unheard 0 1 1))
     -- the horizon itself is in time, and one minute more is late
     ∷ example (network 10 2 [] []) (0 ∷ 10 ∷ []) Pass
@@ -87,10 +89,12 @@ examples =
     ∷ example (network 60 2 [] (rule Min 1 0 (negsuc 4) always ∷ [])) (0 ∷ 6 ∷ []) (Breached (Rule 0 0))
     ∷ example (network 60 2 [] (rule Fix 0 1 (pos 5) always ∷ rule Fix 0 1 (pos 6) always ∷ [])) (0 ∷ 5 ∷ [])
     (Breached (Rule 0 1))
-    -- "The first breach may stand between two cases that differ in two": no signal is known at 3, and scenario 3 alone has 4
+    -- "The first breach may stand between two cases that differ in two": no signal is known at 3, and scenario 3
+    -- alone has 4
     ∷ example (network 60 4 (2 ∷ 3 ∷ []) [])
     (0 ∷ 3 ∷ 5 ∷ 5 ∷ 0 ∷ 3 ∷ 5 ∷ 5 ∷ 0 ∷ 3 ∷ 5 ∷ 5 ∷ 0 ∷ 4 ∷ 5 ∷ 5 ∷ []) (Breached (Unheard 0 3 1))
-    -- a point is tried everywhere before the next: Late before Rule, and Rule before Unheard, though the later ones break sooner
+    -- a point is tried everywhere before the next: Late before Rule, and Rule before Unheard, though the later ones
+    -- break sooner
     ∷ example (heard-last (rule Max 0 1 (pos 2) always ∷ [])) (0 ∷ 3 ∷ 5 ∷ 0 ∷ 4 ∷ 61 ∷ []) (Breached (Late 1 2))
     ∷ example (heard-last (rule Max 0 1 (pos 3) always ∷ [])) (0 ∷ 3 ∷ 5 ∷ 0 ∷ 4 ∷ 2 ∷ []) (Breached (Rule 1 0))
     ∷ []

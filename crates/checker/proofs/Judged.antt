@@ -1,6 +1,6 @@
--- The verdict decides the three points: it passes just the solutions (`judged`), and a breach that it names is the first
--- (`breach-first`). Each search is one of `Nested`; that of point 3 stands within one more, over its first scenario.
--- Assumes nothing.
+-- The verdict decides the three points: it passes just the solutions (`judged`), and a breach that it names is the
+-- first (`breach-first`). Each search is one of `Nested`; that of point 3 stands within one more, over its first
+-- scenario. Assumes nothing.
 use mathlib.Core.Path.{_≡_, refl}
 use mathlib.Core.Logic.{inl, inr, _↔_}
 use mathlib.Core.Option.{Option, none, some}

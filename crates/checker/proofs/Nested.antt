@@ -1,6 +1,6 @@
--- A search within a search: it finds the first pair of indices that answers, and what it does not find is nowhere. Where it searches
--- for a test that fails, and the test decides a property, what it finds breaks the property, which holds at each pair before.
--- Assumes nothing.
+-- A search within a search: it finds the first pair of indices that answers, and what it does not find is nowhere.
+-- Where it searches for a test that fails, and the test decides a property, what it finds breaks the property, which
+-- holds at each pair before. Assumes nothing.
 use mathlib.Core.Path.{_≡_}
 use mathlib.Core.Logic.{inl, inr, _↔_}
 use mathlib.Core.Bool.{Bool, true}

@@ -1,5 +1,5 @@
--- What a network that was read and a table of its size give the code's parts: every place that they look at is in the table.
--- Assumes nothing.
+-- What a network that was read and a table of its size give the code's parts: every place that they look at is in the
+-- table. Assumes nothing.
 use mathlib.Core.Path.{_≡_}
 use mathlib.Core.List.{List}
 use Prim.Native.Nat.{ℕ, _+_, _*_, _≤_, _<_}

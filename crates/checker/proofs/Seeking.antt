@@ -1,6 +1,6 @@
--- The labelled loops. A loop's invariant is `Seeking f n i found`: its search has come to i, and nothing was found. It goes on past an
--- index (`seeking-on`) or past a whole search within (`past-row`), ends with nothing (`nothing-found`), and is left from inside with
--- what the inner search hit (`row-hit`). Assumes nothing.
+-- The labelled loops. A loop's invariant is `Seeking f n i found`: its search has come to i, and nothing was found.
+-- It goes on past an index (`seeking-on`) or past a whole search within (`past-row`), ends with nothing
+-- (`nothing-found`), and is left from inside with what the inner search hit (`row-hit`). Assumes nothing.
 use mathlib.Core.Path.{_≡_, refl, sym, _∙_, ap}
 use mathlib.Core.Option.{Option, none, some}
 use Prim.Native.Nat.{ℕ, _+_, _≤_, _<_}

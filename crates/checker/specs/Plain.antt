@@ -1,4 +1,5 @@
--- The points' tests over plain numbers, as the code's own parts make them: n events to a scenario, σ the strategy, and no network.
+-- The points' tests over plain numbers, as the code's own parts make them: n events to a scenario, σ the
+-- strategy, and no network.
 use mathlib.Core.Path.{_≡_}
 use mathlib.Core.Bool.{Bool, _&&_, _||_, not, cond}
 use mathlib.Core.List.{List}

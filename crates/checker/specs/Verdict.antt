@@ -1,4 +1,5 @@
--- The verdict on a strategy: "Points 1, 2, 3 are tried in that order, and the first breach ends the search" (01, The judge's verdict).
+-- The verdict on a strategy: "Points 1, 2, 3 are tried in that order, and the first breach ends the search" (01, The
+-- judge's verdict).
 use mathlib.Core.Bool.{Bool, _&&_, _||_, not}
 use mathlib.Core.Option.{Option, none, some}
 use mathlib.Core.List.{List}

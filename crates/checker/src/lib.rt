@@ -15,8 +15,8 @@ ghost use Rattle.checker.specs.Verdict.{firstLate, firstBroken, firstUnh
 ghost use Rattle.checker.specs.Found.{foundOf};
 ghost use Rattle.checker.specs.Plain as P;
 
-// Point 1: over the horizon, or an origin that is not at 0. Point 2: a constraint that its scenario covers. Point 3: an event whose
-// time differs between two scenarios before anything that differs is known.
+// Point 1: over the horizon, or an origin that is not at 0. Point 2: a constraint that its scenario covers. Point 3:
+// an event whose time differs between two scenarios before anything that differs is known.
 pub enum Breach {
     Late {
         scenario: usize,
@@ -196,7 +196,8 @@ fn apart(
     first
 }
 
-// The first two scenarios and event that break point 3. Before the scenarios are told apart the event has one time in both.
+// The first two scenarios and event that break point 3. Before the scenarios are told apart the event has one time in
+// both.
 fn first_unheard(network: Network, table: &[u16]) -> Found
     requires { ⌜ WellFormed network × (length (now table) ≡ cells network) ⌝ }
     ensures { λ r. ⌜ r ≡ foundOf (firstUnheard network (now (table .entry))) ⌝ }

@@ -1,12 +1,12 @@
--- Cases that differ only in signals that are not heard yet are alike at a minute, if the table is good: they have heard the same, and
--- the same events are due in them.
+-- Cases that differ only in signals that are not heard yet are alike at a minute, if the table is good: they have
+-- heard the same, and the same events are due in them.
 --
--- Let s and r differ only in signals that s has not heard at m. An event that happens in s by m happens at the same time in r, since
--- nothing that differs is known in s by then (`same-time`, from point 3 of a good table). So what s has heard r has heard, and what is
--- due in s is due in r. The other way round, r has heard none of the signals that differ either: of one that it had heard, take the
--- observation. Any other that differs and is known in r by then was observed in r earlier still, and times do not fall for ever
--- (`no-descent`); so nothing that differs is, the observation is at the same time in s, and s has heard the signal, which it has not.
--- Assumes nothing.
+-- Let s and r differ only in signals that s has not heard at m. An event that happens in s by m happens at the same
+-- time in r, since nothing that differs is known in s by then (`same-time`, from point 3 of a good table). So what s
+-- has heard r has heard, and what is due in s is due in r. The other way round, r has heard none of the signals that
+-- differ either: of one that it had heard, take the observation. Any other that differs and is known in r by then was
+-- observed in r earlier still, and times do not fall for ever (`no-descent`); so nothing that differs is, the
+-- observation is at the same time in s, and s has heard the signal, which it has not. Assumes nothing.
 use mathlib.Core.Path.{_≡_, sym, _∙_}
 use mathlib.Core.Logic.{inl, inr}
 use mathlib.Core.Bool.{Bool, true, false, Bool·beq, cond}

@@ -1,7 +1,7 @@
--- What is due, for each list. It is misnamed, or no case has heard it, or it is the history of some case, and the answer is what is due
--- there (`due-answer`): the search compares the list with each case as `History` does. Every case that has heard the list has the same
--- due, by Alike.antt, so the answer is what is due in any of them.
--- Assumes nothing.
+-- What is due, for each list. It is misnamed, or no case has heard it, or it is the history of some case, and the
+-- answer is what is due there (`due-answer`): the search compares the list with each case as `History` does. Every
+-- case that has heard the list has the same due, by Alike.antt, so the answer is what is due in any of them. Assumes
+-- nothing.
 use mathlib.Core.Path.{_≡_, refl, ap}
 use mathlib.Core.Logic.{_↔_}
 use mathlib.Core.Bool.{Bool, true, false, _&&_, Bool·beq}

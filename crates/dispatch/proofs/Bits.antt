@@ -1,5 +1,5 @@
--- Laws of bits: what two masks have together is what either has, a power of two has one bit, and a sum of different powers has the bit of
--- each, since it is put together from below. Assumes nothing.
+-- Laws of bits: what two masks have together is what either has, a power of two has one bit, and a sum of different
+-- powers has the bit of each, since it is put together from below. Assumes nothing.
 use mathlib.Core.Path.{_≡_, refl, _∙_, ap}
 use mathlib.Core.Logic.{inl, inr}
 use mathlib.Core.Bool.{Bool, true, false, _&&_, _||_, cond, and-true, and-false, or-false}

@@ -1,6 +1,6 @@
--- Laws of the core. Letters and their bits; one record more; what is said of a letter, by its two bits, and that over a network it is
--- what a case has heard. Then two loops, each by what has been passed: bits that add up, each of them new, so that nothing is carried
--- (`Summing`), and the search for a case (`Hearing`). Assumes nothing.
+-- Laws of the core. Letters and their bits; one record more; what is said of a letter, by its two bits, and that over
+-- a network it is what a case has heard. Then two loops, each by what has been passed: bits that add up, each of them
+-- new, so that nothing is carried (`Summing`), and the search for a case (`Hearing`). Assumes nothing.
 use mathlib.Core.Path.{_≡_, refl, _∙_, ap₂}
 use mathlib.Core.Logic.{_⊎_, inl, inr}
 use mathlib.Core.Bool.{Bool, true, false, _&&_, _||_, not, Bool·beq, cond, and-false}
@@ -79,7 +79,8 @@ as-said-is x l p n true true e d = rw (← e, ← d) (ap₂ _&&_ (beq-with-true 
 as-said-is x l p n true false e d = rw (← e, ← d) (ap₂ _&&_ (beq-with-false p) (beq-with-true n))
 as-said-is x l p n false t e d = rw (← e, ← d) (ap₂ _&&_ (beq-with-false p) (beq-with-false n))
 
--- over a network, whose reaction is one minute, with k from when on p is known and t its truth, that is what s has heard
+-- over a network, whose reaction is one minute, with k from when on p is known and t its truth, that is what s has
+-- heard
 pub as-heard-is : (Γ : Network) (σ : List ℕ) (m x s p k : ℕ) (t : Bool)
     → k ≡ knownAfter (Γ .events) σ s (observation Γ p) → t ≡ truth s p
     → asSaid x (letter Γ p) (leb k m) t ≡ asHeard Γ σ m (saidOn x) s p

@@ -1,5 +1,5 @@
--- What the definitions say at the edges, in tables that one theorem covers by computation: the events and the minutes of document 01's
--- sheet, with a second signal; and sixteen events without a signal. Assumes nothing.
+-- What the definitions say at the edges, in tables that one theorem covers by computation: the events and the minutes
+-- of document 01's sheet, with a second signal; and sixteen events without a signal. Assumes nothing.
 use mathlib.Core.Path.{_≡_, refl}
 use mathlib.Core.Bool.{Bool, true, false, _&&_}
 use mathlib.Core.List.{List, [], _∷_}

@@ -1,7 +1,8 @@
--- The mask of a list, one record at a time, from any mask x. The letters of the list fit x where each is one of a to z that does not
--- stand in x, and none stands twice. One record more whose letter is free leaves the rest to fit as it did (`fits-added`), and one
--- whose letter is not sets the bit `misnamed`. So by induction that bit is clear at the end just where it was in x and the list fits
--- (`named-said`), and then the mask says what x said and what the list says (`said-more`). Assumes nothing.
+-- The mask of a list, one record at a time, from any mask x. The letters of the list fit x where each is one of a to
+-- z that does not stand in x, and none stands twice. One record more whose letter is free leaves the rest to fit as
+-- it did (`fits-added`), and one whose letter is not sets the bit `misnamed`. So by induction that bit is clear at
+-- the end just where it was in x and the list fits (`named-said`), and then the mask says what x said and what the
+-- list says (`said-more`). Assumes nothing.
 use mathlib.Core.Path.{_≡_, refl, sym, _∙_}
 use mathlib.Core.Logic.{inl, inr}
 use mathlib.Core.Bool.{Bool, true, false, _&&_, _||_, not, Bool·beq, and-assoc}

@@ -1,7 +1,7 @@
--- The list that holds what a case has heard in the order of the signals is its history. Each letter in it is that of a signal, so it is
--- defined. The letters of different signals differ: from signal i on no letter of a signal below i stands, so no letter stands twice,
--- and the list says of each signal what the case has heard of it, since nothing after it speaks of it again.
--- Assumes nothing.
+-- The list that holds what a case has heard in the order of the signals is its history. Each letter in it is that of
+-- a signal, so it is defined. The letters of different signals differ: from signal i on no letter of a signal below i
+-- stands, so no letter stands twice, and the list says of each signal what the case has heard of it, since nothing
+-- after it speaks of it again. Assumes nothing.
 use mathlib.Core.Path.{_≡_, refl}
 use mathlib.Core.Logic.{inl, inr}
 use mathlib.Core.Bool.{Bool, true, false, _&&_, _||_, Bool·beq, cond, and-false, or-false}

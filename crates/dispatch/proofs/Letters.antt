@@ -1,6 +1,7 @@
--- The bits of letters in a mask. The letters are 26 (`true-of-letters`, `letters-true`). Two letters with truths have one bit only where
--- both agree, and none has the bit `misnamed` (`place-same`, `place-lt`); so a letter that is added with a truth is said with it, and all
--- else is as it was (`said-with`, `misnamed-with`). The empty mask says nothing. Assumes nothing.
+-- The bits of letters in a mask. The letters are 26 (`true-of-letters`, `letters-true`). Two letters with truths have
+-- one bit only where both agree, and none has the bit `misnamed` (`place-same`, `place-lt`); so a letter that is
+-- added with a truth is said with it, and all else is as it was (`said-with`, `misnamed-with`). The empty mask says
+-- nothing. Assumes nothing.
 use mathlib.Core.Path.{_≡_, sym, _∙_}
 use mathlib.Core.Bool.{Bool, true, false, _&&_, _||_, Bool·beq, or-comm}
 use mathlib.Core.Bool.{and-true as and-true-right, and-false as and-false-right, or-false as or-false-right}

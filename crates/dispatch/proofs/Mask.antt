@@ -1,7 +1,7 @@
--- The mask of a list says what the list says (`due-said`). A defined letter is one of a to z, so that a list that is well named fits the
--- empty mask. Where a list fits, mask and list say the same of each letter, and the letters that stand are those of the list: so it is
--- well named where its mask is (`wellNamed-said`), and the two searches for a case that has heard it are one (`hearer-same`). Assumes
--- nothing.
+-- The mask of a list says what the list says (`due-said`). A defined letter is one of a to z, so that a list that is
+-- well named fits the empty mask. Where a list fits, mask and list say the same of each letter, and the letters that
+-- stand are those of the list: so it is well named where its mask is (`wellNamed-said`), and the two searches for a
+-- case that has heard it are one (`hearer-same`). Assumes nothing.
 use mathlib.Core.Path.{_≡_, refl, sym, _∙_, ap}
 use mathlib.Core.Logic.{inl, inr}
 use mathlib.Core.Bool.{Bool, true, false, _||_, not}

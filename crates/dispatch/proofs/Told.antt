@@ -1,6 +1,7 @@
--- What a list tells is found out by tests: whether it is well named (`well-named`), and what it says of a letter. A list is the
--- history of a case exactly where it is well named and says of each signal what the case has heard (`told-of-history`,
--- `history-of-told`): the letters of different signals differ, so that a record is about one signal alone. Assumes nothing.
+-- What a list tells is found out by tests: whether it is well named (`well-named`), and what it says of a letter. A
+-- list is the history of a case exactly where it is well named and says of each signal what the case has heard
+-- (`told-of-history`, `history-of-told`): the letters of different signals differ, so that a record is about one
+-- signal alone. Assumes nothing.
 use mathlib.Core.Path.{_≡_, refl, sym, _∙_, ap, ap₂}
 use mathlib.Core.Logic.{_↔_, inl, inr}
 use mathlib.Core.Bool.{Bool, true, false, _&&_, Bool·beq, or-true as or-true-right}

@@ -13,7 +13,8 @@ use Rattle.dispatch.specs.Heard.{lettersOf, noHeard}
 use Rattle.dispatch.specs.declared.Heard.{Heard}
 
 module _ (Γ : Network) (σ : List ℕ) (m : ℕ) where
-  -- s has heard h: the letter of a signal that is known, as point 3 of a good table has it, with the truth that it has in s
+  -- s has heard h: the letter of a signal that is known, as point 3 of a good table has it, with the truth that it
+  -- has in s
   pub record Hears (s : ℕ) (h : Heard) : Type 0 where
     pub signal : ℕ
     pub below : signal < Γ .signals

@@ -1,4 +1,5 @@
--- Read in this order: what has been heard as a list, what a case has heard, what is due. Then the list as a mask, for the code.
+-- Read in this order: what has been heard as a list, what a case has heard, what is due. Then the list as a mask, for
+-- the code.
 pub mod Heard
 pub mod History
 pub mod Due

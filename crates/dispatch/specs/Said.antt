@@ -1,5 +1,5 @@
--- The list as a mask of 64 bits, which the covered core works on: a letter that is true has its bit from 0 on, one that is false from 32
--- on. A mask has a bit where its weight is in it, as a case has a signal.
+-- The list as a mask of 64 bits, which the covered core works on: a letter that is true has its bit from 0 on, one
+-- that is false from 32 on. A mask has a bit where its weight is in it, as a case has a signal.
 use mathlib.Core.Bool.{Bool, true, false, _&&_, _||_, not, Bool·beq, cond}
 use mathlib.Core.List.{List, [], _∷_}
 use Prim.Native.Nat.{ℕ, _+_, _-_, _^_}

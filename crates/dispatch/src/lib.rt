@@ -1,5 +1,5 @@
-// What is due at a minute, by what has been heard before it (document 02, point 1). The records that are lent are walked once, into a
-// mask; all the rest works on the mask.
+// What is due at a minute, by what has been heard before it (document 02, point 1). The records that are lent are
+// walked once, into a mask; all the rest works on the mask.
 ghost use mathlib.Core.Path.{_≡_};
 ghost use mathlib.Core.Bool.{true};
 ghost use Prim.Native.Nat.{_+_, _*_, _≤_, _<_};

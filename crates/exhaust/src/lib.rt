@@ -1,5 +1,6 @@
-// A second solver, by another method: it makes every table of a small network and asks the checker of each. It shares nothing with the
-// solver but the network. Proved safe and ending; what it answers is compared with the solver's, not proved.
+// A second solver, by another method: it makes every table of a small network and asks the checker of each. It shares
+// nothing with the solver but the network. Proved safe and ending; what it answers is compared with the solver's, not
+// proved.
 ghost use mathlib.Core.Path.{_≡_};
 ghost use Prim.Native.Nat.{_+_, _*_, _^_, _<_, _≤_};
 ghost use lib.ListN.{length};
@@ -12,7 +13,8 @@ const TABLES: u32 = 70000;
 
 const CELLS: usize = 32;
 
-// Whether the network was small enough to be searched; whether it has a solution; the least time of each cell over all solutions.
+// Whether the network was small enough to be searched; whether it has a solution; the least time of each cell over
+// all solutions.
 pub struct Tried {
     pub tried: bool,
     pub found: bool,

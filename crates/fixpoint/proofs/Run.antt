@@ -1,7 +1,7 @@
--- Where a run of a rising step ends. Whatever its budget, what it reached lies between the floor and every prefixpoint above the floor
--- (`ran-as`): so where it rests, that is the least prefixpoint, and where it passes the cap, no prefixpoint lies within the cap. A run
--- whose budget is one more than the room between floor and cap is never spent (`run-ends`), since each round but the last takes room.
--- Assumes nothing.
+-- Where a run of a rising step ends. Whatever its budget, what it reached lies between the floor and every
+-- prefixpoint above the floor (`ran-as`): so where it rests, that is the least prefixpoint, and where it passes the
+-- cap, no prefixpoint lies within the cap. A run whose budget is one more than the room between floor and cap is
+-- never spent (`run-ends`), since each round but the last takes room. Assumes nothing.
 use mathlib.Core.Path.{_≡_, refl, sym, _∙_, ap}
 use mathlib.Core.Logic.{inl, inr}
 use mathlib.Core.Bool.{true, false}
@@ -48,7 +48,8 @@ module _ (step : List ℕ → List ℕ) (cap : List ℕ) (R : Rising (length cap
       → runFrom step cap k (suc n) t ≡ ran (suc k) t Rests
   rest-turn k n t p q = rw (p, q, runFrom)
 
-  pub pass-turn : (k n : ℕ) (t : List ℕ) → within cap (step t) ≡ false → runFrom step cap k (suc n) t ≡ ran (suc k) (step t) Passes
+  pub pass-turn : (k n : ℕ) (t : List ℕ) → within cap (step t) ≡ false
+      → runFrom step cap k (suc n) t ≡ ran (suc k) (step t) Passes
   pass-turn k n t p = rw (p, runFrom)
 
   pub more-turn : (k n : ℕ) (t : List ℕ) → within cap (step t) ≡ true → same (step t) t ≡ false
@@ -79,7 +80,8 @@ module _ (step : List ℕ → List ℕ) (cap : List ℕ) (R : Rising (length cap
       by-test (Ran step cap t k (suc n)) (within cap (step t))
       (elim (same (step t) t) [ true ↦ ran (suc k) t Rests | false ↦ runFrom step cap (suc k) n (step t) ])
       (ran (suc k) (step t) Passes)
-      (λ in-cap. by-test (Ran step cap t k (suc n)) (same (step t) t) (ran (suc k) t Rests) (runFrom step cap (suc k) n (step t))
+      (λ in-cap. by-test (Ran step cap t k (suc n)) (same (step t) t) (ran (suc k) t Rests)
+      (runFrom step cap (suc k) n (step t))
       (λ e. record {
         sized = refl;
         above = below-refl t;
@@ -148,7 +150,8 @@ module _ (step : List ℕ → List ℕ) (cap : List ℕ) (R : Rising (length cap
             (record { sized = all .sized; above = all .above; closed = rw (w .0) (below-refl (r .reached)) }, w .1);
         none = λ n p h.
             let out = all .passes (passes-of (r .end) n (run-ends floor l)) in
-            false-of-not-true (within cap p) (λ e. clash (within cap (r .reached)) (within-below cap (all .below p h) e) out);
+            false-of-not-true (within cap p)
+            (λ e. clash (within cap (r .reached)) (within-below cap (all .below p h) e) out);
         rounds = omega (arith, all .counted);
       }
 

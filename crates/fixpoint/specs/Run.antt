@@ -1,5 +1,5 @@
--- A run of a step: rounds from a floor on, under a cap that is itself a list, until a round raises nothing, takes an entry over its
--- cap, or the budget of rounds is used up.
+-- A run of a step: rounds from a floor on, under a cap that is itself a list, until a round raises nothing, takes an
+-- entry over its cap, or the budget of rounds is used up.
 use mathlib.Core.Bool.{Bool, true, false}
 use mathlib.Core.List.{List}
 use Prim.Native.Nat.{ℕ, zero, suc, _-_}

@@ -148,8 +148,8 @@ pub fn after_tries(w: Watching, turns: u32, made: u32) -> Watching {
     }
 }
 
-// Which counts of moves are tried: first the most that the horizon allows; if that is too many, few, and twice as many as
-// long as they hold; then half as many each time.
+// Which counts of moves are tried: first the most that the horizon allows; if that is too many, few, and twice as
+// many as long as they hold; then half as many each time.
 pub struct Counts {
     pub j: u32,
     pub first: bool,

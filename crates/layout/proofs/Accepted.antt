@@ -1,4 +1,5 @@
--- The reading accepts exactly the byte strings that the layout describes, and its network holds what they contain. Assumes nothing.
+-- The reading accepts exactly the byte strings that the layout describes, and its network holds what they contain.
+-- Assumes nothing.
 use mathlib.Core.Path.{_≡_, refl, ap}
 use mathlib.Core.Logic.{_↔_}
 use mathlib.Core.List.{List}

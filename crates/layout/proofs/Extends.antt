@@ -1,5 +1,5 @@
--- The network with nothing in it holds no contents, and one event, signal or rule more holds one name, signal or rule more.
--- Assumes nothing.
+-- The network with nothing in it holds no contents, and one event, signal or rule more holds one name, signal or rule
+-- more. Assumes nothing.
 use mathlib.Core.Path.{_≡_, refl, _∙_}
 use mathlib.Core.Logic.{_≢_}
 use mathlib.Core.Bool.{true}

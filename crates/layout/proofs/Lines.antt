@@ -1,5 +1,5 @@
--- A line as it is written and as it is read: where a line of fields without commas and line feeds stands, these fields are read, and
--- where a line is read that ends, it is the line of its fields. Assumes nothing.
+-- A line as it is written and as it is read: where a line of fields without commas and line feeds stands, these
+-- fields are read, and where a line is read that ends, it is the line of its fields. Assumes nothing.
 use mathlib.Core.Path.{_≡_, refl, sym, _∙_, ap}
 use mathlib.Core.Logic.{inl, inr}
 use mathlib.Core.Bool.{Bool, true, false, _&&_, not}

@@ -1,5 +1,5 @@
--- A sheet that is the text of contents which keep the layout's rules is read to its end, and the network holds these contents.
--- Assumes nothing.
+-- A sheet that is the text of contents which keep the layout's rules is read to its end, and the network holds these
+-- contents. Assumes nothing.
 use mathlib.Core.Path.{_≡_, refl, ap}
 use mathlib.Core.List.{List, [], _++_}
 use Prim.Native.Nat.{ℕ, _≤_, zero-le}

@@ -1,4 +1,5 @@
--- The lines of a section, whatever they hold: where a line of one thing is understood, so many lines are. Assumes nothing.
+-- The lines of a section, whatever they hold: where a line of one thing is understood, so many lines are. Assumes
+-- nothing.
 use mathlib.Core.Path.{_≡_, refl, sym, _∙_, ap}
 use mathlib.Core.Logic.{inl, inr}
 use mathlib.Core.Bool.{true}

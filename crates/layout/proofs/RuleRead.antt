@@ -1,4 +1,5 @@
--- A line of the rules that is passed is a kind, two events, a limit and a label of signals' letters, each once. Assumes nothing.
+-- A line of the rules that is passed is a kind, two events, a limit and a label of signals' letters, each once.
+-- Assumes nothing.
 use mathlib.Core.Path.{_≡_, _∙_}
 use mathlib.Core.Bool.{Bool, _&&_}
 use mathlib.Core.Option.{none}

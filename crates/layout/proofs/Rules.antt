@@ -1,5 +1,5 @@
--- A line of the rules is understood: it is passed exactly where it is one that keeps the layout's rules, and the constraint that it
--- adds says the same. Assumes nothing.
+-- A line of the rules is understood: it is passed exactly where it is one that keeps the layout's rules, and the
+-- constraint that it adds says the same. Assumes nothing.
 use mathlib.Core.Path.{_≡_, _∙_, ap}
 use mathlib.Core.Bool.{Bool, true, _&&_}
 use mathlib.Core.Option.{none, Option·getD}

@@ -1,5 +1,5 @@
--- A line of the signals: it is passed exactly where it is a letter that has not been given and an event that gives none yet.
--- Assumes nothing.
+-- A line of the signals: it is passed exactly where it is a letter that has not been given and an event that gives
+-- none yet. Assumes nothing.
 use mathlib.Core.Path.{_≡_, refl, _∙_, ap}
 use mathlib.Core.Bool.{Bool, true, _&&_, _||_, not}
 use mathlib.Core.Option.{none}

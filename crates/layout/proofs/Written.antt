@@ -1,5 +1,5 @@
--- A sheet that is read to its end is the text of what was read: a horizon, names, signals and rules that keep the layout's rules.
--- Assumes nothing.
+-- A sheet that is read to its end is the text of what was read: a horizon, names, signals and rules that keep the
+-- layout's rules. Assumes nothing.
 use mathlib.Core.Path.{_≡_, _∙_, ap}
 use mathlib.Core.Logic.{inl, inr}
 use mathlib.Core.List.{List, [], _∷_, _++_}

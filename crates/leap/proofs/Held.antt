@@ -21,13 +21,21 @@ use Rattle.rounds.specs.Cap.{cap}
 use Rattle.rounds.specs.Rounds.{held}
 use Rattle.rounds.proofs.Cap.{within-cap}
 use Rattle.moves.specs.Moves.{partOf, Placed}
-use Rattle.moves.specs.Levels.{Some}
+use Rattle.moves.specs.Levels.{Some, NextLevel}
 
 -- what is few at each row and column is few at each cell
-pub cell-few : {n c : ℕ} {e : List ℕ} → Times n c e → c ≤ 16 → (i : ℕ) → i < c * 16 → getD e i 0 ≤ 10080
+cell-few : {n c : ℕ} {e : List ℕ} → Times n c e → c ≤ 16 → (i : ℕ) → i < c * 16 → getD e i 0 ≤ 10080
 cell-few {n} {c} {e} E h i l =
     let w = cell-of 16 c i (omega arith) in
     rw (w .place) (E .few (w .row) (w .column) (w .row-lt) (w .column-lt))
+
+-- the next level is higher, and is the rise of a cell
+pub level-up : {n c l r : ℕ} {d : List ℕ} → Times n c d → c ≤ 16 → NextLevel d l (c * 16) r
+    → (r ≡ 0 → ⊥)
+    → (l < r) × (r ≤ 10080)
+level-up D h N n =
+    let w = N .found n in
+    (N .more n, omega (arith, w .2, cell-few D h (w .0) (w .1)))
 
 module _ (Γ : Network) (few : Γ .events ≤ 16) where
   pub held-at : (t : List ℕ) (s u : ℕ) → s < scenarios Γ → u < Γ .events
@@ -36,7 +44,8 @@ module _ (Γ : Network) (few : Γ .events ≤ 16) where
 
   -- a strategy is what its cells are
   pub held-by : (t xs : List ℕ) → length xs ≡ cells Γ
-      → ((s u : ℕ) → s < scenarios Γ → u < Γ .events → getD t (s * 16 + u) 0 ≡ getD xs (s * Γ .events + u) 0)
+      → ((s u : ℕ) → s < scenarios Γ → u < Γ .events → getD t (s * 16 + u) 0 ≡ getD xs
+      (s * Γ .events + u) 0)
       → held Γ t ≡ xs
   held-by t xs l h =
       let n = length-packed (Γ .events) (scenarios Γ) t in
@@ -59,7 +68,8 @@ module _ (Γ : Network) (few : Γ .events ≤ 16) where
       (λ s u hs hu. rw (held-at d s u hs hu) (D .few s u hs (omega arith))) i b
 
   -- equal cells
-  pub held-same : (t u : List ℕ) → ((i : ℕ) → i < scenarios Γ * 16 → getD t i 0 ≡ getD u i 0) → held Γ t ≡ held Γ u
+  pub held-same : (t u : List ℕ) → ((i : ℕ) → i < scenarios Γ * 16 → getD t i 0 ≡ getD u i 0)
+      → held Γ t ≡ held Γ u
   held-same t u h =
       held-by t (held Γ u) (length-packed (Γ .events) (scenarios Γ) u) (λ s v hs hv.
       h (s * 16 + v) (omega arith) ∙ sym (held-at u s v hs hv))
@@ -74,7 +84,8 @@ module _ (Γ : Network) (few : Γ .events ≤ 16) where
       let at-cell : s * Γ .events + u < length (held Γ t) = omega
       (arith, m, cell-lt (Γ .events) (scenarios Γ) s u hs hu) in
       P .at (s * 16 + u) (omega arith)
-      ∙ sym (moved-at (held Γ t) j rise (s * Γ .events + u) at-cell ∙ rw (held-at t s u hs hu, held-at d s u hs hu)))
+      ∙ sym (moved-at (held Γ t) j rise (s * Γ .events + u) at-cell
+      ∙ rw (held-at t s u hs hu, held-at d s u hs hu)))
 
   -- and is within the limits
   pub placed-within : {t d o : List ℕ} {lo hi j : ℕ} → Placed t d lo hi j (Γ .horizon) (scenarios Γ * 16) o

@@ -103,9 +103,9 @@ fn passes_after(
     r
 }
 
-// The same, where p rounds are guessed to raise the fastest times of a as they rose since another table was theirs,
-// and the others less.
-fn finish(
+// The same, where p rounds are guessed (0: none are) to raise the fastest times of a as they rose since another table
+// was theirs, and the others less.
+pub fn finish(
     a: &[u16; 256],
     since: &[u16; 256],
     p: u32,
@@ -118,6 +118,9 @@ fn finish(
     ensures { λ r. ⌜ (r ≤ left) ×
         (0 < r → Passing frame (now (counts .entry)) (now (lists .entry)) r (now (a .entry))) ⌝ }
 {
+    if p == 0 {
+        return 0;
+    }
     // a longer period is not worth its test
     if 65535 < p {
         return 0;
@@ -140,24 +143,4 @@ fn finish(
         return 0;
     }
     passes_after(a, &lower, &upper, j, p, left, frame, counts, lists)
-}
-
-// The same, where a period of the fastest times is guessed.
-pub fn finish_if(
-    a: &[u16; 256],
-    since: &[u16; 256],
-    p: u32,
-    left: u32,
-    frame: Frame,
-    counts: &[usize; 16],
-    lists: &[u16; 6144],
-) -> u32
-    requires { ⌜ Usable frame (now counts) (now lists) × Times (frame .events) (frame .scenarios) (now a) ⌝ }
-    ensures { λ r. ⌜ (r ≤ left) ×
-        (0 < r → Passing frame (now (counts .entry)) (now (lists .entry)) r (now (a .entry))) ⌝ }
-{
-    if p == 0 {
-        return 0;
-    }
-    finish(a, since, p, left, frame, counts, lists)
 }

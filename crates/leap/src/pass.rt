@@ -68,9 +68,11 @@ fn hop(
     made
 }
 
-// Takes a, from which p rounds lead to x, and x with it on by rounds that all raise within the limits: how many, of those
-// that are left. No more counts of moves are tried than the halves and doubles of a horizon.
-fn pass_over(
+// Takes a, from which p rounds lead to x, and x with it on by rounds that all raise within the limits, where that is
+// to be tried: how many, of those that are left. No more counts of moves are tried than the halves and doubles of a
+// horizon.
+pub fn pass_over(
+    leaps: bool,
     a: &mut [u16; 256],
     x: &mut [u16; 256],
     p: u32,
@@ -85,6 +87,9 @@ fn pass_over(
         (now (a .exit))
         × Advanced frame (now (counts .entry)) (now (lists .entry)) p (now (a .exit)) (now (x .exit)) ⌝ }
 {
+    if !leaps {
+        return 0;
+    }
     // a longer period is not worth its test
     if 65535 < p {
         return 0;
@@ -110,27 +115,4 @@ fn pass_over(
         tried += 1;
     }
     made
-}
-
-// The same, where it is to be tried.
-pub fn pass_over_if(
-    leaps: bool,
-    a: &mut [u16; 256],
-    x: &mut [u16; 256],
-    p: u32,
-    left: u32,
-    frame: Frame,
-    counts: &[usize; 16],
-    lists: &[u16; 6144],
-) -> u32
-    requires { ⌜ Usable frame (now counts) (now lists) × Times (frame .events) (frame .scenarios) (now a)
-        × Advanced frame (now counts) (now lists) p (now a) (now x) ⌝ }
-    ensures { λ r. ⌜ (r ≤ left) × Advanced frame (now (counts .entry)) (now (lists .entry)) r (now (a .entry))
-        (now (a .exit))
-        × Advanced frame (now (counts .entry)) (now (lists .entry)) p (now (a .exit)) (now (x .exit)) ⌝ }
-{
-    if !leaps {
-        return 0;
-    }
-    pass_over(a, x, p, left, frame, counts, lists)
 }

@@ -1,6 +1,6 @@
-// Whether p rounds add the rises d to a table, and j times again, or at most d, or at least d: by rounds from tables far
-// on. Each test says true only where it is so; where it says false nothing is known. 200,000,000 is over every time j
-// moves on.
+// Whether p rounds add the rises d to a table, and j times again, or at most d, or at least d: by rounds from tables
+// far on. Each test says true only where it is so; where it says false nothing is known. 200,000,000 is over every
+// time j moves on.
 ghost use mathlib.Core.Path.{_≡_};
 ghost use mathlib.Core.Bool.{true};
 ghost use Prim.Native.Nat.{_+_, _*_, _≤_, _<_};

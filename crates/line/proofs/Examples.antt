@@ -1,5 +1,5 @@
--- Lines and why they are refused, by their fields: refusals 3 to 9, and lines that pass. One table, which one theorem covers by
--- computation. Assumes nothing.
+-- Lines and why they are refused, by their fields: refusals 3 to 9, and lines that pass. One table, which one theorem
+-- covers by computation. Assumes nothing.
 use mathlib.Core.Path.{_≡_, refl}
 use mathlib.Core.Bool.{Bool, true, _&&_}
 use mathlib.Core.Option.{Option, none, some}

@@ -1,5 +1,5 @@
--- Laws of numbers in fields: what reading one says of its bytes, of the ranges of counts, and of limits with their signs.
--- Assumes nothing.
+-- Laws of numbers in fields: what reading one says of its bytes, of the ranges of counts, and of limits with their
+-- signs. Assumes nothing.
 use mathlib.Core.Path.{_≡_, refl, _∙_}
 use mathlib.Core.Logic.{inl, inr}
 use mathlib.Core.Bool.{Bool, true, false, cond, and-false}

@@ -1,5 +1,5 @@
--- A line of each section, by its fields: why it is refused, if it is, and what it adds to the network (01, The sheet and Refused
--- sheets).
+-- A line of each section, by its fields: why it is refused, if it is, and what it adds to the network (01, The sheet
+-- and Refused sheets).
 use mathlib.Core.Bool.{Bool, true, false, _&&_, _||_, not}
 use mathlib.Core.Option.{Option, none, some, Option·getD}
 use mathlib.Core.List.{List, [], _∷_}
@@ -35,8 +35,8 @@ sectionRefusal word lo hi fs =
 abbrev pub sectionCount : List (List ℕ) → ℕ
 sectionCount fs = magnitude (field 1 fs)
 
--- the lines of one section: the refusal of a line with these fields, and the network with the line's contents, where the line
--- begins at the given place of the sheet
+-- the lines of one section: the refusal of a line with these fields, and the network with the line's contents, where
+-- the line begins at the given place of the sheet
 pub record Row : Type 0 where
   pub refusal : Network → List (List ℕ) → Option Cause
   pub add : Network → ℕ → List (List ℕ) → Network

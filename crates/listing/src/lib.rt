@@ -1,5 +1,5 @@
-// The printed listing of a strategy. Each function that writes a part of it takes the place where the part begins and answers the
-// place where it ends.
+// The printed listing of a strategy. Each function that writes a part of it takes the place where the part begins and
+// answers the place where it ends.
 ghost use mathlib.Core.Path.{_≡_};
 ghost use mathlib.Core.List.{_∷_};
 ghost use Prim.Native.Nat.{_+_, _*_, _^_, _≤_};
@@ -127,7 +127,8 @@ fn push_lines(page: &mut [u8], at: usize, table: &[u16], signals: usize, events:
 // The longest listing: 149 bytes of names, and 101 for each of 16 scenarios.
 const LONGEST: usize = 1765;
 
-// The listing of any table of the network's size into out: how many bytes were written, or that out is too short for them.
+// The listing of any table of the network's size into out: how many bytes were written, or that out is too short for
+// them.
 pub fn write(sheet: &[u8], network: Network, table: &[u16], out: &mut [u8]) -> Written
     requires { ⌜ WellFormed network × Named (now sheet) network × (length (now table) ≡ cells network) ⌝ }
     ensures { λ r. ⌜ WrittenIs (listing (now (sheet .entry)) network (now (table .entry))) (now (out .entry)) (now (out .exit)) r ⌝ }

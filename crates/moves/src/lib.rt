@@ -1,5 +1,6 @@
 // Tables moved on: each time by j times a part of its rise. Rises stand in tables like times, and a level is one of
-// their values. Nothing here knows of rounds. A test that says true promises what it tested; one that says false promises nothing.
+// their values. Nothing here knows of rounds. A test that says true promises what it tested; one that says false
+// promises nothing.
 ghost use mathlib.Core.Path.{_≡_};
 ghost use mathlib.Core.Bool.{true};
 ghost use Prim.Native.Nat.{_+_, _-_, _*_, _%_, _≤_, _<_, min};
@@ -172,8 +173,8 @@ pub fn between(
     true
 }
 
-// The highest rise stays, none stays none, and any other becomes m: bounds that are guessed, so no more is promised than
-// that rounds may go from what they are.
+// The highest rise stays, none stays none, and any other becomes m: bounds that are guessed, so no more is promised
+// than that rounds may go from what they are.
 fn clip_one(d: u16, top: u16, m: u16) -> u16
     requires { ⌜ m ≤ 10080 ⌝ }
     ensures { λ r. ⌜ (d ≤ 10080 → r ≤ 10080) × (d ≡ 0 → r ≡ 0) ⌝ }

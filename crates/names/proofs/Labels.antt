@@ -1,6 +1,6 @@
--- A label as two sums of weights: the letters are distinct, so that no weight is added twice. A sum of weights of at most four
--- signals has the truths that its letters give it: `mask-step` adds one weight, and is a computed test over all such sums.
--- Assumes nothing.
+-- A label as two sums of weights: the letters are distinct, so that no weight is added twice. A sum of weights of at
+-- most four signals has the truths that its letters give it: `mask-step` adds one weight, and is a computed test over
+-- all such sums. Assumes nothing.
 use mathlib.Core.Path.{_≡_, refl, sym, _∙_, ap}
 use mathlib.Core.Logic.{inl, inr}
 use mathlib.Core.Bool.{Bool, true, false, _&&_, _||_, not, Bool·beq, and-false}

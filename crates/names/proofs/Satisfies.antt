@@ -1,5 +1,5 @@
--- What a label means: a scenario satisfies the two sums of a label exactly when it gives each letter the truth that the label asks.
--- Assumes nothing.
+-- What a label means: a scenario satisfies the two sums of a label exactly when it gives each letter the truth that
+-- the label asks. Assumes nothing.
 use mathlib.Core.Path.{_≡_, refl, sym, _∙_, ap}
 use mathlib.Core.Logic.{inl, inr}
 use mathlib.Core.Bool.{Bool, true, false, _&&_, _||_, not, Bool·beq}

@@ -1,6 +1,6 @@
--- Laws of sums of weights: a letter that stands once has the weight of its place, the sum over two lists is the sum of both, and a sum of
--- weights of at most four signals is the sum over the signals that are true in it, which is a computed test over all such sums.
--- Assumes nothing.
+-- Laws of sums of weights: a letter that stands once has the weight of its place, the sum over two lists is the sum
+-- of both, and a sum of weights of at most four signals is the sum over the signals that are true in it, which is a
+-- computed test over all such sums. Assumes nothing.
 use mathlib.Core.Path.{_≡_, refl}
 use mathlib.Core.Logic.{inl, inr}
 use mathlib.Core.Bool.{Bool, true, cond}

@@ -1,5 +1,5 @@
--- Read in this order: names, letters and labels as they are written; what they refer to; a place that was looked for; and a label byte
--- by byte.
+-- Read in this order: names, letters and labels as they are written; what they refer to; a place that was looked for;
+-- and a label byte by byte.
 pub mod Names
 pub mod Defined
 pub mod Found

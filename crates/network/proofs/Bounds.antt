@@ -1,5 +1,5 @@
--- Two times within a limit: a greater limit allows what a lesser one does, and "at least" is "at most" with the ends swapped and the
--- limit negated. For each sign. Assumes nothing.
+-- Two times within a limit: a greater limit allows what a lesser one does, and "at least" is "at most" with the ends
+-- swapped and the limit negated. For each sign. Assumes nothing.
 use mathlib.Core.Path.{_≡_, refl}
 use mathlib.Core.Bool.{true}
 use Prim.Native.Nat.{ℕ, zero, suc, _+_}

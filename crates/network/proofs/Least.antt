@@ -1,5 +1,5 @@
--- A network has at most one least solution: so any two solvers that give a least solution give the same, and no proof of that looks at
--- their code. Networks with the same solutions have the same least one, or none. Assumes nothing.
+-- A network has at most one least solution: so any two solvers that give a least solution give the same, and no proof
+-- of that looks at their code. Networks with the same solutions have the same least one, or none. Assumes nothing.
 use mathlib.Core.Path.{_≡_, sym, _∙_}
 use mathlib.Core.Logic.{_↔_}
 use mathlib.Core.List.{List}

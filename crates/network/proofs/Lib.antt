@@ -1,4 +1,5 @@
--- Laws of `specs/`, in reading order: scenarios, constraints, strategies, the least solution; names as parts of the sheet.
+-- Laws of `specs/`, in reading order: scenarios, constraints, strategies, the least solution; names as parts of the
+-- sheet.
 pub mod Scenario
 pub mod Masks
 pub mod Signed

@@ -1,5 +1,5 @@
--- Scenarios and labels as bits. There are 16 scenarios at most, and 16 masks of four propositions, so each law is a test that is
--- computed for all of them. Assumes nothing.
+-- Scenarios and labels as bits. There are 16 scenarios at most, and 16 masks of four propositions, so each law is a
+-- test that is computed for all of them. Assumes nothing.
 use mathlib.Core.Path.{_≡_, refl, _∙_}
 use mathlib.Core.Bool.{Bool, true, false, _&&_, _||_, not, Bool·beq}
 use Prim.Native.Nat.{ℕ, zero, suc, _/_, _^_, _<_}

@@ -1,5 +1,5 @@
--- Two scenarios agree on a proposition the same way round either way; and a scenario's number, halved again and again, has the
--- truths of the propositions one by one as its last binary digit. Assumes nothing.
+-- Two scenarios agree on a proposition the same way round either way; and a scenario's number, halved again and
+-- again, has the truths of the propositions one by one as its last binary digit. Assumes nothing.
 use mathlib.Core.Path.{_≡_, refl, sym}
 use mathlib.Core.Bool.{Bool, true, false, Bool·beq}
 use Prim.Native.Nat.{ℕ, _+_, _/_, _^_}

@@ -1,5 +1,5 @@
--- Limits as the code has them, in an i32: they fit, negated too, and the limit plus 10,080 is neither negative nor over 20,160, and
--- in the order of the limits. For each sign, around zero and at both ends. Assumes nothing.
+-- Limits as the code has them, in an i32: they fit, negated too, and the limit plus 10,080 is neither negative nor
+-- over 20,160, and in the order of the limits. For each sign, around zero and at both ends. Assumes nothing.
 use mathlib.Core.Path.{_≡_, _∙_, ap}
 use Prim.Native.Nat.{ℕ, zero, suc, _+_, _-_, _≤_, _<_}
 use native.Mathlib.Omega.{arith}

@@ -1,5 +1,5 @@
--- The reaction time, and what is known when. Proofs elsewhere use these laws, and not the text of `reaction` and `known`.
--- Assumes nothing.
+-- The reaction time, and what is known when. Proofs elsewhere use these laws, and not the text of `reaction` and
+-- `known`. Assumes nothing.
 use mathlib.Core.Path.{_≡_}
 use mathlib.Core.Bool.{true, false}
 use mathlib.Core.List.{List}

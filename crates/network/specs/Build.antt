@@ -1,5 +1,5 @@
--- How a network is built: from its horizon, then event by event, signal by signal and rule by rule, in the order of the sheet
--- (004, Definition 2; labels on constraints only, as in 002).
+-- How a network is built: from its horizon, then event by event, signal by signal and rule by rule, in the order of
+-- the sheet (004, Definition 2; labels on constraints only, as in 002).
 use mathlib.Core.List.{List}
 use Prim.Native.Nat.{ℕ, _+_, _*_, _^_}
 use lib.IntN.{pos}

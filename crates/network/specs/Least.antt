@@ -1,4 +1,5 @@
--- The least solution, which demand 3 asks of the solver: "each event, in each case, is no later than in any other good table".
+-- The least solution, which demand 3 asks of the solver: "each event, in each case, is no later than in any other
+-- good table".
 use mathlib.Core.List.{List}
 use Prim.Native.Nat.{ℕ}
 use Rattle.fixpoint.specs.Order.{Below}

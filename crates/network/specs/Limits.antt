@@ -1,4 +1,5 @@
--- The limits of a sheet (01, The sheet). The code has them as constants of `Network`, whose contract `limits` pins them to these.
+-- The limits of a sheet (01, The sheet). The code has them as constants of `Network`, whose contract `limits` pins
+-- them to these.
 use Prim.Native.Nat.{ℕ}
 
 -- "H from 0 to 10,080", and the size of a rule's limit

@@ -1,4 +1,5 @@
--- Execution strategies (004, Definition 6): a time for each event in each scenario. Document 01 calls one a table, its times minutes.
+-- Execution strategies (004, Definition 6): a time for each event in each scenario. Document 01 calls one a table,
+-- its times minutes.
 use mathlib.Core.Bool.{Bool}
 use mathlib.Core.List.{List}
 use Prim.Native.Nat.{ℕ, _+_, _*_}

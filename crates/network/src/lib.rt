@@ -1,5 +1,5 @@
-// The conditional simple temporal network (CSTN) that a sheet describes, and its limits. Document 01's signals are its propositions,
-// their events its observation events, and the rules its constraints.
+// The conditional simple temporal network (CSTN) that a sheet describes, and its limits. Document 01's signals are
+// its propositions, their events its observation events, and the rules its constraints.
 ghost use mathlib.Core.Path.{_≡_};
 ghost use Prim.Native.Nat.{_*_, _^_, _≤_, _<_};
 ghost use Rattle.network.specs.Limits as L;
@@ -33,8 +33,9 @@ pub struct Constraint {
     pub label: Label,
 }
 
-// Event u is named by the part of the sheet from starts[u] on, of lengths[u] bytes; event 0 is the origin. Proposition p has the
-// letter letters[p] and the observation event observations[p]. Behind the counts the arrays hold what the empty network has.
+// Event u is named by the part of the sheet from starts[u] on, of lengths[u] bytes; event 0 is the origin.
+// Proposition p has the letter letters[p] and the observation event observations[p]. Behind the counts the arrays
+// hold what the empty network has.
 pub struct Network {
     pub horizon: u16,
     pub events: usize,

@@ -1,5 +1,5 @@
--- From what the reader, the checker, the solver and the listing writer promise to what the public calls do. Each law takes the
--- reading of the sheet and how its outcome turned out. Assumes nothing.
+-- From what the reader, the checker, the solver and the listing writer promise to what the public calls do. Each law
+-- takes the reading of the sheet and how its outcome turned out. Assumes nothing.
 use mathlib.Core.Path.{_≡_, refl, sym, _∙_, ap}
 use mathlib.Core.Bool.{Bool, true, false}
 use mathlib.Core.List.{List, _++_}

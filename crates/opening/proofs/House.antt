@@ -1,5 +1,5 @@
--- From what the reader, `tighten` and the form's writer promise to what `write_house` does: the reading's outcome, then whether the
--- rows that remain fit a sheet, then what the writer did. Assumes nothing.
+-- From what the reader, `tighten` and the form's writer promise to what `write_house` does: the reading's outcome,
+-- then whether the rows that remain fit a sheet, then what the writer did. Assumes nothing.
 use mathlib.Core.Path.{_≡_, refl}
 use mathlib.Core.Bool.{true, false}
 use mathlib.Core.List.{List}

@@ -1,4 +1,5 @@
--- What holds of the house form: the answers by the call's definition, the rest cited from the crates that prove it. Assumes nothing.
+-- What holds of the house form: the answers by the call's definition, the rest cited from the crates that prove it.
+-- Assumes nothing.
 use mathlib.Core.Path.{_≡_, refl, sym, _∙_, ap}
 use mathlib.Core.Logic.{_↔_, inl, inr}
 use mathlib.Core.Bool.{Bool, true, false}

@@ -1,5 +1,5 @@
--- The calls, those of the bench, the player's and the house form's, what they promise, the demands, what holds of playing and of the
--- house form, and the trial sheets.
+-- The calls, those of the bench, the player's and the house form's, what they promise, the demands, what holds of
+-- playing and of the house form, and the trial sheets.
 pub mod Calls
 pub mod Bytes
 pub mod Small

@@ -1,5 +1,6 @@
--- From what the reader, the checker and the player promise to what the call that plays a table does. The letters of an accepted sheet's
--- signals are those of its layout (`lettered`), which is what the player asks for. Assumes nothing.
+-- From what the reader, the checker and the player promise to what the call that plays a table does. The letters of
+-- an accepted sheet's signals are those of its layout (`lettered`), which is what the player asks for. Assumes
+-- nothing.
 use mathlib.Core.Path.{_≡_, refl, sym, _∙_, ap}
 use mathlib.Core.List.{List, map}
 use Prim.Native.Nat.{ℕ, _<_}

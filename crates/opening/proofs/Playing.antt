@@ -1,5 +1,5 @@
--- What holds of the call that plays a table (`Playing`): with a good table it answers what is due, by the laws of the crate dispatch;
--- with another of its length it answers 14, and with one of another length 11. Assumes nothing.
+-- What holds of the call that plays a table (`Playing`): with a good table it answers what is due, by the laws of the
+-- crate dispatch; with another of its length it answers 14, and with one of another length 11. Assumes nothing.
 use mathlib.Core.Path.{_≡_, refl, sym, _∙_, ap}
 use mathlib.Core.Logic.{_↔_}
 use mathlib.Core.Bool.{true}

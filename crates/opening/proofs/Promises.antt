@@ -1,5 +1,5 @@
--- The demands of the calls: what is refused is left alone, a pass is a good table, and the solver's answer is the least good table or
--- none. Assumes nothing.
+-- The demands of the calls: what is refused is left alone, a pass is a good table, and the solver's answer is the
+-- least good table or none. Assumes nothing.
 use mathlib.Core.Path.{_≡_, refl, sym, _∙_, ap}
 use mathlib.Core.Logic.{_↔_}
 use mathlib.Core.Bool.{Bool, true, false}

@@ -1,4 +1,5 @@
--- Every number of an answer fits its bytes: a breach names cells of a network, and a table has at most 256 minutes. Assumes nothing.
+-- Every number of an answer fits its bytes: a breach names cells of a network, and a table has at most 256 minutes.
+-- Assumes nothing.
 use mathlib.Core.Path.{_≡_, refl}
 use mathlib.Core.Bool.{Bool, true, false}
 use mathlib.Core.List.{List, _++_}

@@ -1,5 +1,6 @@
--- The calls of the workshop bench, which is written in C: "There a table travels as two bytes a minute, low byte first. For the judge an
--- odd number of bytes is refusal 11; the solver counts the whole pairs it is lent" (01, The judge's verdict). An answer is one number.
+-- The calls of the workshop bench, which is written in C: "There a table travels as two bytes a minute, low byte
+-- first. For the judge an odd number of bytes is refusal 11; the solver counts the whole pairs it is lent" (01, The
+-- judge's verdict). An answer is one number.
 use mathlib.Core.Path.{_≡_}
 use mathlib.Core.Bool.{true, false}
 use mathlib.Core.List.{List, _++_}
@@ -45,8 +46,8 @@ benchSolving sheet b =
     let l = solving sheet (minutesOf b) in
     record { answer = l .answer; memory = pairsAfter (l .answer) (l .memory) b }
 
--- document 01's number, line, word and values of an answer: word 0 is a pass, 1 Late with case and event, 2 Rule with case and rule,
--- 3 Unheard with both cases and the event
+-- document 01's number, line, word and values of an answer: word 0 is a pass, 1 Late with case and event, 2 Rule with
+-- case and rule, 3 Unheard with both cases and the event
 pub record Values : Type 0 where
   pub number : ℕ
   pub line : ℕ

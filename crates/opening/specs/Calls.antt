@@ -1,5 +1,6 @@
--- What the public calls answer and what they leave in the memory that they are lent (01, Refused sheets and calls, The judge's verdict
--- and The printed listing; 02, point 2). A refusal of the sheet itself comes first; then 17, 11, 12 and 13, whose line is 0.
+-- What the public calls answer and what they leave in the memory that they are lent (01, Refused sheets and calls,
+-- The judge's verdict and The printed listing; 02, point 2). A refusal of the sheet itself comes first; then 17, 11,
+-- 12 and 13, whose line is 0.
 use mathlib.Core.Path.{_≡_}
 use mathlib.Core.Bool.{true, false}
 use mathlib.Core.List.{List, _++_}
@@ -48,7 +49,8 @@ summaryFor Γ (Refused r) = S.Refused r
 abbrev pub summary : List ℕ → Summary
 summary sheet = summaryFor (read sheet .network) (read sheet .outcome)
 
--- the number, the line and the values of an answer: the horizon and the counts with 0 and 0, or a refusal's number and line with none
+-- the number, the line and the values of an answer: the horizon and the counts with 0 and 0, or a refusal's number
+-- and line with none
 pub record SummaryValues : Type 0 where
   pub number : ℕ
   pub line : ℕ
@@ -78,7 +80,8 @@ pub record Left : Type 0 where
   pub answer : Written
   pub memory : List ℕ
 
--- the number, the line and the value of an answer: what was written is counted with 0 and 0, and a refusal's number and line stand with 0
+-- the number, the line and the value of an answer: what was written is counted with 0 and 0, and a refusal's number
+-- and line stand with 0
 pub record WrittenValues : Type 0 where
   pub number : ℕ
   pub line : ℕ
@@ -97,7 +100,8 @@ pub record Leaves (l : Left) (r : Written) (m : List ℕ) : Type 0 where
 abbrev pub kept : Written → List ℕ → Left
 kept a m = record { answer = a; memory = m }
 
--- "the written part has exactly its stated contents and everything behind it is unaltered", or 12 where there is no room for it
+-- "the written part has exactly its stated contents and everything behind it is unaltered", or 12 where there is no
+-- room for it
 abbrev pub written : List ℕ → List ℕ → Left
 written text m =
     elim (leb (length text) (length m)) [

@@ -1,6 +1,6 @@
--- Playing a table: what is due at a minute, for those who have heard a list of signals (02, point 1). The sheet's own refusal comes
--- first, then 11; then "14, the table does not pass the judge; 15, a letter in the list is undefined or stands twice; 16, no case has
--- heard exactly this list", each with line 0.
+-- Playing a table: what is due at a minute, for those who have heard a list of signals (02, point 1). The sheet's own
+-- refusal comes first, then 11; then "14, the table does not pass the judge; 15, a letter in the list is undefined or
+-- stands twice; 16, no case has heard exactly this list", each with line 0.
 use mathlib.Core.List.{List}
 use Prim.Native.Nat.{ℕ}
 use Rattle.refusal.specs.Refusal.{numberOf}
@@ -39,7 +39,8 @@ eventsDue sheet t m hs = playedFor (judgement sheet t) (due (read sheet .network
 unfoldable pub eventsDueOn : List ℕ → List ℕ → ℕ → ℕ → Due
 eventsDueOn sheet t m x = playedFor (judgement sheet t) (dueOn (read sheet .network) t m x)
 
--- the number, the line and the value of an answer: the events due with 0 and 0, or a refusal's number and line with no event
+-- the number, the line and the value of an answer: the events due with 0 and 0, or a refusal's number and line with
+-- no event
 pub record DueValues : Type 0 where
   pub number : ℕ
   pub line : ℕ

@@ -44,15 +44,16 @@ module _ (sheet t : List ℕ) where
     pub due : (m : ℕ) (hs : List Heard) (s : ℕ) → s < scenarios Γ → History Γ t m hs s → RowAt Γ t m s (answer m hs)
     -- so playing s from minute 0 with what it has heard so far gives its row: each event once, at its minute
     pub row : (m s : ℕ) → s < scenarios Γ → RowAt Γ t m s (answer m (historyOf Γ t m s))
-    -- and what it has heard so far is told by the answers before: a signal is heard when its event was due its reaction ago or sooner
+    -- and what it has heard so far is told by the answers before: a signal is heard when its event was due its
+    -- reaction ago or sooner
     pub heard : (m s p : ℕ) → s < scenarios Γ → p < Γ .signals
         → (known Γ t s p m ≡ true)
         ↔ ((i : ℕ) × (i + reaction Γ p ≤ m) × (truth (answer i (historyOf Γ t i s) .events) (observation Γ p) ≡ true))
     -- "Two cases that have heard the same get the same events"
     pub same : (m : ℕ) (hs : List Heard) (s r u : ℕ) → s < scenarios Γ → r < scenarios Γ → u < Γ .events
         → History Γ t m hs s → History Γ t m hs r → (time (Γ .events) t s u ≡ m) ↔ (time (Γ .events) t r u ≡ m)
-    -- "what a signal not yet heard will say changes nothing": cases that differ only in such signals have heard the same, and are
-    -- answered the same
+    -- "what a signal not yet heard will say changes nothing": cases that differ only in such signals have heard the
+    -- same, and are answered the same
     pub unheard : (m s r : ℕ) → s < scenarios Γ → r < scenarios Γ → Indistinct Γ t s r m
         → ((hs : List Heard) → History Γ t m hs s ↔ History Γ t m hs r)
         × (eventsDue sheet t m (historyOf Γ t m s) ≡ eventsDue sheet t m (historyOf Γ t m r))

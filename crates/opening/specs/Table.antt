@@ -1,5 +1,5 @@
--- What the program `table` prints for a sheet: "the solver's listing, or `refused N line L` with the number and the line" (01, The
--- printed listing).
+-- What the program `table` prints for a sheet: "the solver's listing, or `refused N line L` with the number and the
+-- line" (01, The printed listing).
 use mathlib.Core.List.{List, [], _∷_, _++_}
 use Prim.Native.Nat.{ℕ}
 use Rattle.prelude.specs.Bytes.{ascii}

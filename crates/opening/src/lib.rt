@@ -1,5 +1,5 @@
-// The public calls. None asks anything of its caller: whatever the bytes and the lengths are, the answer is a defined one, and a
-// refusal leaves the lent memory as it was.
+// The public calls. None asks anything of its caller: whatever the bytes and the lengths are, the answer is a defined
+// one, and a refusal leaves the lent memory as it was.
 ghost use mathlib.Core.Path.{_≡_};
 ghost use Rattle.opening.specs.Calls.{withoutLine, summary, judgement, solving, listed, housed, Leaves, handedOut};
 ghost use Rattle.opening.specs.Play.{eventsDue, eventsDueOn, answerTo};
@@ -170,8 +170,8 @@ fn answer_to(dispatched: Dispatched) -> Due
     }
 }
 
-// The events due at the minute, by what a mask says of the signals heard before it. A mask says what a list does where `dispatch::add`
-// made it from 0, record by record; any other has a defined answer too.
+// The events due at the minute, by what a mask says of the signals heard before it. A mask says what a list does
+// where `dispatch::add` made it from 0, record by record; any other has a defined answer too.
 pub fn events_due_on(sheet: &[u8], table: &[u16], minute: u16, said: u64) -> Due
     ensures { λ r. ⌜ r ≡ eventsDueOn (now (sheet .entry)) (now (table .entry)) minute said ⌝ }
 {

@@ -1,5 +1,5 @@
--- Laws of texts one behind the other. A loop that writes them has the invariant `Joining`: what is written so far is the definition
--- at n. It begins by `join-none`, goes on by `join-next` and ends by `join-all`. Assumes nothing.
+-- Laws of texts one behind the other. A loop that writes them has the invariant `Joining`: what is written so far is
+-- the definition at n. It begins by `join-none`, goes on by `join-next` and ends by `join-all`. Assumes nothing.
 use mathlib.Core.Path.{_≡_, refl, ap}
 use mathlib.Core.List.{List, [], _∷_, _++_, append-assoc, append-nil}
 use Prim.Native.Nat.{ℕ, zero, suc, _+_, _*_, _≤_, _<_}

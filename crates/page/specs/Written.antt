@@ -1,5 +1,6 @@
--- What a call that writes a text does with the memory that it is lent (01, Refused sheets and calls): "the written part has exactly
--- its stated contents and everything behind it is unaltered", and memory that is too short keeps all its contents.
+-- What a call that writes a text does with the memory that it is lent (01, Refused sheets and calls): "the written
+-- part has exactly its stated contents and everything behind it is unaltered", and memory that is too short keeps all
+-- its contents.
 use mathlib.Core.Path.{_≡_}
 use mathlib.Core.Bool.{Bool, cond}
 use mathlib.Core.List.{List, _++_}

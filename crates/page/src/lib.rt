@@ -1,5 +1,5 @@
-// Text written into lent memory. Each push takes the place where its text begins and answers the place where it ends; hand_out begins
-// at the front, and tests first whether there is room. Everything else in the memory stays as it was.
+// Text written into lent memory. Each push takes the place where its text begins and answers the place where it ends;
+// hand_out begins at the front, and tests first whether there is room. Everything else in the memory stays as it was.
 ghost use mathlib.Core.List.{[], _∷_};
 ghost use Prim.Native.Nat.{_+_, _≤_, _<_};
 ghost use lib.ListN.{length};

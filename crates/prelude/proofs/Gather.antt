@@ -1,5 +1,5 @@
--- Laws of gathered answers: what is gathered from a number on, up to the next answer and behind it; what stands in the list; and that it
--- stands there in the order of the numbers. Assumes nothing.
+-- Laws of gathered answers: what is gathered from a number on, up to the next answer and behind it; what stands in
+-- the list; and that it stands there in the order of the numbers. Assumes nothing.
 use mathlib.Core.Path.{_≡_, refl, ap}
 use mathlib.Core.Logic.{inl, inr}
 use mathlib.Core.Option.{Option, none, some}

@@ -1,5 +1,5 @@
--- A list of the answers in the order of their numbers is what is gathered, where an answer tells its number: its first is the next
--- answer, since nothing before it answers, and the others are those behind it. Assumes nothing.
+-- A list of the answers in the order of their numbers is what is gathered, where an answer tells its number: its
+-- first is the next answer, since nothing before it answers, and the others are those behind it. Assumes nothing.
 use mathlib.Core.Path.{_≡_, sym, _∙_, ap}
 use mathlib.Core.Logic.{inl, inr}
 use mathlib.Core.Option.{Option, some}

@@ -1,5 +1,5 @@
--- What stands in a list, once, and what holds of each: so it is in a longer list where it is so in the shorter and of what comes
--- behind; and the tests of the reading find it out. Assumes nothing.
+-- What stands in a list, once, and what holds of each: so it is in a longer list where it is so in the shorter and of
+-- what comes behind; and the tests of the reading find it out. Assumes nothing.
 use mathlib.Core.Path.{_≡_, refl, sym, _∙_, ap}
 use mathlib.Core.Logic.{_⊎_, inl, inr}
 use mathlib.Core.Bool.{Bool, true, false, not}

@@ -1,5 +1,5 @@
--- A list by its parts: what stands in it is its first or stands behind it, and what holds of each element of the parts holds of each
--- of the whole, and the other way round. Assumes nothing.
+-- A list by its parts: what stands in it is its first or stands behind it, and what holds of each element of the
+-- parts holds of each of the whole, and the other way round. Assumes nothing.
 use mathlib.Core.Path.{_≡_, refl}
 use mathlib.Core.Logic.{_⊎_, inl, inr}
 use mathlib.Core.List.{List, [], _∷_, _++_}

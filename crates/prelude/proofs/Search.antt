@@ -1,7 +1,7 @@
--- Laws of bounded search. A loop over i has the invariant `Searching f n i`: nothing below i answers. It begins by `searching-start`,
--- goes on by `searching-on`, and is left by `found-at` with an answer or by `found-nothing` at the end. What a search found is the
--- first answer (`some-of-firstBelow`), and what it did not find is nowhere (`none-of-firstBelow`).
--- Assumes nothing.
+-- Laws of bounded search. A loop over i has the invariant `Searching f n i`: nothing below i answers. It begins by
+-- `searching-start`, goes on by `searching-on`, and is left by `found-at` with an answer or by `found-nothing` at the
+-- end. What a search found is the first answer (`some-of-firstBelow`), and what it did not find is nowhere
+-- (`none-of-firstBelow`). Assumes nothing.
 use mathlib.Core.Path.{_≡_, refl, sym, _∙_}
 use mathlib.Core.Logic.{_⊎_, inl, inr}
 use mathlib.Core.Bool.{Bool, true, false}

@@ -1,4 +1,5 @@
--- Tests in checking order, each with what its failure is called: "on one line the lowest number" decides (01, Refused sheets).
+-- Tests in checking order, each with what its failure is called: "on one line the lowest number" decides (01, Refused
+-- sheets).
 use mathlib.Core.Bool.{Bool, true, false}
 use mathlib.Core.Option.{Option, none, some}
 use mathlib.Core.List.{List, [], _∷_}

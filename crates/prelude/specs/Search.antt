@@ -1,5 +1,5 @@
--- Bounded search: the first index at which something answers, lowest first. Each "the first .. ends the search" of document 01 is
--- one of these.
+-- Bounded search: the first index at which something answers, lowest first. Each "the first .. ends the search" of
+-- document 01 is one of these.
 use mathlib.Core.Bool.{Bool, true, false}
 use mathlib.Core.Option.{Option, none, some}
 use Prim.Native.Nat.{ℕ, zero, suc}

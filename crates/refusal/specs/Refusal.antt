@@ -1,4 +1,5 @@
--- The refusals' numbers, as document 01 lists them under "Refused sheets and calls, in checking order", and document 02 goes on.
+-- The refusals' numbers, as document 01 lists them under "Refused sheets and calls, in checking order", and document
+-- 02 goes on.
 use Prim.Native.Nat.{ℕ}
 use Rattle.refusal.specs.declared.Cause.{Cause}
 use Rattle.refusal.specs.declared.Cause.the-variants as C
@@ -18,8 +19,8 @@ numberOf C.TrailingBytes = 10
 numberOf C.WrongTableLength = 11
 numberOf C.BufferTooShort = 12
 numberOf C.Inconsistent = 13
--- "14, the table does not pass the judge; 15, a letter in the list is undefined or stands twice; 16, no case has heard exactly this list"
--- (02, point 1)
+-- "14, the table does not pass the judge; 15, a letter in the list is undefined or stands twice; 16, no case has
+-- heard exactly this list" (02, point 1)
 numberOf C.TableFails = 14
 numberOf C.MisnamedSignal = 15
 numberOf C.NeverHeard = 16

@@ -1,5 +1,5 @@
--- What the constraints ask agrees with point 2: a constraint holds in a scenario exactly when neither of its halves asks more than
--- the times that are there. Assumes nothing.
+-- What the constraints ask agrees with point 2: a constraint holds in a scenario exactly when neither of its halves
+-- asks more than the times that are there. Assumes nothing.
 use mathlib.Core.Path.{_≡_, refl}
 use mathlib.Core.Bool.{Bool, true, false, _&&_, cond}
 use mathlib.Core.List.{List}
@@ -101,7 +101,8 @@ module _ (Γ : Network) (σ : List ℕ) (s : ℕ) (c : Constraint) where
       (to-atLeast (at (c .from)) (at (c .to)) (c .bound)
       (lower-half (at (c .from)) (at (c .to)) (c .bound) (c .kind) (h .holds (p .0)) (q .0)))
 
-  pub holds-of-bounds : upperBound Γ σ s (c .from) c ≤ at (c .from) → lowerBound Γ σ s (c .to) c ≤ at (c .to) → Holds Γ σ s c
+  pub holds-of-bounds : upperBound Γ σ s (c .from) c ≤ at (c .from) → lowerBound Γ σ s (c .to) c ≤ at (c .to)
+      → Holds Γ σ s c
   holds-of-bounds f g = record {
     holds = λ e.
         halves (at (c .from)) (at (c .to)) (c .bound) (c .kind)

@@ -2,7 +2,7 @@
 use mathlib.Core.Path.{_≡_, _∙_}
 use mathlib.Core.Bool.{Bool, true, false, cond}
 use mathlib.Core.List.{List}
-use Prim.Native.Nat.{ℕ, _+_, _*_, _%_, _≤_, _<_}
+use Prim.Native.Nat.{ℕ, _+_, _*_, _≤_, _<_}
 use native.Mathlib.Omega.{arith}
 use borrow.Author.Tests.{eqb-true}
 use lib.Dec.{eqb}
@@ -22,16 +22,13 @@ cond-few true h m l = omega arith
 cond-few false h m l = l
 
 module _ (Γ : Network) where
-  abbrev limit : ℕ → ℕ
-  limit i = cond (eqb (i % Γ .events) 0) 0 (Γ .horizon)
-
   pub length-cap : length (cap Γ) ≡ cells Γ
-  length-cap = length-tabulate limit (cells Γ)
+  length-cap = length-tabulate _ (cells Γ)
 
   cap-at : (s u : ℕ) → s < scenarios Γ → u < Γ .events
       → getD (cap Γ) (s * Γ .events + u) 0 ≡ cond (eqb u 0) 0 (Γ .horizon)
   cap-at s u hs hu =
-      getD-tabulate limit (cells Γ) (s * Γ .events + u) 0 (cell-lt (Γ .events) (scenarios Γ) s u hs hu)
+      getD-tabulate _ (cells Γ) (s * Γ .events + u) 0 (cell-lt (Γ .events) (scenarios Γ) s u hs hu)
       ∙ rw (column-of (Γ .events) s u hu)
 
   pub cap-few : (i : ℕ) → i < cells Γ → getD (cap Γ) i 0 ≤ Γ .horizon
@@ -46,7 +43,8 @@ module _ (Γ : Network) where
 
     -- no time over the horizon, and the start at 0
     pub within-cap : ((s u : ℕ) → s < scenarios Γ → u < Γ .events
-        → (time (Γ .events) σ s u ≤ Γ .horizon) × (u ≡ 0 → time (Γ .events) σ s u ≡ 0)) → within (cap Γ) σ ≡ true
+        → (time (Γ .events) σ s u ≤ Γ .horizon) × (u ≡ 0 → time (Γ .events) σ s u ≡ 0))
+        → within (cap Γ) σ ≡ true
     within-cap h = within-by (cap Γ) σ (λ i l.
         by-cell (Γ .events) (scenarios Γ) (λ i. getD σ i 0 ≤ getD (cap Γ) i 0)
         (λ s u hs hu. rw (cap-at s u hs hu) (limited u _ (h s u hs hu .0) (h s u hs hu .1)))

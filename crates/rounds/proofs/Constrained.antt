@@ -51,32 +51,40 @@ unbiased x m a h y e p = omega arith
 joined : (x y z p q : ℕ) → x ≡ max p z → p ≡ max q y → x ≡ max q (max y z)
 joined x y z p q e f = omega arith
 
-module _ (frame : Frame) (c : Constraint) (ok : Listable frame c) (Γ : Network) (σ row : List ℕ) (s u : ℕ) (F : Framed Γ frame)
+module _ (frame : Frame) (c : Constraint) (ok : Listable frame c) (Γ : Network) (σ row : List ℕ) (s u : ℕ)
+    (F : Framed Γ frame)
     (R : RowIn Γ σ s row) where
   time-at : (v : ℕ) → v < frame .events → getD row v 0 ≡ time (Γ .events) σ s v
   time-at v l = R .at v (omega (arith, F .events))
 
   upper-is : isUpper (c .kind) ≡ true
-      → cond (satisfies s (c .label)) (asking (c .from) (c .to) (upperWeight (c .bound)) row u) 0 - 10080 ≡ upperBound Γ σ s u c
+      → cond (satisfies s (c .label))
+      (asking (c .from) (c .to) (upperWeight (c .bound)) row u) 0 - 10080 ≡ upperBound Γ σ s u c
   upper-is e =
       rw (covers-satisfies Γ c s, ← time-at (c .to) (ok .to))
-      (counts (satisfies s (c .label)) (isUpper (c .kind)) (eqb (c .from) u) _ _ 10080 e (upper-adds (getD row (c .to) 0) (c .bound) (ok .bound)))
+      (counts (satisfies s (c .label)) (isUpper (c .kind)) (eqb (c .from) u) _ _ 10080 e
+      (upper-adds (getD row (c .to) 0) (c .bound) (ok .bound)))
 
   lower-is : isLower (c .kind) ≡ true
-      → cond (satisfies s (c .label)) (asking (c .to) (c .from) (lowerWeight (c .bound)) row u) 0 - 10080 ≡ lowerBound Γ σ s u c
+      → cond (satisfies s (c .label))
+      (asking (c .to) (c .from) (lowerWeight (c .bound)) row u) 0 - 10080 ≡ lowerBound Γ σ s u c
   lower-is e =
       rw (covers-satisfies Γ c s, ← time-at (c .from) (ok .from))
-      (counts (satisfies s (c .label)) (isLower (c .kind)) (eqb (c .to) u) _ _ 10080 e (lower-adds (getD row (c .from) 0) (c .bound) (ok .bound)))
+      (counts (satisfies s (c .label)) (isLower (c .kind)) (eqb (c .to) u) _ _ 10080 e
+      (lower-adds (getD row (c .from) 0) (c .bound) (ok .bound)))
 
   no-upper : isUpper (c .kind) ≡ false → upperBound Γ σ s u c ≡ 0
-  no-upper e = rw (covers-satisfies Γ c s) (not-counted (satisfies s (c .label)) (isUpper (c .kind)) (eqb (c .from) u) _ e)
+  no-upper e = rw (covers-satisfies Γ c s)
+      (not-counted (satisfies s (c .label)) (isUpper (c .kind)) (eqb (c .from) u) _ e)
 
   no-lower : isLower (c .kind) ≡ false → lowerBound Γ σ s u c ≡ 0
-  no-lower e = rw (covers-satisfies Γ c s) (not-counted (satisfies s (c .label)) (isLower (c .kind)) (eqb (c .to) u) _ e)
+  no-lower e = rw (covers-satisfies Γ c s)
+      (not-counted (satisfies s (c .label)) (isLower (c .kind)) (eqb (c .to) u) _ e)
 
 -- a constraint is listed
 module _ (frame : Frame) (c : Constraint) (ok : Listable frame c) where
-  pub constrained-max : {ks ls ks′ ls′ : List ℕ} → c .kind ≡ Max → Lists (frame .events) ks ls → UpperAdded frame c ks ls ks′ ls′
+  pub constrained-max : {ks ls ks′ ls′ : List ℕ} → c .kind ≡ Max → Lists (frame .events) ks ls
+      → UpperAdded frame c ks ls ks′ ls′
       → Constrained frame c ks ls ks′ ls′
   constrained-max k L A = record {
     lists-are = upper-lists frame c ok A L;
@@ -91,7 +99,8 @@ module _ (frame : Frame) (c : Constraint) (ok : Listable frame c) where
         );
   }
 
-  pub constrained-min : {ks ls ks′ ls′ : List ℕ} → c .kind ≡ Min → Lists (frame .events) ks ls → LowerAdded frame c ks ls ks′ ls′
+  pub constrained-min : {ks ls ks′ ls′ : List ℕ} → c .kind ≡ Min → Lists (frame .events) ks ls
+      → LowerAdded frame c ks ls ks′ ls′
       → Constrained frame c ks ls ks′ ls′
   constrained-min k L A = record {
     lists-are = lower-lists frame c ok A L;
@@ -106,7 +115,8 @@ module _ (frame : Frame) (c : Constraint) (ok : Listable frame c) where
         );
   }
 
-  pub constrained-fix : {ks ls ks₁ ls₁ ks₂ ls₂ : List ℕ} → c .kind ≡ Fix → Lists (frame .events) ks ls → UpperAdded frame c ks ls ks₁ ls₁
+  pub constrained-fix : {ks ls ks₁ ls₁ ks₂ ls₂ : List ℕ} → c .kind ≡ Fix → Lists (frame .events) ks ls
+      → UpperAdded frame c ks ls ks₁ ls₁
       → LowerAdded frame c ks₁ ls₁ ks₂ ls₂ → Constrained frame c ks ls ks₂ ls₂
   constrained-fix k L A B = record {
     lists-are = lower-lists frame c ok B (upper-lists frame c ok A L);
@@ -128,7 +138,8 @@ module _ (Γ : Network) (frame : Frame) (W : WellFormed Γ) (F : Framed Γ frame
       asks = λ σ row s u l R. rw (h s) (omega arith);
     }
 
-    pub listing-next : {ks′ ls′ : List ℕ} (i : ℕ) → Listing Γ frame ks ls i → Constrained frame (constraint Γ i) ks ls ks′ ls′
+    pub listing-next : {ks′ ls′ : List ℕ} (i : ℕ) → Listing Γ frame ks ls i
+        → Constrained frame (constraint Γ i) ks ls ks′ ls′
         → Listing Γ frame ks′ ls′ (i + 1)
     listing-next i A C = record {
       lists-are = C .lists-are;

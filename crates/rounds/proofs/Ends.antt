@@ -1,5 +1,5 @@
--- How a round ends, seen from the rows that it stores: the strategy made is the definition's, and the latest times and the steepest climb
--- tell the two tests of a run. Assumes nothing.
+-- How a round ends, seen from the rows that it stores: the strategy made is the definition's, and the latest times
+-- and the steepest climb tell the two tests of a run. Assumes nothing.
 use mathlib.Core.Path.{_≡_, sym, _∙_, ap}
 use mathlib.Core.Logic.{_⊎_, inl, inr}
 use mathlib.Core.Bool.{true, false, cond}
@@ -63,9 +63,11 @@ module _ {Γ : Network} {frame : Frame} {counts lists t new climb highest : List
   packed-made =
       let n : length (packed (Γ .events) (scenarios Γ) new) ≡ cells Γ = length-packed (Γ .events) (scenarios Γ) new in
       ext-getD 0 (packed (Γ .events) (scenarios Γ) new) (propagate Γ σ) (n ∙ sym (length-propagate Γ σ)) (λ i b.
-      by-cell (Γ .events) (scenarios Γ) (λ k. getD (packed (Γ .events) (scenarios Γ) new) k 0 ≡ getD (propagate Γ σ) k 0)
+      by-cell (Γ .events) (scenarios Γ)
+      (λ k. getD (packed (Γ .events) (scenarios Γ) new) k 0 ≡ getD (propagate Γ σ) k 0)
       (λ s u h l.
-      packed-at (Γ .events) (scenarios Γ) new s u h l ∙ (R .done s u h (omega (arith, sixteen-events)) ∙ sym (made-at s u h l)))
+      packed-at (Γ .events) (scenarios Γ) new s u h l ∙
+      (R .done s u h (omega (arith, sixteen-events)) ∙ sym (made-at s u h l)))
       i (omega (arith, n)))
 
   -- the limits
@@ -80,7 +82,8 @@ module _ {Γ : Network} {frame : Frame} {counts lists t new climb highest : List
         omega (arith, made-at s u h l),
   ))
 
-  limit-of : within (cap Γ) (propagate Γ σ) ≡ true → (s u : ℕ) → s < scenarios Γ → u < Γ .events → made s u ≤ cond (eqb u 0) 0 (Γ .horizon)
+  limit-of : within (cap Γ) (propagate Γ σ) ≡ true → (s u : ℕ) → s < scenarios Γ → u < Γ .events
+      → made s u ≤ cond (eqb u 0) 0 (Γ .horizon)
   limit-of e s u h l = omega (arith, cap-within Γ (propagate Γ σ) e s u h l, made-at s u h l)
 
   highest-of : within (cap Γ) (propagate Γ σ) ≡ true → greatest highest ≤ Γ .horizon
@@ -151,7 +154,8 @@ module _ {Γ : Network} {frame : Frame} {counts lists t new climb highest : List
   module _ (low : greatest highest ≤ Γ .horizon) (zeros : getD highest 0 0 ≤ 0) where
     pub ends-resting : greatest climb ≡ 0 → Rounded Γ t new Rests
     unfolding outcomeOf
-    ends-resting e = rounded Rests (rw (within-is low zeros, same-is e)) (λ e. absurd (let z : _≡_ {A = ℕ} 0 1 = cc in omega arith))
+    ends-resting e = rounded Rests (rw (within-is low zeros, same-is e))
+        (λ e. absurd (let z : _≡_ {A = ℕ} 0 1 = cc in omega arith))
 
     pub ends-rising : (greatest climb ≡ 0 → ⊥) → Rounded Γ t new Rises
     unfolding outcomeOf

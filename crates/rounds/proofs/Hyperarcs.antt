@@ -1,11 +1,11 @@
 -- Point 3 and the hyperarcs agree, for any reaction times of at least 1 (004, Lemma 1 and Definition 16).
 --
--- From point 3 to the hyperarcs: either something that differs is known in s at the time of u, and its hyperarc asks no more than that,
--- or nothing is, and the two times are equal. Back: let nothing that differs be known in s at the time of u. Were u earlier in r, its
--- hyperarc in r would name a differing proposition known in r sooner than u happens in s; in s it is known later than that, so its
--- observation is earlier in r than in s, and the hyperarc of that observation names another, known in r sooner still. Times do not
--- fall for ever (`no-descent`).
--- Assumes nothing.
+-- From point 3 to the hyperarcs: either something that differs is known in s at the time of u, and its hyperarc asks
+-- no more than that, or nothing is, and the two times are equal. Back: let nothing that differs be known in s at the
+-- time of u. Were u earlier in r, its hyperarc in r would name a differing proposition known in r sooner than u
+-- happens in s; in s it is known later than that, so its observation is earlier in r than in s, and the hyperarc of
+-- that observation names another, known in r sooner still. Times do not fall for ever (`no-descent`). Assumes
+-- nothing.
 use mathlib.Core.Path.{_≡_, _∙_}
 use mathlib.Core.Logic.{_⊎_, inl, inr, _↔_}
 use mathlib.Core.Bool.{Bool, true, false, _||_, not}
@@ -62,7 +62,8 @@ module _ (Γ : Network) (σ : List ℕ) (s r m : ℕ) where
   pub least-is : (k q : ℕ) → least k ≤ q → (m ≤ q) ⊎ Differs k q
   least-is zero q h = inl h
   least-is (suc k) q h =
-      by-cond (λ (z : ℕ). z ≤ q → (m ≤ q) ⊎ Differs (suc k) q) (agree s r k) (least k) (min (least k) (knownFrom Γ σ s k))
+      by-cond (λ (z : ℕ). z ≤ q → (m ≤ q) ⊎ Differs (suc k) q) (agree s r k) (least k)
+      (min (least k) (knownFrom Γ σ s k))
       (λ _ l. more (least-is k q l))
       (λ e l. elim (lt-or-ge q (least k)) [
         | inl a ↦ inr (record { proposition = k; proposition-lt = omega arith; differs = e; by-then = omega arith })
@@ -132,7 +133,8 @@ module _ (Γ : Network) (σ : List ℕ) where
           | inl a ↦ omega arith
           | inr w ↦
               no-descent s r u hs hr i b (w .proposition) (w .proposition-lt) (w .differs)
-              (omega (arith, w .by-then, observed-before Γ σ r p 0)) (omega (arith, w .by-then, observed-before Γ σ r p 0))
+              (omega (arith, w .by-then, observed-before Γ σ r p 0))
+              (omega (arith, w .by-then, observed-before Γ σ r p 0))
         ]
 
     pub dynamic-of-hyperarcs : Dynamic Γ σ
@@ -146,7 +148,8 @@ module _ (Γ : Network) (σ : List ℕ) where
                   absurd (omega (
                     arith,
                     w .by-then,
-                    from-unknown Γ σ s (w .proposition) (at Γ σ s u) (i .unknown (w .proposition) (w .proposition-lt) (w .differs)),
+                    from-unknown Γ σ s (w .proposition) (at Γ σ s u)
+                        (i .unknown (w .proposition) (w .proposition-lt) (w .differs)),
                   ))
             ] in
             let no-sooner : at Γ σ s u ≤ at Γ σ r u =
@@ -155,7 +158,8 @@ module _ (Γ : Network) (σ : List ℕ) where
               | inr w ↦
                   elim (lt-or-ge (at Γ σ r u) (at Γ σ s u)) [
                     | inl l ↦
-                        absurd (no-descent s r u hs hr i (suc (knownFrom Γ σ r (w .proposition))) (w .proposition) (w .proposition-lt)
+                        absurd (no-descent s r u hs hr i (suc (knownFrom Γ σ r (w .proposition))) (w .proposition)
+                        (w .proposition-lt)
                         (w .differs) (omega (arith, w .by-then)) (omega arith))
                     | inr l ↦ l
                   ]

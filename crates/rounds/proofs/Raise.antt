@@ -1,4 +1,5 @@
--- How a row is raised: by the bounds of its scenario, then by the other scenarios in the order of their differences. Assumes nothing.
+-- How a row is raised: by the bounds of its scenario, then by the other scenarios in the order of their differences.
+-- Assumes nothing.
 use mathlib.Core.Path.{_≡_, _∙_, ap}
 use mathlib.Core.List.{List}
 use Prim.Native.Nat.{ℕ, _+_, _-_, _*_, _^_, _≤_, _<_, max, min}
@@ -46,7 +47,8 @@ module _ (counts lists t : List ℕ) (s : ℕ) where
 
   pub raised-row : {first o₀ o : List ℕ} (frame : Frame) → frame .scenarios ≡ 2 ^ frame .signals
       → First (frame .signals) (λ p. getD (rowOf t s) (getD (frame .observations) p 0) 0 + 1) first → Row o₀ ruled
-      → Row o (λ u. max (getD o₀ u 0) (across t first s (frame .scenarios) u)) → Row o (λ u. raisedAt frame counts lists t s u)
+      → Row o (λ u. max (getD o₀ u 0) (across t first s (frame .scenarios) u))
+      → Row o (λ u. raisedAt frame counts lists t s u)
   unfolding raisedAt
   raised-row frame c F h i = record {
     sized = i .sized;

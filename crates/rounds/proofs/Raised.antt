@@ -66,7 +66,8 @@ module _ (Γ : Network) (frame : Frame) (counts lists t : List ℕ) (C : Compile
   known-is d =
       rw (C .framed .signals)
       (firstOf-ext _ _ (Γ .signals) d (λ p l.
-      rw (C .framed .observations) (omega (arith, row-in .at (observation Γ p) (C .formed .observed p l), reaction-is Γ p))))
+      rw (C .framed .observations)
+      (omega (arith, row-in .at (observation Γ p) (C .formed .observed p l), reaction-is Γ p))))
 
   module _ (u : ℕ) where
     across-is : u < Γ .events
@@ -83,7 +84,8 @@ module _ (Γ : Network) (frame : Frame) (counts lists t : List ℕ) (C : Compile
         let low = T .few (bitXor s d) u r (omega (arith, C .formed .events)) in
         let e = time-is (bitXor s d) u r m in
         rw (known-is d)
-        (sym (leastKnown-first Γ σ s (bitXor s d) (time (Γ .events) σ (bitXor s d) u) (omega (arith, e, low)) (Γ .signals)
+        (sym (leastKnown-first Γ σ s (bitXor s d) (time (Γ .events) σ (bitXor s d) u) (omega (arith, e, low))
+        (Γ .signals)
         ∙ rw (e, xor-back s d (omega (arith, few)) (omega (arith, few)))))
         in
         rw (C .framed .scenarios-are)
@@ -96,7 +98,8 @@ module _ (Γ : Network) (frame : Frame) (counts lists t : List ℕ) (C : Compile
         let rules : listed counts lists s (rowOf t s) u - 10080 ≡ constraintsBound Γ σ s u =
         C .listing .asks σ (rowOf t s) s u (omega (arith, C .framed .scenarios-are)) row-in
         in
-        rw (rules, across-is m, ← own) (joined (time (Γ .events) σ s u) (constraintsBound Γ σ s u) (hyperarcsBound Γ σ s u)) where
+        rw (rules, across-is m, ← own)
+        (joined (time (Γ .events) σ s u) (constraintsBound Γ σ s u) (hyperarcsBound Γ σ s u)) where
           joined : (a b c : ℕ) → max (max a b) c ≡ max a (max b c)
           joined a b c = omega arith
 
@@ -106,10 +109,12 @@ module _ (Γ : Network) (frame : Frame) (counts lists t : List ℕ) (C : Compile
     raised-beyond m l =
         let rules : listed counts lists s (rowOf t s) u ≡ 0 =
         maxBelow-zero (getD counts s 0)
-        (λ j. asking (target lists (s * 128 + j)) (source lists (s * 128 + j)) (weight lists (s * 128 + j)) (rowOf t s) u)
+        (λ j. asking (target lists (s * 128 + j)) (source lists (s * 128 + j)) (weight lists (s * 128 + j))
+        (rowOf t s) u)
         (λ j h.
         let ne : eqb (target lists (s * 128 + j)) u ≡ false =
-        ne-eqb (target lists (s * 128 + j)) u (λ e. omega (arith, C .listing .lists-are .targets (s * 128 + j), C .framed .events))
+        ne-eqb (target lists (s * 128 + j)) u
+        (λ e. omega (arith, C .listing .lists-are .targets (s * 128 + j), C .framed .events))
         in
         rw ne)
         in
@@ -117,6 +122,10 @@ module _ (Γ : Network) (frame : Frame) (counts lists t : List ℕ) (C : Compile
         (λ d. min (getD t (bitXor s d * 16 + u) 0)
         (firstOf (frame .signals) (λ p. getD (rowOf t s) (getD (frame .observations) p 0) 0 + 1) d))
         (λ d h.
-        omega (arith, T .beyond (bitXor s d) u (xor-lt (Γ .signals) s d in-s (omega (arith, C .framed .scenarios-are))) m l))
+        omega (
+          arith,
+          T .beyond (bitXor s d) u
+              (xor-lt (Γ .signals) s d in-s (omega (arith, C .framed .scenarios-are))) m l,
+        ))
         in
         omega (arith, T .beyond s u in-s m l, rules, arcs)

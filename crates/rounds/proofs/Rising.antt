@@ -1,6 +1,5 @@
--- The round is a rising step on strategies of the network's size, under which no difference grows; and what it asks no raise of keeps the
--- constraints and the hyperarcs.
--- Assumes nothing.
+-- The round is a rising step on strategies of the network's size, under which no difference grows; and what it asks
+-- no raise of keeps the constraints and the hyperarcs. Assumes nothing.
 use mathlib.Core.Path.{_≡_, _∙_}
 use mathlib.Core.Bool.{Bool, true, false, _&&_, cond}
 use mathlib.Core.List.{List}
@@ -35,8 +34,8 @@ cond-min-near : (e : ℕ) (t : Bool) (x y v w : ℕ) → x ≤ y + e → v ≤ w
 cond-min-near e true x y v w h k = h
 cond-min-near e false x y v w h k = omega arith
 
--- times that are at most e later ask for times that are at most e later: each bound is a time and a number, or the least of such, and
--- a time is the greatest of its bounds
+-- times that are at most e later ask for times that are at most e later: each bound is a time and a number, or the
+-- least of such, and a time is the greatest of its bounds
 module _ (Γ : Network) (e : ℕ) (σ τ : List ℕ) (o : Over e τ σ) (s : ℕ) where
   asks-near : (u c : ℕ) → asks Γ σ s u c ≤ asks Γ τ s u c + e
   asks-near u c =
@@ -52,7 +51,8 @@ module _ (Γ : Network) (e : ℕ) (σ τ : List ℕ) (o : Over e τ σ) (s : ℕ
   leastKnown-near : (r m l k : ℕ) → m ≤ l + e → leastKnown Γ σ s r m k ≤ leastKnown Γ τ s r l k + e
   leastKnown-near r m l zero h = h
   leastKnown-near r m l (suc k) h =
-      cond-min-near e (agree s r k) _ _ _ _ (leastKnown-near r m l k h) (omega (arith, o .at (s * Γ .events + observation Γ k)))
+      cond-min-near e (agree s r k) _ _ _ _ (leastKnown-near r m l k h)
+      (omega (arith, o .at (s * Γ .events + observation Γ k)))
 
   raised-near : (u : ℕ) → raised Γ σ s u ≤ raised Γ τ s u + e
   raised-near u =
@@ -70,10 +70,12 @@ module _ (Γ : Network) (σ : List ℕ) where
   unfolding propagate
   length-propagate = length-tabulate (λ i. raised Γ σ (i / Γ .events) (i % Γ .events)) (cells Γ)
 
-  pub time-propagate : (s u : ℕ) → s < scenarios Γ → u < Γ .events → time (Γ .events) (propagate Γ σ) s u ≡ raised Γ σ s u
+  pub time-propagate : (s u : ℕ) → s < scenarios Γ → u < Γ .events
+      → time (Γ .events) (propagate Γ σ) s u ≡ raised Γ σ s u
   unfolding propagate
   time-propagate s u hs hu =
-      getD-tabulate (λ i. raised Γ σ (i / Γ .events) (i % Γ .events)) (cells Γ) (s * Γ .events + u) 0 (cell-lt (Γ .events) (scenarios Γ) s u hs hu)
+      getD-tabulate (λ i. raised Γ σ (i / Γ .events) (i % Γ .events)) (cells Γ) (s * Γ .events + u) 0
+      (cell-lt (Γ .events) (scenarios Γ) s u hs hu)
       ∙ rw (row-of (Γ .events) s u hu, column-of (Γ .events) s u hu)
 
 -- what holds of each scenario and event holds of each cell

@@ -48,7 +48,8 @@ pub record Usable (frame : Frame) (counts lists : List ℕ) : Type 0 where
   pub network : Network
   pub compiled : Compiled network frame counts lists
 
--- what a round makes of event u in scenario s: the other scenarios are told by the set d of propositions on which they differ from s
+-- what a round makes of event u in scenario s: the other scenarios are told by the set d of propositions on which
+-- they differ from s
 unfoldable pub raisedAt : Frame → List ℕ → List ℕ → List ℕ → ℕ → ℕ → ℕ
 raisedAt frame counts lists t s u =
     max (max (getD t (s * 16 + u) 0) (listed counts lists s (rowOf t s) u - L.horizon))

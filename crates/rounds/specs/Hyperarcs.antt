@@ -1,5 +1,5 @@
--- Point 3 over a whole strategy, and the hyperarcs over it (004, Lemma 1 and Definition 16): "that the two agree is to be proved, and
--- the meaning is point 3" (01, Cases and good tables).
+-- Point 3 over a whole strategy, and the hyperarcs over it (004, Lemma 1 and Definition 16): "that the two agree is
+-- to be proved, and the meaning is point 3" (01, Cases and good tables).
 use mathlib.Core.List.{List}
 use Prim.Native.Nat.{ℕ, _≤_, _<_}
 use Rattle.network.specs.Build.{scenarios}
@@ -12,6 +12,8 @@ module _ (Γ : Network) (σ : List ℕ) where
   pub record Dynamic : Type 0 where
     pub alike : (s r u : ℕ) → s < scenarios Γ → r < scenarios Γ → u < Γ .events → Alike Γ σ s r u
 
-  -- "a minute is at least the lesser of the other case's minute and one more than the earliest differing signal in its own case"
+  -- "a minute is at least the lesser of the other case's minute and one more than the earliest differing signal in
+  -- its own case"
   pub record Hyperarcs : Type 0 where
-    pub kept : (s r u : ℕ) → s < scenarios Γ → r < scenarios Γ → u < Γ .events → hyperarc Γ σ s r u ≤ time (Γ .events) σ s u
+    pub kept : (s r u : ℕ) → s < scenarios Γ → r < scenarios Γ → u < Γ .events
+        → hyperarc Γ σ s r u ≤ time (Γ .events) σ s u

@@ -50,15 +50,16 @@ module _ (Γ : Network) (σ : List ℕ) where
 
   -- what the constraints ask
   abbrev pub constraintsBound : ℕ → ℕ → ℕ
-  constraintsBound s u = maxBelow (Γ .rules) (λ c. max (upperBound s u (constraint Γ c)) (lowerBound s u (constraint Γ c)))
+  constraintsBound s u = maxBelow (Γ .rules)
+      (λ c. max (upperBound s u (constraint Γ c)) (lowerBound s u (constraint Γ c)))
 
   -- the lesser of m and the times from which on, in s, one of the k first propositions is known on which s and r differ
   abbrev pub leastKnown : ℕ → ℕ → ℕ → ℕ → ℕ
   leastKnown s r m zero = m
   leastKnown s r m (suc k) = cond (agree s r k) (leastKnown s r m k) (min (leastKnown s r m k) (knownFrom Γ σ s k))
 
-  -- the hyperarc of s, r and u (004, Definition 16): "the lesser of the other case's minute and one more than the earliest
-  -- differing signal in its own case"
+  -- the hyperarc of s, r and u (004, Definition 16): "the lesser of the other case's minute and one more than the
+  -- earliest differing signal in its own case"
   abbrev pub hyperarc : ℕ → ℕ → ℕ → ℕ
   hyperarc s r u = leastKnown s r (at r u) (Γ .signals)
 

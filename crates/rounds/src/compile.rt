@@ -15,7 +15,8 @@ use rows::Frame;
 // The one or two bounds of a constraint.
 fn list_constraint(frame: Frame, c: Constraint, counts: &mut [usize; 16], lists: &mut [u16; 6144])
     requires { ⌜ Listable frame c × Lists (frame .events) (now counts) (now lists) × Short 126 (now counts) ⌝ }
-    ensures { λ _. ⌜ Constrained frame c (now (counts .entry)) (now (lists .entry)) (now (counts .exit)) (now (lists .exit)) ⌝ }
+    ensures { λ _. ⌜ Constrained frame c (now (counts .entry)) (now (lists .entry)) (now (counts .exit))
+        (now (lists .exit)) ⌝ }
 {
     let kind = c.kind;
     match kind {

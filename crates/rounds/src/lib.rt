@@ -1,5 +1,5 @@
-// One round of value iteration (004, Theorem 1): every time from the table before it, in rows of sixteen times. The constraints are first
-// compiled into lists of difference bounds, one for each scenario.
+// One round of value iteration (004, Theorem 1): every time from the table before it, in rows of sixteen times. The
+// constraints are first compiled into lists of difference bounds, one for each scenario.
 ghost use mathlib.Core.Path.{_≡_};
 ghost use Prim.Native.Nat.{_+_, _*_, _<_};
 ghost use lib.ListN.{length, getD};
@@ -12,7 +12,8 @@ use rows::known;
 
 pub mod compile;
 
-// What a round says of the table that it made: a time is over its limit; no time was raised; or times were raised, within limits.
+// What a round says of the table that it made: a time is over its limit; no time was raised; or times were raised,
+// within limits.
 pub enum Outcome {
     Passes,
     Rests,

@@ -37,12 +37,14 @@ module _ (f : ℕ → ℕ) where
     here =
         λ k c.
         elim (eq-or-ne k u) [
-          | inl z ↦ let place : a + k ≡ e = omega arith in rw (place, z) (getD-set-same o e v 0 (omega (arith, h .sized)) ∙ q)
+          | inl z ↦ let place : a + k ≡ e = omega arith in rw (place, z)
+              (getD-set-same o e v 0 (omega (arith, h .sized)) ∙ q)
           | inr z ↦ getD-set-other o e (a + k) v 0 (λ y. z (omega arith)) ∙ h .here k (omega arith)
         ];
     other =
         λ i c.
-        getD-set-other o e i v 0 (λ y. apart a u i c (omega arith)) ∙ h .other i (shorter a u (u + 1) i (omega arith) c);
+        getD-set-other o e i v 0 (λ y. apart a u i c (omega arith))
+        ∙ h .other i (shorter a u (u + 1) i (omega arith) c);
   }
 
   -- what is not written yet is as it was
@@ -89,7 +91,8 @@ module _ (f : ℕ → ℕ) where
             let place : i ≡ length (tabulate m f) + (i - m) = omega arith in
             let index : m + (i - m) ≡ i = omega arith in
             let right : getD (tabulate m f ++ drop m o) (length (tabulate m f) + (i - m)) 0 ≡ getD o i 0 =
-            getD-append-add (tabulate m f) (drop m o) (i - m) 0 ∙ (getD-drop m o (i - m) 0 ∙ ap (λ (k : ℕ). getD o k 0) index)
+            getD-append-add (tabulate m f) (drop m o) (i - m) 0
+            ∙ (getD-drop m o (i - m) 0 ∙ ap (λ (k : ℕ). getD o k 0) index)
             in
             h .other i (inr (omega arith)) ∙ sym (ap (λ (k : ℕ). getD (tabulate m f ++ drop m o) k 0) place ∙ right)
       ])

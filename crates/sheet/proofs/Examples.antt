@@ -1,5 +1,5 @@
--- Sheets and what reading them answers: refusals 1 to 10 with their lines, and sheets that are accepted. One table, which one theorem
--- covers by computation. Assumes nothing.
+-- Sheets and what reading them answers: refusals 1 to 10 with their lines, and sheets that are accepted. One table,
+-- which one theorem covers by computation. Assumes nothing.
 use mathlib.Core.Path.{_≡_, refl}
 use mathlib.Core.Bool.{Bool, true, _&&_}
 use mathlib.Core.List.{List, [], _∷_, _++_}

@@ -1,5 +1,5 @@
--- Laws of the sheet's definitions, in reading order: places and a line's tests; what each line keeps; the lines of a section; the whole
--- sheet; and examples.
+-- Laws of the sheet's definitions, in reading order: places and a line's tests; what each line keeps; the lines of a
+-- section; the whole sheet; and examples.
 pub mod Places
 pub mod RowTests
 pub mod Rows

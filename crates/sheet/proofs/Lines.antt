@@ -1,4 +1,5 @@
--- The lines of a section, one turn at a time: a refusal ends them, and a line that passes leaves one line less. Assumes nothing.
+-- The lines of a section, one turn at a time: a refusal ends them, and a line that passes leaves one line less.
+-- Assumes nothing.
 use mathlib.Core.Path.{_≡_, refl, sym, _∙_, ap}
 use mathlib.Core.List.{List}
 use Prim.Native.Nat.{ℕ, _+_, _-_, _≤_, _<_}

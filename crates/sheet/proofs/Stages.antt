@@ -1,5 +1,5 @@
--- What each line keeps: the stage of the sheet before a line that passes gives the stage behind it. Here: a section's line, and an
--- event. Assumes nothing.
+-- What each line keeps: the stage of the sheet before a line that passes gives the stage behind it. Here: a section's
+-- line, and an event. Assumes nothing.
 use mathlib.Core.Path.{_≡_, _∙_}
 use mathlib.Core.Logic.{inl, inr}
 use mathlib.Core.Bool.{true}

@@ -1,5 +1,5 @@
--- The turns of the loop over the lines of a section. `RowsLeft` is its invariant: the lines that are left give what all of them give,
--- and the sheet is at a stage that each line keeps. Assumes nothing.
+-- The turns of the loop over the lines of a section. `RowsLeft` is its invariant: the lines that are left give what
+-- all of them give, and the sheet is at a stage that each line keeps. Assumes nothing.
 use mathlib.Core.Path.{_≡_, sym, _∙_}
 use mathlib.Core.Option.{Option, none, some}
 use mathlib.Core.List.{List}

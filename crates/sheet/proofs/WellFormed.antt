@@ -1,5 +1,5 @@
--- A sheet that was read gives a well-formed network: each line keeps the stage (Stages), the lines of a section are read one by one
--- (Rows), and the sections one behind the other. Assumes nothing.
+-- A sheet that was read gives a well-formed network: each line keeps the stage (Stages), the lines of a section are
+-- read one by one (Rows), and the sections one behind the other. Assumes nothing.
 use mathlib.Core.Path.{_≡_, refl, sym, _∙_}
 use mathlib.Core.Bool.{Bool, true, false, _&&_, not}
 use mathlib.Core.Option.{none}

@@ -33,7 +33,8 @@ andThen (Stop r) next = Stop r
 andThen (Go Γ at k) next = next Γ at k
 
 module _ (sheet : List ℕ) where
-  -- the line at this place, line k of the sheet: it has to end with a line feed and its fields have to pass; then what follows
+  -- the line at this place, line k of the sheet: it has to end with a line feed and its fields have to pass; then
+  -- what follows
   abbrev pub readLine : ℕ → ℕ → (List (List ℕ) → Option Cause) → (List (List ℕ) → Progress) → Progress
   readLine at k refuses next =
       elim (endsAt sheet at) [

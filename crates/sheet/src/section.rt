@@ -1,5 +1,5 @@
-// The sections of a sheet: a section's line, and then so many lines. What remains of the sheet goes to the next section's reader as
-// the part that begins there.
+// The sections of a sheet: a section's line, and then so many lines. What remains of the sheet goes to the next
+// section's reader as the part that begins there.
 ghost use mathlib.Core.Path.{_≡_};
 ghost use Prim.Native.Nat.{_≤_};
 ghost use lib.ListN.{length, drop};
@@ -22,8 +22,8 @@ use network::Network;
 use refusal::Cause;
 use refusal::Refusal;
 
-// The m lines of a section, from line k on, which begins at this place. What a line holds is stored in place: a function of the
-// network by value would copy it at each line.
+// The m lines of a section, from line k on, which begins at this place. What a line holds is stored in place: a
+// function of the network by value would copy it at each line.
 fn read_rows(
     section: Section,
     sheet: &[u8],

@@ -91,7 +91,7 @@ pub fn run(
         v = guess::follow(v, turns, &mut since, a, &b, cells);
         moves::copy(&b, a, cells);
         at = keep(w.keep, a, &mut base, at, rounds, cells);
-        let made = leap::pass::pass_over_if(
+        let made = leap::pass::pass_over(
             w.leaps,
             &mut base,
             a,
@@ -105,7 +105,7 @@ pub fn run(
         at += made;
         w = guess::after_tries(w, turns, made);
         let p = v.period;
-        let last = leap::pace::finish_if(a, &since, p, budget - rounds, frame, counts, lists);
+        let last = leap::pace::finish(a, &since, p, budget - rounds, frame, counts, lists);
         if 0 < last {
             rounds += last;
             return Ended::Passes {

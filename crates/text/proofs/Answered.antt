@@ -1,5 +1,5 @@
--- What an answer of `read_number` says of the field: `of-ill`, `of-plus` and `of-minus` turn it into facts, and the cap hides nothing up
--- to `most`. Assumes nothing.
+-- What an answer of `read_number` says of the field: `of-ill`, `of-plus` and `of-minus` turn it into facts, and the
+-- cap hides nothing up to `most`. Assumes nothing.
 use mathlib.Core.Path.{_≡_, refl, sym, _∙_}
 use mathlib.Core.Logic.{inl, inr}
 use mathlib.Core.Bool.{Bool, true, false, _&&_, not, cond}

@@ -1,5 +1,5 @@
--- Laws of the pass that cuts a line, and of what it finds. At i, with k commas behind it, the pass has the ends of the fields below
--- k, and the ends from k on are those of the fields of `drop i l`, i further on. Assumes nothing.
+-- Laws of the pass that cuts a line, and of what it finds. At i, with k commas behind it, the pass has the ends of
+-- the fields below k, and the ends from k on are those of the fields of `drop i l`, i further on. Assumes nothing.
 use mathlib.Core.Path.{_≡_, refl, sym, _∙_, ap}
 use mathlib.Core.Logic.{inl, inr}
 use mathlib.Core.List.{List}

@@ -1,5 +1,5 @@
--- Laws of numbers as they are written: the last digit stands behind those of a tenth, and there are one to five of them below 65,536.
--- Assumes nothing.
+-- Laws of numbers as they are written: the last digit stands behind those of a tenth, and there are one to five of
+-- them below 65,536. Assumes nothing.
 use mathlib.Core.Path.{_≡_}
 use mathlib.Core.Logic.{inl, inr}
 use mathlib.Core.List.{List, [], _∷_, _++_}

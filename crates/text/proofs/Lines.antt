@@ -1,4 +1,5 @@
--- Laws of lines: what stands before a separator, and what a scan that has come to i knows of `drop i s`. Assumes nothing.
+-- Laws of lines: what stands before a separator, and what a scan that has come to i knows of `drop i s`. Assumes
+-- nothing.
 use mathlib.Core.Path.{_≡_, refl, sym, _∙_, ap}
 use mathlib.Core.Logic.{inl, inr}
 use mathlib.Core.Bool.{true, false}

@@ -1,5 +1,5 @@
--- Laws of numbers as they are read: digit by digit (`digits-hit`, `digits-miss`, `digits-end`), and by the length and the first bytes
--- (`natural-..`, `number-..`). Assumes nothing.
+-- Laws of numbers as they are read: digit by digit (`digits-hit`, `digits-miss`, `digits-end`), and by the length and
+-- the first bytes (`natural-..`, `number-..`). Assumes nothing.
 use mathlib.Core.Path.{_≡_, refl, _∙_, ap}
 use mathlib.Core.Logic.{inl, inr}
 use mathlib.Core.Bool.{true, false, and-true, and-false, or-true}

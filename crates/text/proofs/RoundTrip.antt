@@ -1,5 +1,5 @@
--- Both round trips, for all numbers: what is written is well formed and reads as it was (`isNatural-decimal`, `valueFrom-decimal`), and
--- what is well formed is written as it was (`decimal-valueFrom`). Assumes nothing.
+-- Both round trips, for all numbers: what is written is well formed and reads as it was (`isNatural-decimal`,
+-- `valueFrom-decimal`), and what is well formed is written as it was (`decimal-valueFrom`). Assumes nothing.
 use mathlib.Core.Path.{_≡_, refl, sym, _∙_, ap}
 use mathlib.Core.Logic.{inl, inr}
 use mathlib.Core.Bool.{Bool, true, false, _||_, not}

@@ -1,5 +1,5 @@
--- Laws of digits in an array: there is room for one more behind those of a tenth, and with it they are the digits of the number.
--- Assumes nothing.
+-- Laws of digits in an array: there is room for one more behind those of a tenth, and with it they are the digits of
+-- the number. Assumes nothing.
 use mathlib.Core.Path.{_≡_, sym, _∙_, ap}
 use Prim.Native.Nat.{ℕ, _+_, _/_, _%_, _≤_, _<_}
 use native.Mathlib.Numerals.{add-one}

@@ -1,4 +1,5 @@
--- Where the fields of a line stand: "a field is handed back as the part of the sheet between its commas" (01, The sheet).
+-- Where the fields of a line stand: "a field is handed back as the part of the sheet between its commas" (01, The
+-- sheet).
 use mathlib.Core.Path.{_≡_}
 use mathlib.Core.List.{List, [], _∷_}
 use Prim.Native.Nat.{ℕ, zero, suc, _+_, _-_, _<_}

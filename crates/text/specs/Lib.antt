@@ -1,5 +1,5 @@
--- Read in this order: lines and fields, where fields stand in their line, numbers as they are read, what reading one answers,
--- numbers as they are written, digits in an array.
+-- Read in this order: lines and fields, where fields stand in their line, numbers as they are read, what reading one
+-- answers, numbers as they are written, digits in an array.
 pub mod Lines
 pub mod Cuts
 pub mod Number

@@ -1,4 +1,5 @@
--- Lines and their fields: "every line ends with a line feed (byte 10). Fields are separated by one comma" (01, The sheet).
+-- Lines and their fields: "every line ends with a line feed (byte 10). Fields are separated by one comma" (01, The
+-- sheet).
 use mathlib.Core.Bool.{Bool, true, false}
 use mathlib.Core.List.{List, [], _∷_}
 use Prim.Native.Nat.{ℕ, _+_}

@@ -1,4 +1,5 @@
--- Numbers as they are read: "`0`, or digits without a leading zero, with one `-` before it if it is negative" (01, The sheet).
+-- Numbers as they are read: "`0`, or digits without a leading zero, with one `-` before it if it is negative" (01,
+-- The sheet).
 use mathlib.Core.Bool.{Bool, false, _&&_, _||_, not, cond}
 use mathlib.Core.List.{List, [], _∷_}
 use Prim.Native.Nat.{ℕ, _+_, _-_, _*_}

@@ -1,5 +1,6 @@
--- What reading a number answers: ill-formed, or its sign and its size. A size over `most` is answered as one more than `most`, so
--- that "a well-formed number is beyond its range, however many digits it has" (01, Refused sheets) needs no wide arithmetic.
+-- What reading a number answers: ill-formed, or its sign and its size. A size over `most` is answered as one more
+-- than `most`, so that "a well-formed number is beyond its range, however many digits it has" (01, Refused sheets)
+-- needs no wide arithmetic.
 use mathlib.Core.Bool.{Bool, cond}
 use mathlib.Core.List.{List}
 use Prim.Native.Nat.{ℕ, _+_, min}

@@ -1,5 +1,5 @@
--- The rows that remain, found one after the other: so many stand first in the array, and what remains are they and the tightest rows
--- of the keys from the next one on. Assumes nothing.
+-- The rows that remain, found one after the other: so many stand first in the array, and what remains are they and
+-- the tightest rows of the keys from the next one on. Assumes nothing.
 use mathlib.Core.Path.{_≡_, refl, sym, _∙_, ap}
 use mathlib.Core.Bool.{true, false}
 use mathlib.Core.List.{List, [], _∷_, _++_, append-nil}

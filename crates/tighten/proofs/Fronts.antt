@@ -1,5 +1,5 @@
--- Laws of lists in arrays: what is stored behind a list makes it one longer, and numbers put behind a list, and others behind these,
--- were all put behind it. Assumes nothing.
+-- Laws of lists in arrays: what is stored behind a list makes it one longer, and numbers put behind a list, and
+-- others behind these, were all put behind it. Assumes nothing.
 use mathlib.Core.Path.{_≡_, refl, sym, _∙_, ap}
 use mathlib.Core.List.{List, [], _∷_, _++_, append-assoc}
 use Prim.Native.Nat.{ℕ, _+_, _≤_, _<_}

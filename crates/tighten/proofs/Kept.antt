@@ -1,5 +1,5 @@
--- The rules hold in a table exactly where their rows do: a rule admits two times exactly when each of its rows does, and covers the
--- scenarios that they cover. Assumes nothing.
+-- The rules hold in a table exactly where their rows do: a rule admits two times exactly when each of its rows does,
+-- and covers the scenarios that they cover. Assumes nothing.
 use mathlib.Core.Path.{_≡_, sym, _∙_}
 use mathlib.Core.Logic.{inl, inr}
 use mathlib.Core.Bool.{true}

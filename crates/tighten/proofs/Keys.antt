@@ -1,5 +1,5 @@
--- A row's key as a list and as one number: equal together, and in order together, since the number's digits in base 16 are the key's
--- parts. Assumes nothing.
+-- A row's key as a list and as one number: equal together, and in order together, since the number's digits in base
+-- 16 are the key's parts. Assumes nothing.
 use mathlib.Core.Path.{_≡_, ap}
 use mathlib.Core.Logic.{_⊎_, inl, inr}
 use mathlib.Core.List.{List, [], _∷_}

@@ -1,5 +1,5 @@
--- The least of so many numbers that is at least a floor: as a search finds it, number by number; none of them is less, and it is one
--- of them unless it is `top`. Assumes nothing.
+-- The least of so many numbers that is at least a floor: as a search finds it, number by number; none of them is
+-- less, and it is one of them unless it is `top`. Assumes nothing.
 use mathlib.Core.Path.{_≡_, refl}
 use mathlib.Core.Logic.{inl, inr}
 use Prim.Native.Nat.{ℕ, zero, suc, _+_, _≤_, _<_, min}

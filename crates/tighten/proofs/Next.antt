@@ -1,5 +1,6 @@
--- The next row: among regular rows whose numbers are listed, the least number from a key on is that of the tightest row of the first
--- key from there on that a row has; where there is no such number, no row has a key from there on. Assumes nothing.
+-- The next row: among regular rows whose numbers are listed, the least number from a key on is that of the tightest
+-- row of the first key from there on that a row has; where there is no such number, no row has a key from there on.
+-- Assumes nothing.
 use mathlib.Core.Path.{_≡_, refl, sym, _∙_, ap}
 use mathlib.Core.Option.{some}
 use mathlib.Core.List.{List}

@@ -1,6 +1,6 @@
--- Rows that are upper bounds and have a number: the number tells the row, its order among rows of one key is that of the limits, and
--- the rows of every network that was read are such rows. The parts of a key are digits in base 16, and a raised limit is a digit in
--- base 32,768. Assumes nothing.
+-- Rows that are upper bounds and have a number: the number tells the row, its order among rows of one key is that of
+-- the limits, and the rows of every network that was read are such rows. The parts of a key are digits in base 16,
+-- and a raised limit is a digit in base 32,768. Assumes nothing.
 use mathlib.Core.Path.{_≡_, refl, sym, _∙_, ap}
 use Prim.Native.Nat.{_/_, _%_, _≤_, _<_}
 use native.Mathlib.Omega.{arith}

@@ -1,6 +1,6 @@
--- The rows that remain are those that are computed, and no others: of each key that there is, in the order of the keys, the tightest
--- row. What remains of them is they themselves. The count of keys stands in these laws as n, so that nothing counts so far.
--- Assumes nothing.
+-- The rows that remain are those that are computed, and no others: of each key that there is, in the order of the
+-- keys, the tightest row. What remains of them is they themselves. The count of keys stands in these laws as n, so
+-- that nothing counts so far. Assumes nothing.
 use mathlib.Core.Path.{_≡_, refl, sym}
 use mathlib.Core.List.{List}
 use Prim.Native.Nat.{ℕ, _<_}

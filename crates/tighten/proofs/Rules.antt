@@ -1,5 +1,5 @@
--- The rows of a network's rules, rule by rule: how many they are, and that what holds of the rows of each rule holds of each row, and
--- the other way round; and that rules which are upper bounds are their own rows. Assumes nothing.
+-- The rows of a network's rules, rule by rule: how many they are, and that what holds of the rows of each rule holds
+-- of each row, and the other way round; and that rules which are upper bounds are their own rows. Assumes nothing.
 use mathlib.Core.Path.{_≡_, refl, sym, _∙_, ap}
 use mathlib.Core.Logic.{inl, inr}
 use mathlib.Core.List.{List, [], _∷_, _++_}

@@ -1,5 +1,5 @@
--- What remains of regular rows, whatever list it is: no two have one key, each is the tightest of its key, and the tightest of each key
--- is among them. What remains of it is it itself. Assumes nothing.
+-- What remains of regular rows, whatever list it is: no two have one key, each is the tightest of its key, and the
+-- tightest of each key is among them. What remains of it is it itself. Assumes nothing.
 use mathlib.Core.Path.{_≡_, refl, sym, _∙_, ap}
 use mathlib.Core.Logic.{inl, inr}
 use mathlib.Core.List.{List}

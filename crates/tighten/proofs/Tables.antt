@@ -1,6 +1,6 @@
--- Which tables keep the rows: of networks that agree in all but names, letters and rules, a table that solves the first solves the
--- second where each row of the second has one as tight among the rows of the first. So they have the same solutions where the same
--- rows remain. Assumes nothing.
+-- Which tables keep the rows: of networks that agree in all but names, letters and rules, a table that solves the
+-- first solves the second where each row of the second has one as tight among the rows of the first. So they have the
+-- same solutions where the same rows remain. Assumes nothing.
 use mathlib.Core.Path.{_≡_, refl, sym, _∙_, ap}
 use mathlib.Core.Logic.{_↔_}
 use mathlib.Core.Bool.{true}

@@ -1,6 +1,6 @@
--- The tightest row of a key: it stands among the rows, has the key, and no row with the key has a lesser limit; there is none exactly
--- where no row has the key; and where the rows are regular, it is the only such row. Row by row, the lesser of two limits is kept.
--- Assumes nothing.
+-- The tightest row of a key: it stands among the rows, has the key, and no row with the key has a lesser limit; there
+-- is none exactly where no row has the key; and where the rows are regular, it is the only such row. Row by row, the
+-- lesser of two limits is kept. Assumes nothing.
 use mathlib.Core.Path.{_≡_, sym, _∙_, ap}
 use mathlib.Core.Logic.{inl, inr}
 use mathlib.Core.Option.{Option, none, some}

@@ -1,5 +1,5 @@
--- The numbers of a rule, kind by kind, as the code makes them: its limit comes out of an i32 as it went in, and negated it is a limit
--- again. Assumes nothing.
+-- The numbers of a rule, kind by kind, as the code makes them: its limit comes out of an i32 as it went in, and
+-- negated it is a limit again. Assumes nothing.
 use mathlib.Core.Path.{_≡_, _∙_, ap}
 use mathlib.Core.List.{List, [], _∷_, map}
 use Prim.Native.Nat.{ℕ}

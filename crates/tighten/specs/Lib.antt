@@ -1,4 +1,5 @@
--- Read in this order: a rule as upper bounds; which of them remain; how these are computed; a row as a number; lists in arrays.
+-- Read in this order: a rule as upper bounds; which of them remain; how these are computed; a row as a number; lists
+-- in arrays.
 pub mod Upper
 pub mod Remaining
 pub mod Tightest

@@ -1,5 +1,5 @@
--- A row as one number, so that a search for the next key and its least limit compares numbers only: its key, and behind it its limit plus
--- 10,080, which is not negative.
+-- A row as one number, so that a search for the next key and its least limit compares numbers only: its key, and
+-- behind it its limit plus 10,080, which is not negative.
 use mathlib.Core.Bool.{cond}
 use Prim.Native.Nat.{ℕ, zero, suc, _+_, _*_, _/_, _%_, _<_, min}
 use lib.IntN.{ℤ}

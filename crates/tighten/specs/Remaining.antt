@@ -1,6 +1,6 @@
--- Which rows remain (02, point 2): "Of rows with equal ends and label the least limit stays. Rows are ordered by `from`, then `to`, in
--- event order, then by the sum of the true letters' weights, then of the false ones'." In the field's words, of parallel labelled
--- edges the tightest.
+-- Which rows remain (02, point 2): "Of rows with equal ends and label the least limit stays. Rows are ordered by
+-- `from`, then `to`, in event order, then by the sum of the true letters' weights, then of the false ones'." In the
+-- field's words, of parallel labelled edges the tightest.
 use mathlib.Core.Path.{_≡_}
 use mathlib.Core.Logic.{_⊎_}
 use mathlib.Core.List.{List, [], _∷_}

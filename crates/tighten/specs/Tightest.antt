@@ -1,5 +1,5 @@
--- The rows that remain, computed: key by key in their order, the tightest row of each key that there is. `remaining-is` and
--- `remaining-unique` say that these are the rows of `Remaining`, and the only ones.
+-- The rows that remain, computed: key by key in their order, the tightest row of each key that there is.
+-- `remaining-is` and `remaining-unique` say that these are the rows of `Remaining`, and the only ones.
 use mathlib.Core.Bool.{true, false, cond}
 use mathlib.Core.Option.{Option, none, some}
 use mathlib.Core.List.{List, [], _∷_}

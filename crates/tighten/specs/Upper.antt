@@ -1,4 +1,5 @@
--- Every rule as upper bounds, which a sheet writes as `max` rows (02, point 2): the edges of the network's distance graph.
+-- Every rule as upper bounds, which a sheet writes as `max` rows (02, point 2): the edges of the network's distance
+-- graph.
 use mathlib.Core.List.{List, [], _∷_, _++_}
 use Prim.Native.Nat.{ℕ, zero, suc}
 use lib.IntN.{ℤ, negℤ}
@@ -13,7 +14,8 @@ use Rattle.network.specs.declared.Network.{Network}
 abbrev pub upper : ℕ → ℕ → ℤ → Label → Constraint
 upper from to w ℓ = record { kind = Max; from = from; to = to; bound = w; label = ℓ }
 
--- what a rule says of `to` after `from`, and what it says of `from` after `to`: it "swaps its ends and negates its limit"
+-- what a rule says of `to` after `from`, and what it says of `from` after `to`: it "swaps its ends and negates its
+-- limit"
 abbrev pub forward : Constraint → Constraint
 forward c = upper (c .from) (c .to) (c .bound) (c .label)
 

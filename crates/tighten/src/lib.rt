@@ -1,6 +1,6 @@
-// The rows that remain of a network's rules: each rule as upper bounds, and of those with equal ends and label the tightest, in the
-// order of their keys. A row is searched as one number, its key and behind it its limit: the next row is the least number behind the
-// last key.
+// The rows that remain of a network's rules: each rule as upper bounds, and of those with equal ends and label the
+// tightest, in the order of their keys. A row is searched as one number, its key and behind it its limit: the next
+// row is the least number behind the last key.
 ghost use mathlib.Core.Path.{_≡_};
 ghost use mathlib.Core.List.{[], _∷_, map};
 ghost use Prim.Native.Nat.{_+_, _≤_, _<_};
@@ -38,7 +38,8 @@ fn number_of(from: usize, to: usize, bound: i32, label: Label) -> u32
     key * 32768 + network::raised(bound) as u32
 }
 
-// The row of a number: each part of its key is a digit in base 16 in front of the 32,768 numbers that a key has for its limits.
+// The row of a number: each part of its key is a digit in base 16 in front of the 32,768 numbers that a key has for
+// its limits.
 fn row_of(number: u32) -> Constraint
     ensures { λ r. ⌜ r ≡ N.rowOf number ⌝ }
 {

@@ -1,6 +1,6 @@
-// Asks the same questions of every solved table: what is due at some minutes, past the horizon too, for some lists of signals heard,
-// among them letters that stand twice or are undefined, and bytes that are no letters. The lists do not depend on what the case has
-// heard, so most are refused; `play` has those that are not.
+// Asks the same questions of every solved table: what is due at some minutes, past the horizon too, for some lists of
+// signals heard, among them letters that stand twice or are undefined, and bytes that are no letters. The lists do
+// not depend on what the case has heard, so most are refused; `play` has those that are not.
 use crate::play;
 use crate::say;
 use dispatch::Heard;

@@ -1,5 +1,5 @@
-// The house form of a sheet: printed, or said to be the same bytes as the last form before it; then whether the form is its own form, and
-// what is answered where the lent buffer is one byte too short for it.
+// The house form of a sheet: printed, or said to be the same bytes as the last form before it; then whether the form
+// is its own form, and what is answered where the lent buffer is one byte too short for it.
 use crate::say;
 use opening::Written;
 

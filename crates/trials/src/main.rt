@@ -1,5 +1,6 @@
-// Runs the trial sheets of data/ and prints what the public calls make of each, then compares the solver with the exhaustive search on
-// the small sheets. What it is to print was written by another program, which shares nothing with this one.
+// Runs the trial sheets of data/ and prints what the public calls make of each, then compares the solver with the
+// exhaustive search on the small sheets. What it is to print was written by another program, which shares nothing
+// with this one.
 mod ask;
 mod house;
 mod play;
@@ -134,8 +135,8 @@ fn trial(sheet: &[u8], bytes: &[u8]) {
     }
 }
 
-// One byte more than a sheet may have, so that a longer one is seen to be longer. The last form has `count` bytes; answers how many it
-// has now.
+// One byte more than a sheet may have, so that a longer one is seen to be longer. The last form has `count` bytes;
+// answers how many it has now.
 fn from_files(csv: &[u8], tab: &[u8], last: &mut [u8], count: usize) -> usize {
     let mut sheet = [0u8; 4097];
     let mut bytes = [0u8; 1024];

@@ -1,5 +1,6 @@
-// Plays a table: asks at each minute of each case what is due, with what that case has heard so far, and notes when each event came.
-// What has been heard is kept here: a signal's event that is due tells its truth from the next minute on.
+// Plays a table: asks at each minute of each case what is due, with what that case has heard so far, and notes when
+// each event came. What has been heard is kept here: a signal's event that is due tells its truth from the next
+// minute on.
 use crate::say;
 use dispatch::Heard;
 use network::Network;

@@ -1,5 +1,5 @@
--- Each turn lists the bound for one scenario where it satisfies the label. The invariant: it is listed for the first s (`Added`).
--- Assumes nothing.
+-- Each turn lists the bound for one scenario where it satisfies the label. The invariant: it is listed for the first
+-- s (`Added`). Assumes nothing.
 use mathlib.Core.Logic.{⊎-elim}
 use mathlib.Core.Path.{_≡_, sym, _∙_}
 use Prim.Native.Nat.{_-_, _≤_, _<_}
@@ -32,7 +32,8 @@ loop-holds : tie.Need-loop-holds Inv-loop μ-loop
 loop-holds c = (omega arith, added-none _ _ _ _ _ _)
 
 satisfies-requires : tie.Need-satisfies-requires Inv-loop μ-loop
-satisfies-requires c κs = (scenario-in c, c .before .before .pre .0 .label .positive, c .before .before .pre .0 .label .negative)
+satisfies-requires c κs =
+    (scenario-in c, c .before .before .pre .0 .label .positive, c .before .before .pre .0 .label .negative)
 
 append-requires : tie.Need-append-requires Inv-loop μ-loop
 append-requires c κs =
@@ -64,7 +65,8 @@ loop-again c =
       ⊎-elim
           (λ w.
           rw (w .4, w .5, w .3 .ensures .0, w .3 .ensures .1)
-          (added-one _ _ _ _ _ _ i (z .args .frame .events) (lists-are l) (z .pre .2) (scenario-in l) (sym e ∙ w .0 .taken)))
+          (added-one _ _ _ _ _ _ i (z .args .frame .events) (lists-are l) (z .pre .2) (scenario-in l)
+          (sym e ∙ w .0 .taken)))
           (λ w. rw (w .1, w .2) (added-skip _ _ _ _ _ _ i (sym e ∙ w .0 .left)))
           (c .if1 .came),
     )

@@ -13,7 +13,8 @@ list-bound-requires c κs =
     let lower-weight = c .before .before .lower-weight in
     let z = c .before .before .before .before .before in
     let k = z .args .c in (
-      rw (lower-read (k .bound) (z .pre .0 .bound) (lower-weight .ensures)) (lower-bound (z .args .frame) k (z .pre .0)),
+      rw (lower-read (k .bound) (z .pre .0 .bound) (lower-weight .ensures))
+          (lower-bound (z .args .frame) k (z .pre .0)),
       z .pre .1,
       z .pre .2,
     )

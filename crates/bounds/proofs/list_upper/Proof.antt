@@ -13,7 +13,8 @@ list-bound-requires c κs =
     let upper-weight = c .before .before .upper-weight in
     let z = c .before .before .before .before .before in
     let k = z .args .c in (
-      rw (upper-read (k .bound) (z .pre .0 .bound) (upper-weight .ensures)) (upper-bound (z .args .frame) k (z .pre .0)),
+      rw (upper-read (k .bound) (z .pre .0 .bound) (upper-weight .ensures))
+          (upper-bound (z .args .frame) k (z .pre .0)),
       z .pre .1,
       z .pre .2,
     )

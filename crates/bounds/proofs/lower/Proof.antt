@@ -46,7 +46,8 @@ loop-again : tie.Need-loop-again Inv-loop μ-loop
 loop-again c =
     let loop = c .before .before .loop in (
       omega arith,
-      wrote-next _ _ _ (loop .inv .1) (omega arith) (omega arith) (ap (λ (x : ℕ). x - 10080) (unwritten _ (loop .inv .1))),
+      wrote-next _ _ _ (loop .inv .1) (omega arith) (omega arith)
+          (ap (λ (x : ℕ). x - 10080) (unwritten _ (loop .inv .1))),
     )
 
 returns : tie.Need-returns Inv-loop μ-loop

@@ -1,4 +1,5 @@
--- `canonical::name_of` meets its contract: the part from `start` to `start + length` is the name, of at most 8 bytes. Assumes nothing.
+-- `canonical::name_of` meets its contract: the part from `start` to `start + length` is the name, of at most 8 bytes.
+-- Assumes nothing.
 use mathlib.Core.Path.{refl}
 use native.Mathlib.Omega.{arith}
 use denote.Ref.{now}

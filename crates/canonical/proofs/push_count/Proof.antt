@@ -1,5 +1,5 @@
--- `canonical::push_count` meets its contract: the word, a comma, the number and the line feed, each behind the one before. Assumes
--- nothing.
+-- `canonical::push_count` meets its contract: the word, a comma, the number and the line feed, each behind the one
+-- before. Assumes nothing.
 use native.Mathlib.Omega.{arith}
 use borrow.Author.Needs.{needs}
 use Rattle.page.proofs.Append.{append-then, append-both}

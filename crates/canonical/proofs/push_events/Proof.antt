@@ -1,5 +1,6 @@
--- `canonical::push_events` meets its contract. The invariant: behind the section's first line, the lines of the events below u are
--- written. A name is of at most 8 bytes, so that there is room for all. The measure is the count of events left. Assumes nothing.
+-- `canonical::push_events` meets its contract. The invariant: behind the section's first line, the lines of the
+-- events below u are written. A name is of at most 8 bytes, so that there is room for all. The measure is the count
+-- of events left. Assumes nothing.
 use mathlib.Core.Path.{_≡_, refl, ap}
 use mathlib.Core.List.{List, [], _∷_, _++_}
 use Prim.Native.Nat.{ℕ, _-_}

@@ -1,6 +1,6 @@
--- `canonical::push_label` meets its contract. The invariant: what the label asks of the signals below p is written, and the two
--- sums are the label's halved p times. Where the place has not moved, nothing was asked. The measure is the count of signals left.
--- Assumes nothing.
+-- `canonical::push_label` meets its contract. The invariant: what the label asks of the signals below p is written,
+-- and the two sums are the label's halved p times. Where the place has not moved, nothing was asked. The measure is
+-- the count of signals left. Assumes nothing.
 use mathlib.Core.Path.{_≡_, refl}
 use Prim.Native.Nat.{_-_, _/_, _^_}
 use native.Mathlib.Omega.{arith}

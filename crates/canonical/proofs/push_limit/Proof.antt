@@ -1,5 +1,5 @@
--- `canonical::push_limit` meets its contract: by the limit's sign (`Limit`), a comma, the `-` where it is below zero, and the digits.
--- Assumes nothing.
+-- `canonical::push_limit` meets its contract: by the limit's sign (`Limit`), a comma, the `-` where it is below zero,
+-- and the digits. Assumes nothing.
 use mathlib.Core.Path.{ap}
 use mathlib.Core.List.{List, _∷_}
 use Prim.Native.Nat.{ℕ}

@@ -1,4 +1,5 @@
--- `canonical::push_literal` meets its contract: each of the three answers is the text by the tests that led to it. Assumes nothing.
+-- `canonical::push_literal` meets its contract: each of the three answers is the text by the tests that led to it.
+-- Assumes nothing.
 use mathlib.Core.Path.{refl}
 use native.Mathlib.Omega.{arith}
 use denote.Ref.{now}

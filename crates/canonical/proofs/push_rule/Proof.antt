@@ -1,5 +1,5 @@
--- `canonical::push_rule` meets its contract: the word and the two names, the limit, the label and the line feed, each behind what
--- is written so far. Assumes nothing.
+-- `canonical::push_rule` meets its contract: the word and the two names, the limit, the label and the line feed, each
+-- behind what is written so far. Assumes nothing.
 use mathlib.Core.Path.{ap₂}
 use mathlib.Core.List.{List, _∷_, _++_}
 use Prim.Native.Nat.{ℕ}

@@ -1,6 +1,6 @@
--- `canonical::push_rules` meets its contract. The invariant: behind the section's first line, the lines of the rows below i are
--- written. The array holds the rows that remain, no more than 64, and each is proper (`Held`). The measure is the count of rows
--- left. Assumes nothing.
+-- `canonical::push_rules` meets its contract. The invariant: behind the section's first line, the lines of the rows
+-- below i are written. The array holds the rows that remain, no more than 64, and each is proper (`Held`). The
+-- measure is the count of rows left. Assumes nothing.
 use mathlib.Core.Path.{_≡_, refl}
 use Prim.Native.Nat.{_-_, _≤_}
 use native.Mathlib.Omega.{arith}

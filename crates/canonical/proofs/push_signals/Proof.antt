@@ -1,6 +1,6 @@
--- `canonical::push_signals` meets its contract. The invariant: behind the section's first line, the lines of the signals below p
--- are written. The event that gives a signal has a name of at most 8 bytes, so that there is room for all. The measure is the count
--- of signals left. Assumes nothing.
+-- `canonical::push_signals` meets its contract. The invariant: behind the section's first line, the lines of the
+-- signals below p are written. The event that gives a signal has a name of at most 8 bytes, so that there is room for
+-- all. The measure is the count of signals left. Assumes nothing.
 use mathlib.Core.Path.{_≡_, refl, ap}
 use mathlib.Core.List.{List, [], _∷_, _++_}
 use Prim.Native.Nat.{ℕ, _-_}

@@ -1,5 +1,5 @@
--- `canonical::write` meets its contract: the page begins with the form, part behind part, and that part of it is handed out.
--- Assumes nothing.
+-- `canonical::write` meets its contract: the page begins with the form, part behind part, and that part of it is
+-- handed out. Assumes nothing.
 use mathlib.Core.Path.{sym}
 use native.Mathlib.Omega.{arith}
 use lib.Seq.{length-take-le}

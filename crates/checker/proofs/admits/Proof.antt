@@ -1,5 +1,5 @@
--- `admits` meets its contract: the difference of two times of 16 bits fits 32 bits with its sign, and each comparison of it with the
--- bound is the definition's. Assumes nothing.
+-- `admits` meets its contract: the difference of two times of 16 bits fits 32 bits with its sign, and each comparison
+-- of it with the bound is the definition's. Assumes nothing.
 use native.Mathlib.Omega.{arith}
 use borrow.Author.Needs.{needs}
 use Rattle.checker.proofs.Differences.{held-fits, max-kept, min-kept, fix-kept}

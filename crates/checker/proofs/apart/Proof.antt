@@ -1,5 +1,5 @@
--- `apart` meets its contract. The loop's invariant: `first` is the definition's time for the propositions passed; one more that differs
--- may make it sooner. The measure is what is left of the propositions. Assumes nothing.
+-- `apart` meets its contract. The loop's invariant: `first` is the definition's time for the propositions passed; one
+-- more that differs may make it sooner. The measure is what is left of the propositions. Assumes nothing.
 use mathlib.Core.Path.{_≡_, refl, sym, _∙_, ap₂}
 use mathlib.Core.Logic.{⊎-elim}
 use Prim.Native.Nat.{_-_, _≤_, min}

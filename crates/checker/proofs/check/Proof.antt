@@ -1,5 +1,5 @@
--- `check` meets its contract: the three searches are tried in the definition's order, and the first that finds a breach decides.
--- Assumes nothing.
+-- `check` meets its contract: the three searches are tried in the definition's order, and the first that finds a
+-- breach decides. Assumes nothing.
 use mathlib.Core.Path.{_≡_, sym, _∙_}
 use mathlib.Core.Option.{none}
 use borrow.Author.Needs.{needs}

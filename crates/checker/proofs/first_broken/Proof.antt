@@ -1,6 +1,6 @@
--- `first_broken` meets its contract: a constraint's test is the definition's, so the loops are its searches, by scenario and then place.
--- The invariant of each loop: its search has come to its index, and nothing was found. The measures are what is left of each.
--- Assumes nothing.
+-- `first_broken` meets its contract: a constraint's test is the definition's, so the loops are its searches, by
+-- scenario and then place. The invariant of each loop: its search has come to its index, and nothing was found. The
+-- measures are what is left of each. Assumes nothing.
 use mathlib.Core.Path.{_≡_, refl, sym, _∙_, ap}
 use mathlib.Core.List.{List}
 use mathlib.Core.Option.{Option}

@@ -1,6 +1,6 @@
--- `first_late` meets its contract: a cell's test is the definition's, so the loops are its searches, by scenario and then event.
--- The invariant of each loop: its search has come to its index, and nothing was found. The measures are what is left of each.
--- Assumes nothing.
+-- `first_late` meets its contract: a cell's test is the definition's, so the loops are its searches, by scenario and
+-- then event. The invariant of each loop: its search has come to its index, and nothing was found. The measures are
+-- what is left of each. Assumes nothing.
 use mathlib.Core.Path.{_≡_, refl, sym, _∙_, ap}
 use mathlib.Core.List.{List}
 use mathlib.Core.Option.{Option}

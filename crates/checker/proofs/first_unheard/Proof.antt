@@ -1,7 +1,7 @@
--- `first_unheard` meets its contract: before s is told apart from r nothing is known on which they differ, so the two comparisons are
--- the definition's test, and the loops are its searches, by s, then r, then event.
--- The invariant of each loop: its search has come to its index, and nothing was found. The measures are what is left of each.
--- Assumes nothing.
+-- `first_unheard` meets its contract: before s is told apart from r nothing is known on which they differ, so the two
+-- comparisons are the definition's test, and the loops are its searches, by s, then r, then event. The invariant of
+-- each loop: its search has come to its index, and nothing was found. The measures are what is left of each. Assumes
+-- nothing.
 use mathlib.Core.Path.{_∙_, refl, sym, ap}
 use mathlib.Core.Logic.{⊎-elim}
 use mathlib.Core.List.{List}

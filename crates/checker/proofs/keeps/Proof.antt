@@ -1,5 +1,5 @@
--- `keeps` meets its contract: a scenario that the label excludes keeps the constraint, and any other has its two times compared.
--- Assumes nothing.
+-- `keeps` meets its contract: a scenario that the label excludes keeps the constraint, and any other has its two
+-- times compared. Assumes nothing.
 use mathlib.Core.Path.{sym, _∙_, ap}
 use borrow.Author.Tests.{not-true, not-false}
 use borrow.Author.Needs.{needs}

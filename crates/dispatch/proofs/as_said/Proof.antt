@@ -1,4 +1,5 @@
--- `as_said` meets its contract: its tests are those of the definition, one after another (`as-said-is`). Assumes nothing.
+-- `as_said` meets its contract: its tests are those of the definition, one after another (`as-said-is`). Assumes
+-- nothing.
 use mathlib.Core.Path.{_≡_, _∙_, ap}
 use mathlib.Core.Bool.{true, false, _&&_, not, cond}
 use borrow.Author.Needs.{needs}

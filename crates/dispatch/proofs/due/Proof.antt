@@ -1,5 +1,5 @@
--- `due` meets its contract: the letters are tried first, and then the loop is the definition's search. The invariant: no case passed
--- has heard what is said. The measure is what is left of the cases. Assumes nothing.
+-- `due` meets its contract: the letters are tried first, and then the loop is the definition's search. The invariant:
+-- no case passed has heard what is said. The measure is what is left of the cases. Assumes nothing.
 use mathlib.Core.Path.{sym, _∙_, ap}
 use Prim.Native.Nat.{_-_}
 use native.Mathlib.Omega.{arith}

@@ -1,5 +1,5 @@
--- `due_in` meets its contract. The invariant: `due` is the sum for the events passed. The measure is what is left of them.
--- Assumes nothing.
+-- `due_in` meets its contract. The invariant: `due` is the sum for the events passed. The measure is what is left of
+-- them. Assumes nothing.
 use mathlib.Core.Path.{refl, sym, _∙_}
 use mathlib.Core.Logic.{⊎-elim}
 use Prim.Native.Nat.{_-_}

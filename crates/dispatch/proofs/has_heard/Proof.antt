@@ -1,5 +1,5 @@
--- `has_heard` meets its contract: what it asks of a signal is the definition's test. The invariant: each signal passed is as s has heard
--- it. The measure is what is left of the signals. Assumes nothing.
+-- `has_heard` meets its contract: what it asks of a signal is the definition's test. The invariant: each signal
+-- passed is as s has heard it. The measure is what is left of the signals. Assumes nothing.
 use mathlib.Core.Path.{_≡_, sym, _∙_}
 use Prim.Native.Nat.{_-_}
 use borrow.Author.Needs.{needs}

@@ -1,7 +1,8 @@
--- `said` meets its contract: a walk of its MIR by hand, as the borrow checker covers no slice of structs. The loop's invariant: i records
--- are passed, and going on from the mask that they make, the records left make the mask of all. A turn looks into the slice for record i
--- and calls `add`, of which nothing is known but its contract. The measure is the count of the records left. A list in brackets below is
--- what is had at that place, by number from 0: a local, as _2, and behind it (..) the right to free it. Assumes nothing.
+-- `said` meets its contract: a walk of its MIR by hand, as the borrow checker covers no slice of structs. The loop's
+-- invariant: i records are passed, and going on from the mask that they make, the records left make the mask of all.
+-- A turn looks into the slice for record i and calls `add`, of which nothing is known but its contract. The measure
+-- is the count of the records left. A list in brackets below is what is had at that place, by number from 0: a local,
+-- as _2, and behind it (..) the right to free it. Assumes nothing.
 use mathlib.Core.Path.{_≡_, refl, sym, _∙_, ap}
 use mathlib.Core.WellFounded.{WellFounded, InvImage·wf}
 use mathlib.Core.List.{List, [], _∷_}
@@ -256,7 +257,8 @@ module _
         move ! (16 ∷ 17 ∷ []) $
         looks-slice ! tt R (Is R) (shows 𝓤 H A R) vals tells copies hs b o (λ q′.
         elem-out ! R (Is R) (shows 𝓤 H A R) vals tells q′ hs (t .i) noHeard b o (in-range less) (λ p.
-        -- [record i; what it owns; the others; what shuts; the borrow; _7; ..; _6; ..; .. _0; ..; the slice's name; its fact]
+        -- [record i; what it owns; the others; what shuts; the borrow; _7; ..; _6; ..; .. _0; ..; the slice's name;
+        -- its fact]
         assigns !
         (of-opd ! (load ! (from ! (hop ! (look ! 7 refl) (stop !))) (look-raw ! 0 refl)))
         (from ! (stop !)) (init ! 5 refl (LL.lawful T.the-type T′.the-laws 𝓤 H A W .typed h (vals h) p .0)) $

@@ -1,5 +1,5 @@
--- `well_named` meets its contract. The invariant: each letter passed is defined where it stands. The measure is what is left of the 26.
--- Assumes nothing.
+-- `well_named` meets its contract. The invariant: each letter passed is defined where it stands. The measure is what
+-- is left of the 26. Assumes nothing.
 use mathlib.Core.Path.{sym, _∙_}
 use mathlib.Core.Logic.{⊎-elim}
 use mathlib.Core.Bool.{and-false, or-true}

@@ -1,4 +1,5 @@
--- `exhaust::fill` is safe and ends: every cell of the table is in range, and so is a digit of the base. Assumes nothing.
+-- `exhaust::fill` is safe and ends: every cell of the table is in range, and so is a digit of the base. Assumes
+-- nothing.
 use Prim.Native.Nat.{_≤_, _-_}
 use Rattle.exhaust.proofs.fill.Statement.{statement}
 use Rattle.exhaust.proofs.fill.Tie as tie

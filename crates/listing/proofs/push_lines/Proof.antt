@@ -1,6 +1,6 @@
--- `listing::push_lines` meets its contract. The invariant: the lines of the scenarios below s are written. A table of n * 2^k times has
--- a row of n for each of 2^k scenarios, and as k is at most 4 there is room for all lines. The measure is the count of scenarios left.
--- Assumes nothing.
+-- `listing::push_lines` meets its contract. The invariant: the lines of the scenarios below s are written. A table of
+-- n * 2^k times has a row of n for each of 2^k scenarios, and as k is at most 4 there is room for all lines. The
+-- measure is the count of scenarios left. Assumes nothing.
 use mathlib.Core.Path.{refl}
 use Prim.Native.Nat.{_-_, _^_, _<_}
 use native.Mathlib.Nat.{mul-le-mul-right}

@@ -1,5 +1,6 @@
--- `listing::push_names` meets its contract. The invariant: the names of the events below u are written, each behind its comma. A name is
--- a part of the sheet of at most 8 bytes, so that there is room for all. The measure is the count of events left. Assumes nothing.
+-- `listing::push_names` meets its contract. The invariant: the names of the events below u are written, each behind
+-- its comma. A name is a part of the sheet of at most 8 bytes, so that there is room for all. The measure is the
+-- count of events left. Assumes nothing.
 use mathlib.Core.Path.{_≡_, refl}
 use mathlib.Core.List.{_∷_}
 use Prim.Native.Nat.{_-_}

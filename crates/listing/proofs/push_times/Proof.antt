@@ -1,5 +1,5 @@
--- `listing::push_times` meets its contract. The invariant: the times of the events below u are written, each behind its comma. The
--- measure is the count of events left. Assumes nothing.
+-- `listing::push_times` meets its contract. The invariant: the times of the events below u are written, each behind
+-- its comma. The measure is the count of events left. Assumes nothing.
 use mathlib.Core.List.{_∷_}
 use Prim.Native.Nat.{_-_}
 use native.Mathlib.Omega.{arith}

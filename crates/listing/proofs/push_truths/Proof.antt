@@ -1,5 +1,5 @@
--- `listing::push_truths` meets its contract. The invariant: the marks of the propositions below p are written, and the rest is s halved
--- p times. The measure is the count of propositions left. Assumes nothing.
+-- `listing::push_truths` meets its contract. The invariant: the marks of the propositions below p are written, and
+-- the rest is s halved p times. The measure is the count of propositions left. Assumes nothing.
 use mathlib.Core.Path.{_≡_, sym}
 use mathlib.Core.List.{[], _∷_}
 use Prim.Native.Nat.{_-_, _/_, _^_}

@@ -1,5 +1,5 @@
--- `listing::write` meets its contract: the page begins with the listing, header and lines, and that part of it is handed out.
--- Assumes nothing.
+-- `listing::write` meets its contract: the page begins with the listing, header and lines, and that part of it is
+-- handed out. Assumes nothing.
 use native.Mathlib.Omega.{arith}
 use denote.Ref.{now}
 use mathlib.Core.Path.{sym}

@@ -1,5 +1,5 @@
--- `between` meets its contract: it goes on only past a cell that is between. The invariant: the first i cells of rise l are between. The
--- measure is what is left of the cells. Assumes nothing.
+-- `between` meets its contract: it goes on only past a cell that is between. The invariant: the first i cells of rise
+-- l are between. The measure is what is left of the cells. Assumes nothing.
 use mathlib.Core.Path.{_≡_, refl}
 use mathlib.Core.Bool.{false}
 use Prim.Native.Nat.{_-_, _≤_}

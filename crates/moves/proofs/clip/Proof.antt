@@ -1,5 +1,5 @@
--- `clip` meets its contract: each turn writes one clipped rise. The invariant: i rises are clipped. The measure is what is left of the
--- cells. Assumes nothing.
+-- `clip` meets its contract: each turn writes one clipped rise. The invariant: i rises are clipped. The measure is
+-- what is left of the cells. Assumes nothing.
 use mathlib.Core.Path.{_≡_}
 use Prim.Native.Nat.{_-_, _≤_}
 use native.Mathlib.Omega.{arith}

@@ -1,5 +1,5 @@
--- `copy` meets its contract: each turn writes one cell. The invariant: i cells are copied, and the rest is as it was. The measure is
--- what is left of the cells. Assumes nothing.
+-- `copy` meets its contract: each turn writes one cell. The invariant: i cells are copied, and the rest is as it was.
+-- The measure is what is left of the cells. Assumes nothing.
 use mathlib.Core.Path.{_≡_, refl}
 use Prim.Native.Nat.{_-_, _≤_}
 use native.Mathlib.Omega.{arith}

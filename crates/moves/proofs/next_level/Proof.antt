@@ -1,5 +1,5 @@
--- `next_level` meets its contract. The invariant: r is the least level above l of the first i cells. The measure is what is left of the
--- cells. Assumes nothing.
+-- `next_level` meets its contract. The invariant: r is the least level above l of the first i cells. The measure is
+-- what is left of the cells. Assumes nothing.
 use mathlib.Core.Path.{_≡_}
 use Prim.Native.Nat.{_-_, _≤_}
 use native.Mathlib.Omega.{arith}

@@ -1,5 +1,5 @@
--- `place` meets its contract: a cell is written only if it fits, so a table that is finished fits everywhere. The invariant: i cells
--- are placed. The measure is what is left of the cells. Assumes nothing.
+-- `place` meets its contract: a cell is written only if it fits, so a table that is finished fits everywhere. The
+-- invariant: i cells are placed. The measure is what is left of the cells. Assumes nothing.
 use mathlib.Core.Path.{_≡_, refl}
 use mathlib.Core.Bool.{false}
 use Prim.Native.Nat.{_-_, _≤_}

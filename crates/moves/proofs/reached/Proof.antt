@@ -1,4 +1,5 @@
--- `reached` meets its contract: neither the product nor the sum wraps, since rise and count are at most 10,080. Assumes nothing.
+-- `reached` meets its contract: neither the product nor the sum wraps, since rise and count are at most 10,080.
+-- Assumes nothing.
 use Prim.Native.Nat.{_*_, _≤_}
 use native.Mathlib.Nat.{mul-le-mul}
 use native.Mathlib.Omega.{arith}

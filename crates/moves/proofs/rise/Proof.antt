@@ -1,5 +1,5 @@
--- `rise` meets its contract: each turn writes one difference. The invariant: i differences are written, and the rest is as it was.
--- The measure is what is left of the cells. Assumes nothing.
+-- `rise` meets its contract: each turn writes one difference. The invariant: i differences are written, and the rest
+-- is as it was. The measure is what is left of the cells. Assumes nothing.
 use mathlib.Core.Path.{_≡_}
 use Prim.Native.Nat.{_-_, _≤_}
 use native.Mathlib.Omega.{arith}

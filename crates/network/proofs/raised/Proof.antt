@@ -1,4 +1,5 @@
--- The limit and 10,080 is neither negative nor over 20,160, so it fits and is cast as it is (`Signed`). Assumes nothing.
+-- The limit and 10,080 is neither negative nor over 20,160, so it fits and is cast as it is (`Signed`). Assumes
+-- nothing.
 use Rattle.network.proofs.Signed.{sum-fits, sum-cast, sum-value}
 use Rattle.network.proofs.raised.Statement.{statement}
 use Rattle.network.proofs.raised.Tie as tie

@@ -1,8 +1,9 @@
--- `events_due` meets its contract: a walk of its MIR by hand, as the borrow checker covers no slice of structs. `dispatch::said` makes a
--- mask of the list, and `events_due_on` answers by the mask; of both nothing is known but the contract. That this is the answer by the
--- list is the law `events-due-said`. A slice may be copied: what it owns is had twice, once for the callee and once for the exit. The
--- tokens of the lifetimes go to the callees and come back. A list in brackets below is what is had at that place, by number from 0: a
--- local, as _5, and behind it (..) the right to free it. Assumes nothing.
+-- `events_due` meets its contract: a walk of its MIR by hand, as the borrow checker covers no slice of structs.
+-- `dispatch::said` makes a mask of the list, and `events_due_on` answers by the mask; of both nothing is known but
+-- the contract. That this is the answer by the list is the law `events-due-said`. A slice may be copied: what it owns
+-- is had twice, once for the callee and once for the exit. The tokens of the lifetimes go to the callees and come
+-- back. A list in brackets below is what is had at that place, by number from 0: a local, as _5, and behind it (..)
+-- the right to free it. Assumes nothing.
 use mathlib.Core.Path.{_≡_, refl, _∙_, ap}
 use mathlib.Core.List.{List, [], _∷_}
 use Prim.Native.Nat.{ℕ, _<_, _^_}
@@ -234,7 +235,8 @@ module _
         -- [sheet; sheet; table; table; r; the list's token; the table's; the sheet's; list; true; m; _5; ..; .. _0; ..]
         move ! (4 ∷ 9 ∷ []) $ fjoin ! $ owned ! u16 (Is u16) (uint-makes 𝓤 H A W w16) m (vm ∷ []) (refl, gm) $ fjoin ! $
         move ! (3 ∷ 0 ∷ []) $ fjoin ! $ move ! (1 ∷ 0 ∷ []) $ fjoin ! $
-        -- [what the arguments own; sheet; table; the list's token; the table's; the sheet's; list; m; _5; ..; .. _0; ..]
+        -- [what the arguments own; sheet; table; the list's token; the table's; the sheet's; list; m; _5; ..; .. _0;
+        -- ..]
         nothing ! $ move ! (5 ∷ 0 ∷ []) $ join ! $ move ! (5 ∷ 0 ∷ []) $ join ! $
         use2 W (raw (DueOn 𝓤 H A mem run .pre (due-to r))) (due-asked r) $
         -- [what `events_due_on` asks; sheet; table; the list's token; list; m; _5; ..; .. _0; ..]
@@ -248,7 +250,8 @@ module _
         heard ! (d ≡ answerOn r) (λ e′. split ! $ move ! (1 ∷ []) $
         peeks ! D.the-row (Is D.the-row) (shows 𝓤 H A D.the-row) d (w ∷ []) (λ is′.
         land ! (from ! (stop !)) (init ! 17 refl (EL.lawful D.the-type D′.the-laws 𝓤 H A W tt .typed d _ is′ .0)) $
-        -- [d; the tokens; sheet; table; the list's token; list; m; _5; ..; .. _0; ..]: _0 is returned, and the locals are freed
+        -- [d; the tokens; sheet; table; the list's token; list; m; _5; ..; .. _0; ..]: _0 is returned, and the locals
+        -- are freed
         returns ! (look ! 17 refl) $
         forget ! 7 refl $ forget ! 9 refl $ forget ! 11 refl $ forget ! 13 refl $ forget ! 15 refl $ forget ! 17 refl $
         move ! (17 ∷ 18 ∷ []) $ free1 ! $ move ! (15 ∷ 16 ∷ []) $ free1 ! $ move ! (13 ∷ 14 ∷ []) $ free1 ! $

@@ -1,5 +1,5 @@
--- `opening::events_due_on` meets its contract: the outcome of the reading, then the table's length, then the verdict, then the player's
--- answer. Assumes nothing.
+-- `opening::events_due_on` meets its contract: the outcome of the reading, then the table's length, then the verdict,
+-- then the player's answer. Assumes nothing.
 use mathlib.Core.Path.{sym, _∙_, ap}
 use denote.Ref.{now}
 use borrow.Author.Needs.{needs}

@@ -1,5 +1,5 @@
--- `opening::judge_table` meets its contract: the outcome of the reading, then the table's length, then the checker's verdict. Assumes
--- nothing.
+-- `opening::judge_table` meets its contract: the outcome of the reading, then the table's length, then the checker's
+-- verdict. Assumes nothing.
 use mathlib.Core.Path.{sym, _∙_, ap}
 use Rattle.opening.specs.declared.Judgement.the-variants as J
 use denote.Ref.{now}

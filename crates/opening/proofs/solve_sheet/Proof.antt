@@ -1,5 +1,5 @@
--- `opening::solve_sheet` meets its contract: the outcome of the reading, then the table's length, then the solver's answer. Assumes
--- nothing.
+-- `opening::solve_sheet` meets its contract: the outcome of the reading, then the table's length, then the solver's
+-- answer. Assumes nothing.
 use denote.Ref.{now}
 use native.Mathlib.Omega.{arith}
 use Rattle.opening.proofs.Calls.{well-formed, solving-refused, solving-short, solving-found, solving-none}

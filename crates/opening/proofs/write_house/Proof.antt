@@ -1,5 +1,5 @@
--- `opening::write_house` meets its contract: the outcome of the reading, then whether the rows that remain fit, then what the writer did.
--- Assumes nothing.
+-- `opening::write_house` meets its contract: the outcome of the reading, then whether the rows that remain fit, then
+-- what the writer did. Assumes nothing.
 use denote.Ref.{now}
 use mathlib.Core.Path.{sym, _∙_}
 use borrow.Author.Tests.{not-true, not-false}

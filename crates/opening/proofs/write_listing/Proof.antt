@@ -1,5 +1,5 @@
--- `opening::write_listing` meets its contract: the outcome of the reading, then the table's length, then what the writer did. Assumes
--- nothing.
+-- `opening::write_listing` meets its contract: the outcome of the reading, then the table's length, then what the
+-- writer did. Assumes nothing.
 use denote.Ref.{now}
 use mathlib.Core.Path.{sym, _∙_}
 use Rattle.opening.proofs.Calls.{well-formed, listing-refused, listing-wrong, listing-written}

@@ -1,5 +1,5 @@
--- `page::push_all` meets its contract. The invariant: the page is the one lent with the first i bytes of s pasted in from `at` on.
--- The measure is what is left of s. Assumes nothing.
+-- `page::push_all` meets its contract. The invariant: the page is the one lent with the first i bytes of s pasted in
+-- from `at` on. The measure is what is left of s. Assumes nothing.
 use mathlib.Core.Path.{_≡_, refl}
 use Prim.Native.Nat.{_-_, _≤_}
 use native.Mathlib.Numerals.{add-one}

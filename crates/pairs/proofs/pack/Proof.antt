@@ -1,5 +1,5 @@
--- `pairs::pack` meets its contract. The invariant: the first 2 i bytes are those of the first i minutes, and the rest is as before. The
--- measure is what is left of the table. Assumes nothing.
+-- `pairs::pack` meets its contract. The invariant: the first 2 i bytes are those of the first i minutes, and the rest
+-- is as before. The measure is what is left of the table. Assumes nothing.
 use mathlib.Core.Path.{_≡_, refl}
 use mathlib.Core.List.{_++_}
 use Prim.Native.Nat.{_-_, _≤_, _*_, _+_}

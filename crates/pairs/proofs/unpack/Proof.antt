@@ -1,5 +1,5 @@
--- `pairs::unpack` meets its contract. The invariant: the first i cells hold the first i minutes, and the rest is as before. The
--- measure is what is left of the pairs. Assumes nothing.
+-- `pairs::unpack` meets its contract. The invariant: the first i cells hold the first i minutes, and the rest is as
+-- before. The measure is what is left of the pairs. Assumes nothing.
 use mathlib.Core.Path.{_≡_, refl}
 use mathlib.Core.List.{_++_}
 use Prim.Native.Nat.{_-_, _≤_, _/_, _+_}

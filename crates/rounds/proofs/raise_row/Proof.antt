@@ -1,5 +1,6 @@
--- The row is read, raised by its own bounds and then, turn by turn, by the scenario that differs from s by d. The invariant: the row
--- is raised by the first d differences; difference 0, which is s itself, asks nothing new. Assumes nothing.
+-- The row is read, raised by its own bounds and then, turn by turn, by the scenario that differs from s by d. The
+-- invariant: the row is raised by the first d differences; difference 0, which is s itself, asks nothing new. Assumes
+-- nothing.
 use mathlib.Core.Path.{_≡_, refl}
 use mathlib.Core.List.{List}
 use Prim.Native.Nat.{ℕ, _+_, _-_, _*_, _≤_, _<_, max}
@@ -37,7 +38,8 @@ start c = c .before .before .before .before .before .before .before .before .bef
 abbrev reading : tie.After-lower Inv-loop μ-loop → tie.After-read-row Inv-loop μ-loop
 reading c = c .before .before .before .before .before .before .before .before .before .before .before
 
-row-of : (c : tie.After-read-row Inv-loop μ-loop) → read c ≡ rowOf (c .before .before .args .t .now) (c .before .before .args .s)
+row-of : (c : tie.After-read-row Inv-loop μ-loop) → read c ≡ rowOf (c .before .before .args .t .now)
+    (c .before .before .args .s)
 row-of c =
     let z = c .before .before in
     row-is (z .args .t .now) (z .args .s) (read c) (z .pre .2 .sized) (s-in z) (c .read-row .ensures)
@@ -50,13 +52,15 @@ firsts c = c .before .before .before .before .before .before .before .before .fi
 
 known-first : (c : tie.After-lower Inv-loop μ-loop)
     → First (start c .args .frame .signals)
-    (λ p. getD (rowOf (start c .args .t .now) (start c .args .s)) (getD (start c .args .frame .observations) p 0) 0 + 1) (firsts c)
+    (λ p. getD (rowOf (start c .args .t .now) (start c .args .s))
+    (getD (start c .args .frame .observations) p 0) 0 + 1) (firsts c)
 known-first c =
     let first-known = c .before .before .before .before .before .before .before .before .first-known in
     rw (row-of (reading c)) at (first-known .ensures)
 
 by-bounds : (c : tie.After-lower Inv-loop μ-loop)
-    → Row (c .lower .last .0) (ruled (start c .args .counts .now) (start c .args .lists .now) (start c .args .t .now) (start c .args .s))
+    → Row (c .lower .last .0)
+    (ruled (start c .args .counts .now) (start c .args .lists .now) (start c .args .t .now) (start c .args .s))
 by-bounds c =
     let lift = c .before .before .before .before .before .lift in
     let raise-by-bounds = c .before .before .raise-by-bounds in
@@ -141,7 +145,8 @@ loop-again c =
     let a = start (l .before) .args in (
       omega arith,
       omega (arith, test .taken),
-      across-next (a .counts .now) (a .lists .now) (a .t .now) (a .s) (firsts (l .before)) (l .before .lower .last .0) (loop .d)
+      across-next (a .counts .now) (a .lists .now) (a .t .now) (a .s) (firsts (l .before))
+          (l .before .lower .last .0) (loop .d)
           (loop .inv .2) (c .raise-by-scenario .ensures),
     )
 
@@ -153,7 +158,8 @@ store-row-requires c κs =
     let a = z .args in (
       s-in z,
       z .pre .3,
-      rises (a .counts .now) (a .lists .now) (a .t .now) (a .s) (across (a .t .now) (firsts (l .before)) (a .s) (loop .d))
+      rises (a .counts .now) (a .lists .now) (a .t .now) (a .s)
+          (across (a .t .now) (firsts (l .before)) (a .s) (loop .d))
           (row-of (reading (l .before))) (by-bounds (l .before)) (loop .inv .2),
       o-few l,
       z .pre .4,
@@ -170,11 +176,14 @@ returns c =
     let z = start (l .before) in
     let a = z .args in
     let e : loop .d ≡ a .frame .scenarios = omega (arith, test .left) in
-    let made = raised-row (a .counts .now) (a .lists .now) (a .t .now) (a .s) (a .frame) (powers (z .pre .1)) (known-first (l .before))
+    let made = raised-row (a .counts .now) (a .lists .now) (a .t .now) (a .s) (a .frame) (powers (z .pre .1))
+    (known-first (l .before))
     (by-bounds (l .before)) (rw e at (loop .inv .2))
     in
-    stored-ext (λ u. getD (read (reading (l .before))) u 0) (λ u. getD (a .t .now) (a .s * 16 + u) 0) (λ u. getD (loop .o) u 0)
-    (λ u. raisedAt (a .frame) (a .counts .now) (a .lists .now) (a .t .now) (a .s) u) (reading (l .before) .read-row .ensures .is)
+    stored-ext (λ u. getD (read (reading (l .before))) u 0) (λ u. getD (a .t .now) (a .s * 16 + u) 0)
+    (λ u. getD (loop .o) u 0)
+    (λ u. raisedAt (a .frame) (a .counts .now) (a .lists .now) (a .t .now) (a .s) u)
+    (reading (l .before) .read-row .ensures .is)
     (made .is) (c .store-row .ensures)
 
 pub raise-row-spec : {M : Type 1} → statement M

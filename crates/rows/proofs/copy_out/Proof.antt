@@ -1,4 +1,5 @@
--- Each turn writes one row behind the others. The invariant: the first s rows of n are there, and the rest is unaltered. Assumes nothing.
+-- Each turn writes one row behind the others. The invariant: the first s rows of n are there, and the rest is
+-- unaltered. Assumes nothing.
 use mathlib.Core.Path.{_≡_}
 use Prim.Native.Nat.{ℕ, _+_, _-_, _*_, _/_, _%_, _≤_, _<_}
 use native.Mathlib.Omega.{arith}
@@ -36,7 +37,14 @@ copy-row-requires c κs =
     let i = loop .inv in (
       omega (arith, pre .0, c .before .loop-test .taken),
       pre .2,
-      omega (arith, i .1, i .2 .sized, pre .3, row-end (loop .s) (z .args .c) (z .args .n) (c .before .loop-test .taken)),
+      omega (
+        arith,
+        i .1,
+        i .2 .sized,
+        pre .3,
+        row-end (loop .s) (z .args .c) (z .args .n)
+            (c .before .loop-test .taken),
+      ),
     )
 
 add-a : tie.Need-add-a Inv-loop μ-loop

@@ -1,5 +1,5 @@
--- `frame_of` copies the network's fields; the scenarios are 2 to the power of the signals, which is small enough for the shift.
--- Assumes nothing.
+-- `frame_of` copies the network's fields; the scenarios are 2 to the power of the signals, which is small enough for
+-- the shift. Assumes nothing.
 use native.Mathlib.Omega.{arith}
 use borrow.Author.Needs.{needs}
 use Rattle.rows.proofs.Packed.{sixteen}

@@ -1,6 +1,7 @@
--- `run` meets its contract: its loop is underway from the floor, by one round a turn and those that are passed over, and it ends where a
--- round or the law of the two far tables says. The invariant: at most `budget` rounds lead from the table at entry to a, by way of the
--- one that is kept. The measure is what is left of the budget. Assumes nothing.
+-- `run` meets its contract: its loop is underway from the floor, by one round a turn and those that are passed over,
+-- and it ends where a round or the law of the two far tables says. The invariant: at most `budget` rounds lead from
+-- the table at entry to a, by way of the one that is kept. The measure is what is left of the budget. Assumes
+-- nothing.
 use mathlib.Core.Path.{_≡_, refl}
 use Prim.Native.Nat.{_-_, _≤_, _<_}
 use native.Mathlib.Omega.{arith}
@@ -112,8 +113,8 @@ keep-requires c κs =
     let cells-of = back2 .before .before .before .before .cells-of in
     (cells-of .ensures .1, loop .inv .5 .to-base .times .sized)
 
-sub-pass-over-if : tie.Need-sub-pass-over-if Inv-loop μ-loop
-sub-pass-over-if c =
+sub-pass-over : tie.Need-sub-pass-over Inv-loop μ-loop
+sub-pass-over c =
     let back = c .before .before .before .before .before .before .before .before .before .before in
     let back2 = back .before .before .before .before .before .before .before .before .before .before in
     let copy = c .before .before .before .before .before .copy in
@@ -126,15 +127,15 @@ sub-pass-over-if c =
     (copy .ensures) (c .before .before .keep .ensures) in
     omega (arith, K .order)
 
-sub-pass-over-if-2 : tie.Need-sub-pass-over-if-2 Inv-loop μ-loop
-sub-pass-over-if-2 c =
+sub-pass-over-2 : tie.Need-sub-pass-over-2 Inv-loop μ-loop
+sub-pass-over-2 c =
     let back = c .before .before .before .before .before .before .before .before .before .before in
     let back2 = back .before .before .before .before .before .before .before .before .before .before in
     let loop-test = back2 .before .before .loop-test in
     omega (arith, loop-test .taken)
 
-pass-over-if-requires : tie.Need-pass-over-if-requires Inv-loop μ-loop
-pass-over-if-requires c κs =
+pass-over-requires : tie.Need-pass-over-requires Inv-loop μ-loop
+pass-over-requires c κs =
     let back = c .before .before .before .before .before .before .before .before .before .before in
     let back2 = back .before .before .before .before .before .before .before .before .before .before in
     let copy = c .before .before .before .before .before .copy in
@@ -153,7 +154,7 @@ add-rounds-2 c =
     let back2 = back .before .before .before .before .before .before .before .before .before .before in
     let loop-test = back2 .before .before .before .loop-test in
     let fits = back2 .before .before .before .before .before .before .before .before .before .fits in
-    omega (arith, loop-test .taken, c .pass-over-if .ensures .0, fits .budget)
+    omega (arith, loop-test .taken, c .pass-over .ensures .0, fits .budget)
 
 add-at : tie.Need-add-at Inv-loop μ-loop
 add-at c =
@@ -170,44 +171,44 @@ add-at c =
     let pre = back2 .before .before .before .before .before .before .before .before .before .pre in
     let K = underway-turn (loop .inv .5) (pre .0) (enum-told3 .given .1) (round .ensures) (cells-of .ensures .0)
     (copy .ensures) (keep .ensures) in
-    omega (arith, K .order, loop-test .taken, c .pass-over-if .ensures .0, fits .budget)
+    omega (arith, K .order, loop-test .taken, c .pass-over .ensures .0, fits .budget)
 
 after-tries-requires : tie.Need-after-tries-requires Inv-loop μ-loop
 after-tries-requires c κs = search needs
 
-sub-finish-if : tie.Need-sub-finish-if Inv-loop μ-loop
-sub-finish-if c =
+sub-finish : tie.Need-sub-finish Inv-loop μ-loop
+sub-finish c =
     let back = c .before .before .before .before .before .before .before .before .before .before in
     let back2 = back .before .before .before .before .before .before .before .before .before .before in
-    let pass-over-if = c .before .before .before .pass-over-if in
+    let pass-over = c .before .before .before .pass-over in
     let loop-test = back2 .before .before .before .before .before .before .loop-test in
-    omega (arith, loop-test .taken, pass-over-if .ensures .0)
+    omega (arith, loop-test .taken, pass-over .ensures .0)
 
-finish-if-requires : tie.Need-finish-if-requires Inv-loop μ-loop
-finish-if-requires c κs =
+finish-requires : tie.Need-finish-requires Inv-loop μ-loop
+finish-requires c κs =
     let back = c .before .before .before .before .before .before .before .before .before .before in
     let back2 = back .before .before .before .before .before .before .before .before .before .before in
     let back3 = back2 .before .before .before .before .before .before .before .before .before .before in
-    let pass-over-if = c .before .before .before .pass-over-if in
+    let pass-over = c .before .before .before .pass-over in
     let pre = back3 .before .before .pre in
-    (pre .0, pass-over-if .ensures .2 .times)
+    (pre .0, pass-over .ensures .2 .times)
 
 add-rounds-3 : tie.Need-add-rounds-3 Inv-loop μ-loop
 add-rounds-3 c =
     let back = c .before .before .before .before .before .before .before .before .before .before in
     let back2 = back .before .before .before .before .before .before .before .before .before .before in
     let back3 = back2 .before .before .before .before .before .before .before .before .before .before in
-    let pass-over-if = c .before .before .before .before .before .pass-over-if in
+    let pass-over = c .before .before .before .before .before .pass-over in
     let loop-test = back2 .before .before .before .before .before .before .before .before .loop-test in
     let fits = back3 .before .before .before .before .fits in
-    omega (arith, loop-test .taken, pass-over-if .ensures .0, c .before .finish-if .ensures .0, fits .budget)
+    omega (arith, loop-test .taken, pass-over .ensures .0, c .before .finish .ensures .0, fits .budget)
 
 returns-3 : tie.Need-returns-3 Inv-loop μ-loop
 returns-3 c =
     let back = c .before .before .before .before .before .before .before .before .before .before in
     let back2 = back .before .before .before .before .before .before .before .before .before .before in
     let back3 = back2 .before .before .before .before .before .before .before .before .before .before in
-    let pass-over-if = c .before .before .before .before .before .pass-over-if in
+    let pass-over = c .before .before .before .before .before .pass-over in
     let keep = c .before .before .before .before .before .before .before .before .keep in
     let copy = back .before .copy in
     let enum-told3 = back2 .before .before .enum-told3 in
@@ -218,26 +219,27 @@ returns-3 c =
     let pre = back3 .before .before .before .before .pre in
     let K = underway-turn (loop .inv .5) (pre .0) (enum-told3 .given .1) (round .ensures) (cells-of .ensures .0)
     (copy .ensures) (keep .ensures) in
-    let J = underway-leapt K (pass-over-if .ensures .1) (pass-over-if .ensures .2) in (
+    let J = underway-leapt K (pass-over .ensures .1) (pass-over .ensures .2) in (
       J .from-base .times .sized,
-      λ Γ C. ended-later (all-of J) Γ C _ _ (omega (arith, loop-test .taken, pass-over-if .ensures .0, c .before .finish-if .ensures .0))
-          (c .before .finish-if .ensures .1 (c .if1 .taken)),
+      λ Γ C. ended-later (all-of J) Γ C _ _
+          (omega (arith, loop-test .taken, pass-over .ensures .0, c .before .finish .ensures .0))
+          (c .before .finish .ensures .1 (c .if1 .taken)),
     )
 
 loop-less : tie.Need-loop-less Inv-loop μ-loop
 loop-less c =
     let back = c .before .before .before .before .before .before .before .before .before .before in
     let back2 = back .before .before .before .before .before .before .before .before .before .before in
-    let pass-over-if = c .before .before .before .before .before .pass-over-if in
+    let pass-over = c .before .before .before .before .before .pass-over in
     let loop-test = back2 .before .before .before .before .before .before .before .before .loop-test in
-    omega (arith, loop-test .taken, pass-over-if .ensures .0)
+    omega (arith, loop-test .taken, pass-over .ensures .0)
 
 loop-again : tie.Need-loop-again Inv-loop μ-loop
 loop-again c =
     let back = c .before .before .before .before .before .before .before .before .before .before in
     let back2 = back .before .before .before .before .before .before .before .before .before .before in
     let back3 = back2 .before .before .before .before .before .before .before .before .before .before in
-    let pass-over-if = c .before .before .before .before .before .pass-over-if in
+    let pass-over = c .before .before .before .before .before .pass-over in
     let keep = c .before .before .before .before .before .before .before .before .keep in
     let copy = back .before .copy in
     let follow = back .before .before .before .before .follow in
@@ -250,8 +252,8 @@ loop-again c =
     let pre = back3 .before .before .before .before .pre in
     let K = underway-turn (loop .inv .5) (pre .0) (enum-told3 .given .1) (round .ensures) (cells-of .ensures .0)
     (copy .ensures) (keep .ensures) in
-    let J = underway-leapt K (pass-over-if .ensures .1) (pass-over-if .ensures .2) in (
-      omega (arith, loop-test .taken, pass-over-if .ensures .0),
+    let J = underway-leapt K (pass-over .ensures .1) (pass-over .ensures .2) in (
+      omega (arith, loop-test .taken, pass-over .ensures .0),
       round .ensures (pre .0 .network) (pre .0 .compiled) .sized,
       watch .ensures,
       follow .ensures .0,
@@ -289,14 +291,14 @@ run-spec =
     follow-requires
     copy-requires
     keep-requires
-    sub-pass-over-if
-    sub-pass-over-if-2
-    pass-over-if-requires
+    sub-pass-over
+    sub-pass-over-2
+    pass-over-requires
     add-rounds-2
     add-at
     after-tries-requires
-    sub-finish-if
-    finish-if-requires
+    sub-finish
+    finish-requires
     add-rounds-3
     returns-3
     loop-less

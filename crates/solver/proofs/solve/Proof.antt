@@ -1,4 +1,5 @@
--- `solve` meets its contract: the budget is more than the room below the limits, so its run is the definition's. Assumes nothing.
+-- `solve` meets its contract: the budget is more than the room below the limits, so its run is the definition's.
+-- Assumes nothing.
 use mathlib.Core.Path.{refl}
 use native.Mathlib.Omega.{arith}
 use borrow.Author.Needs.{needs}

@@ -1,5 +1,5 @@
--- `by_rounds` is safe: a round may go from a, which holds zeros or what a round made. The measure is what is left of the budget. Assumes
--- nothing.
+-- `by_rounds` is safe: a round may go from a, which holds zeros or what a round made. The measure is what is left of
+-- the budget. Assumes nothing.
 use mathlib.Core.Path.{_≡_, refl}
 use Prim.Native.Nat.{_-_, _≤_}
 use native.Mathlib.Omega.{arith}

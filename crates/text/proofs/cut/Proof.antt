@@ -1,6 +1,6 @@
--- `cut` meets its contract: a comma ends the field that is being read, and so does the end of the line. The invariant, `Cutting`: the
--- ends below `count` are known, and those from `count` on are those of what is left, i further on. The measure is what is left of
--- the line. Assumes nothing.
+-- `cut` meets its contract: a comma ends the field that is being read, and so does the end of the line. The
+-- invariant, `Cutting`: the ends below `count` are known, and those from `count` on are those of what is left, i
+-- further on. The measure is what is left of the line. Assumes nothing.
 use mathlib.Core.Path.{refl, _∙_}
 use mathlib.Core.Logic.{⊎-elim}
 use Prim.Native.Nat.{_-_}

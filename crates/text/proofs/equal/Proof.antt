@@ -1,5 +1,5 @@
--- `equal` meets its contract: slices of two lengths differ, and others are compared byte by byte. The invariant: they are the same
--- just where they are the same from i on. The measure is what is left of a. Assumes nothing.
+-- `equal` meets its contract: slices of two lengths differ, and others are compared byte by byte. The invariant: they
+-- are the same just where they are the same from i on. The measure is what is left of a. Assumes nothing.
 use mathlib.Core.Path.{_≡_, refl, sym, _∙_}
 use Prim.Native.Nat.{_-_, _≤_}
 use borrow.Author.Needs.{needs}

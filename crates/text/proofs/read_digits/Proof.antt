@@ -1,6 +1,6 @@
--- `read_digits` meets its contract: a byte that is no digit refuses the whole, and each digit adds to the size. The invariant: the
--- answer is that of the digits from i on, behind others of size v, which is capped. The measure is what is left of f.
--- Assumes nothing.
+-- `read_digits` meets its contract: a byte that is no digit refuses the whole, and each digit adds to the size. The
+-- invariant: the answer is that of the digits from i on, behind others of size v, which is capped. The measure is
+-- what is left of f. Assumes nothing.
 use mathlib.Core.Path.{_≡_, refl, sym, _∙_}
 use Prim.Native.Nat.{_+_, _-_, _≤_}
 use native.Mathlib.Omega.{arith}

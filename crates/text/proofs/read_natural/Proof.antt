@@ -1,4 +1,5 @@
--- `read_natural` meets its contract: digits, at least one, are a number unless a zero stands before others. Assumes nothing.
+-- `read_natural` meets its contract: digits, at least one, are a number unless a zero stands before others. Assumes
+-- nothing.
 use mathlib.Core.Path.{sym, _∙_}
 use native.Mathlib.Omega.{arith}
 use borrow.Author.Needs.{needs}

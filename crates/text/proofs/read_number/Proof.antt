@@ -1,5 +1,5 @@
--- `read_number` meets its contract: with no `-` it is what `read_natural` answers of all, and with one what it answers of the rest,
--- whose first digit is then no zero. Assumes nothing.
+-- `read_number` meets its contract: with no `-` it is what `read_natural` answers of all, and with one what it
+-- answers of the rest, whose first digit is then no zero. Assumes nothing.
 use mathlib.Core.Path.{sym, _∙_, ap}
 use native.Mathlib.Omega.{arith}
 use borrow.Author.Needs.{needs}

@@ -1,5 +1,5 @@
--- `until` meets its contract: it stops at the first byte d. The invariant: what stands before the first d is the i bytes passed and
--- what stands before the first d from i on. The measure is what is left of s. Assumes nothing.
+-- `until` meets its contract: it stops at the first byte d. The invariant: what stands before the first d is the i
+-- bytes passed and what stands before the first d from i on. The measure is what is left of s. Assumes nothing.
 use mathlib.Core.Path.{_≡_}
 use Prim.Native.Nat.{_+_, _-_, _≤_}
 use native.Mathlib.Omega.{arith}

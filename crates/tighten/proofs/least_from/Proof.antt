@@ -1,4 +1,5 @@
--- Each turn looks at one number (`Least`). The invariant: the least so far is that of the first i numbers. Assumes nothing.
+-- Each turn looks at one number (`Least`). The invariant: the least so far is that of the first i numbers. Assumes
+-- nothing.
 use mathlib.Core.Path.{_≡_, sym, _∙_}
 use mathlib.Core.Logic.{⊎-elim}
 use Prim.Native.Nat.{ℕ, _-_, _≤_}

@@ -1,4 +1,5 @@
--- The code computes the number as its definition does, digit by digit; the limit comes out of the i32 as it went in. Assumes nothing.
+-- The code computes the number as its definition does, digit by digit; the limit comes out of the i32 as it went in.
+-- Assumes nothing.
 use mathlib.Core.Path.{_∙_, ap}
 use Prim.Native.Nat.{ℕ, _+_, _*_}
 use borrow.Author.Needs.{needs}

@@ -1,4 +1,5 @@
--- Each turn lists the numbers of one rule. The invariant: those of the first c rules are listed (`Listed`). Assumes nothing.
+-- Each turn lists the numbers of one rule. The invariant: those of the first c rules are listed (`Listed`). Assumes
+-- nothing.
 use mathlib.Core.Path.{refl}
 use Prim.Native.Nat.{_-_}
 use native.Mathlib.Omega.{arith}

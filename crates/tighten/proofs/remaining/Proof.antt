@@ -1,7 +1,7 @@
--- Each turn finds the row of the next key, or that no key is left, or one row more than the array holds (`Next`). The invariant: the
--- first rows of the array and the tightest ones of the keys from the floor on are all that remain (`Found`). The network is not at hand
--- in the loop, so this is said of whatever regular rows have the listed numbers. The measure is the room in the array.
--- Assumes nothing.
+-- Each turn finds the row of the next key, or that no key is left, or one row more than the array holds (`Next`). The
+-- invariant: the first rows of the array and the tightest ones of the keys from the floor on are all that remain
+-- (`Found`). The network is not at hand in the loop, so this is said of whatever regular rows have the listed
+-- numbers. The measure is the room in the array. Assumes nothing.
 use mathlib.Core.List.{List}
 use Prim.Native.Nat.{_-_, _≤_}
 use native.Mathlib.Omega.{arith}

@@ -1,5 +1,5 @@
--- `main` ends and is safe: the numbers go up from 1 to 191, so i stays at most 192, and the measure is what is left to that.
--- Assumes nothing.
+-- `main` ends and is safe: the numbers go up from 1 to 191, so i stays at most 192, and the measure is what is left
+-- to that. Assumes nothing.
 use mathlib.Core.Path.{_≡_}
 use Prim.Native.Nat.{_-_, _≤_}
 use lib.ListN.{length}

@@ -1,5 +1,5 @@
--- `closing` meets its contract. The invariant: q rounds lead from each table at entry to where it is, so none of these passed a limit. The
--- measure is what is left of `most`. Assumes nothing.
+-- `closing` meets its contract. The invariant: q rounds lead from each table at entry to where it is, so none of
+-- these passed a limit. The measure is what is left of `most`. Assumes nothing.
 use mathlib.Core.Path.{_≡_, refl}
 use Prim.Native.Nat.{_-_, _≤_}
 use native.Mathlib.Omega.{arith}

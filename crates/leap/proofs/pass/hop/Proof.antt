@@ -1,5 +1,5 @@
--- `hop` meets its contract: where a test fails nothing is altered, which no rounds lead to; where none fails the placed table is where
--- j times p rounds lead, and p more lead from it to what was made of it. Assumes nothing.
+-- `hop` meets its contract: where a test fails nothing is altered, which no rounds lead to; where none fails the
+-- placed table is where j times p rounds lead, and p more lead from it to what was made of it. Assumes nothing.
 use mathlib.Core.Path.{refl}
 use native.Mathlib.Omega.{arith}
 use borrow.Author.Tests.{not-false}

@@ -1,5 +1,5 @@
--- `advance` meets its contract: each turn makes a round that raises within the limits, so it leads on. The invariant: i rounds lead from
--- the table at entry to a. The measure is what is left of p. Assumes nothing.
+-- `advance` meets its contract: each turn makes a round that raises within the limits, so it leads on. The invariant:
+-- i rounds lead from the table at entry to a. The measure is what is left of p. Assumes nothing.
 use mathlib.Core.Path.{_≡_, refl}
 use mathlib.Core.Bool.{false}
 use Prim.Native.Nat.{_-_, _≤_}

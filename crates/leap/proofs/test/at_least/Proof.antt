@@ -1,5 +1,5 @@
--- `at_least` meets its contract. The invariant: every cell of a level below l is known not to be raised by slower ones. The next level is
--- higher, and none is above 10,080: what is left below that is the measure. Assumes nothing.
+-- `at_least` meets its contract. The invariant: every cell of a level below l is known not to be raised by slower
+-- ones. The next level is higher, and none is above 10,080: what is left below that is the measure. Assumes nothing.
 use mathlib.Core.Path.{refl}
 use mathlib.Core.Bool.{false}
 use Prim.Native.Nat.{_*_, _-_, _≤_}
@@ -11,7 +11,7 @@ use Rattle.network.specs.declared.Network.{Network}
 use Rattle.rounds.specs.Compiled.{Compiled}
 use Rattle.rounds.proofs.Usable.{scenarios-in}
 use Rattle.leap.specs.Levels.{Slower}
-use Rattle.leap.proofs.Held.{cell-few}
+use Rattle.leap.proofs.Held.{level-up}
 use Rattle.leap.proofs.Levels.{Lower, lower-start, lower-next}
 use Rattle.leap.proofs.Tested.{next-framed, at-least-of}
 use Rattle.leap.proofs.test.at_least.Statement.{statement}
@@ -51,7 +51,8 @@ returns c =
     let next-level = c .before .before .before .next-level in
     let loop = c .before .before .before .before .loop in
     let pre = c .before .before .before .before .before .before .pre in
-    λ e Γ C. at-least-of C (pre .2) (next-level .ensures) (c .before .before .if1 .taken) (c .before .reached .ensures)
+    λ e Γ C. at-least-of C (pre .2) (next-level .ensures) (c .before .before .if1 .taken)
+    (c .before .reached .ensures)
     (loop .inv .1 Γ C) (pre .4) (c .between .ensures e)
 
 slower-hold-requires : tie.Need-slower-hold-requires Inv-loop μ-loop
@@ -65,22 +66,19 @@ returns-2 c = λ e. clash false e refl
 loop-less : tie.Need-loop-less Inv-loop μ-loop
 loop-less c =
     let if1 = c .before .before .if1 in
-    let next-level = c .before .before .before .next-level in
+    let next = c .before .before .before .next-level .ensures in
     let pre = c .before .before .before .before .before .before .pre in
-    let next = next-level .ensures in
-    let w = next .found (if1 .left) in
-    omega (arith, next .more (if1 .left), w .2, cell-few (pre .2) (scenarios-in (pre .0)) (w .0) (w .1))
+    let up = level-up (pre .2) (scenarios-in (pre .0)) next (if1 .left) in
+    omega (arith, up .0, up .1)
 
 loop-again : tie.Need-loop-again Inv-loop μ-loop
 loop-again c =
     let if1 = c .before .before .if1 in
-    let next-level = c .before .before .before .next-level in
+    let next = c .before .before .before .next-level .ensures in
     let loop = c .before .before .before .before .loop in
     let pre = c .before .before .before .before .before .before .pre in
-    let next = next-level .ensures in
-    let w = next .found (if1 .left) in
     let known = c .before .slower-hold .ensures (not-false _ (c .if2 .left)) in (
-      omega (arith, w .2, cell-few (pre .2) (scenarios-in (pre .0)) (w .0) (w .1)),
+      level-up (pre .2) (scenarios-in (pre .0)) next (if1 .left) .1,
       λ Γ C. lower-next (C .formed .events) (loop .inv .1 Γ C) (known Γ C) (next-framed C next) (if1 .left),
     )
 

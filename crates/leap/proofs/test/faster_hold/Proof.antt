@@ -1,4 +1,5 @@
--- `faster_hold` meets its contract: at the lowest level by the table that is there, at another by one that is made. Assumes nothing.
+-- `faster_hold` meets its contract: at the lowest level by the table that is there, at another by one that is made.
+-- Assumes nothing.
 use native.Mathlib.Omega.{arith}
 use Rattle.rounds.proofs.Usable.{scenarios-in}
 use Rattle.leap.proofs.Tested.{faster-lowest, faster-level}

@@ -1,4 +1,5 @@
--- `slower_hold` meets its contract: at the lowest level there is nothing to show, at another a table is made. Assumes nothing.
+-- `slower_hold` meets its contract: at the lowest level there is nothing to show, at another a table is made. Assumes
+-- nothing.
 use Prim.Native.Nat.{_*_, _≤_}
 use native.Mathlib.Nat.{mul-le-mul}
 use native.Mathlib.Omega.{arith}

@@ -1,5 +1,5 @@
--- The line ends at the first line feed, or is missing where there is none; what stands before it is read as a line of its section.
--- Assumes nothing.
+-- The line ends at the first line feed, or is missing where there is none; what stands before it is read as a line of
+-- its section. Assumes nothing.
 use borrow.Author.Needs.{needs}
 use mathlib.Core.Path.{sym, _∙_}
 use lib.ListN.{take}

@@ -1,5 +1,5 @@
--- `opening::bench::judge_bytes` meets its contract: a count of bytes that is not twice the cells is refused, whether odd or not, and
--- the front of the unpacked table is the minutes. Assumes nothing.
+-- `opening::bench::judge_bytes` meets its contract: a count of bytes that is not twice the cells is refused, whether
+-- odd or not, and the front of the unpacked table is the minutes. Assumes nothing.
 use Rattle.opening.proofs.Bytes.{unpacked-front, unpacked-long, unpacked-sized}
 use mathlib.Core.List.{List}
 use Rattle.checker.specs.Verdict.{verdict}

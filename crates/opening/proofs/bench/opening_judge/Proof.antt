@@ -1,4 +1,5 @@
--- `opening::bench::opening_judge` meets its contract: each verdict has its word and values, which fit their bytes. Assumes nothing.
+-- `opening::bench::opening_judge` meets its contract: each verdict has its word and values, which fit their bytes.
+-- Assumes nothing.
 use mathlib.Core.Path.{_≡_, sym, _∙_, ap}
 use native.Mathlib.Omega.{arith}
 use denote.Ref.{now}

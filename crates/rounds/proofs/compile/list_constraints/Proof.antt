@@ -1,5 +1,5 @@
--- Each turn lists one constraint. The invariant: the first i are listed, and each list has at most two bounds for each (`Listing`).
--- Assumes nothing.
+-- Each turn lists one constraint. The invariant: the first i are listed, and each list has at most two bounds for
+-- each (`Listing`). Assumes nothing.
 use mathlib.Core.Path.{_≡_}
 use Prim.Native.Nat.{_-_, _≤_}
 use native.Mathlib.Omega.{arith}

@@ -1,5 +1,5 @@
--- The invariant: the lines that are left give what all of them give, and the sheet is at its stage (`RowsLeft`). What a line holds is
--- added in place, as `added` says. Assumes nothing.
+-- The invariant: the lines that are left give what all of them give, and the sheet is at its stage (`RowsLeft`). What
+-- a line holds is added in place, as `added` says. Assumes nothing.
 use borrow.Author.Needs.{needs}
 use mathlib.Core.Path.{_≡_, refl, sym, _∙_}
 use mathlib.Core.Logic.{inl, inr}

@@ -1,5 +1,5 @@
--- `at` ends and is safe: i stays at most 12, and the measure is what is left of the twelve lists. The invariant also has that the line
--- feed, which is said behind the loop, is one byte. Assumes nothing.
+-- `at` ends and is safe: i stays at most 12, and the measure is what is left of the twelve lists. The invariant also
+-- has that the line feed, which is said behind the loop, is one byte. Assumes nothing.
 use mathlib.Core.Path.{_≡_}
 use Prim.Native.Nat.{_-_, _≤_}
 use lib.ListN.{length}

@@ -1,5 +1,5 @@
--- `backwards` ends and is safe: p stays at most 4, so 3 - p is a place among the four letters wherever p is below 4, and a letter is put
--- only at a place below 4. The measure is what is left of the four. Assumes nothing.
+-- `backwards` ends and is safe: p stays at most 4, so 3 - p is a place among the four letters wherever p is below 4,
+-- and a letter is put only at a place below 4. The measure is what is left of the four. Assumes nothing.
 use Prim.Native.Nat.{_-_, _≤_}
 use borrow.Author.Needs.{needs}
 use Rattle.trials.proofs.ask.backwards.Statement.{statement}

@@ -1,5 +1,5 @@
--- `said` ends and is safe: i stays at most 4, the length of the list's letters, and is below 4 where one is read. The measure is what is
--- left of the four. Assumes nothing.
+-- `said` ends and is safe: i stays at most 4, the length of the list's letters, and is below 4 where one is read. The
+-- measure is what is left of the four. Assumes nothing.
 use Prim.Native.Nat.{_-_, _≤_}
 use borrow.Author.Needs.{needs}
 use Rattle.trials.proofs.ask.said.Statement.{statement}

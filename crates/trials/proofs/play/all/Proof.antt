@@ -1,5 +1,5 @@
--- `all` ends and is safe: s stays at most 16, and the table that is played keeps its length, by the turns that play a case and by the
--- others. The measure is what is left of the sixteen. Assumes nothing.
+-- `all` ends and is safe: s stays at most 16, and the table that is played keeps its length, by the turns that play a
+-- case and by the others. The measure is what is left of the sixteen. Assumes nothing.
 use mathlib.Core.Path.{_≡_}
 use mathlib.Core.Logic.{⊎-elim}
 use Prim.Native.Nat.{_-_, _≤_}

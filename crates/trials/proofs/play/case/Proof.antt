@@ -1,5 +1,5 @@
--- `case` ends and is safe: the table that is played keeps its length, and the minute is raised only below the horizon, so it stays a u16.
--- The measure is what is left of the minutes up to the horizon. Assumes nothing.
+-- `case` ends and is safe: the table that is played keeps its length, and the minute is raised only below the
+-- horizon, so it stays a u16. The measure is what is left of the minutes up to the horizon. Assumes nothing.
 use mathlib.Core.Path.{_≡_}
 use Prim.Native.Nat.{_-_, _+_}
 use lib.ListN.{length}

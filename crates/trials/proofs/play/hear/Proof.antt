@@ -1,5 +1,5 @@
--- `hear` ends and is safe: p stays at most 4, the length of the letters and of the observations, and is below 4 where they are read. The
--- measure is what is left of the four. Assumes nothing.
+-- `hear` ends and is safe: p stays at most 4, the length of the letters and of the observations, and is below 4 where
+-- they are read. The measure is what is left of the four. Assumes nothing.
 use Prim.Native.Nat.{_-_, _≤_}
 use borrow.Author.Needs.{needs}
 use Rattle.trials.proofs.play.hear.Statement.{statement}

@@ -1,5 +1,5 @@
--- `note_all` ends and is safe: u stays at most 16, and the table keeps its length, by the turns that note an event and by the others.
--- The measure is what is left of the sixteen events. Assumes nothing.
+-- `note_all` ends and is safe: u stays at most 16, and the table keeps its length, by the turns that note an event
+-- and by the others. The measure is what is left of the sixteen events. Assumes nothing.
 use mathlib.Core.Path.{_≡_}
 use mathlib.Core.Logic.{⊎-elim}
 use Prim.Native.Nat.{_-_, _≤_}

@@ -1,5 +1,5 @@
--- `all` ends and is safe: the sheet ends at a byte `=` of the text, so the place behind that line is at most one beyond the text's end.
--- The measure is what is left to there. Assumes nothing.
+-- `all` ends and is safe: the sheet ends at a byte `=` of the text, so the place behind that line is at most one
+-- beyond the text's end. The measure is what is left to there. Assumes nothing.
 use mathlib.Core.Path.{sym}
 use Prim.Native.Nat.{_+_, _-_, _≤_}
 use native.Mathlib.Omega.{arith}

@@ -1,4 +1,5 @@
--- `compare` is safe: the search asks for a well-formed network, and that of a sheet which was accepted is. Assumes nothing.
+-- `compare` is safe: the search asks for a well-formed network, and that of a sheet which was accepted is. Assumes
+-- nothing.
 use denote.Ref.{now}
 use Rattle.opening.proofs.Calls.{well-formed}
 use borrow.Author.Needs.{needs}

@@ -1,5 +1,5 @@
--- `same` ends and is safe: i stays at most n, which was tested to be at most both lengths. The measure is what is left of n. Assumes
--- nothing.
+-- `same` ends and is safe: i stays at most n, which was tested to be at most both lengths. The measure is what is
+-- left of n. Assumes nothing.
 use Prim.Native.Nat.{_-_, _≤_}
 use borrow.Author.Needs.{needs}
 use Rattle.trials.proofs.small.same.Statement.{statement}
