@@ -13,7 +13,7 @@ use Rattle.network.specs.declared.Network.{Network}
 use Rattle.sheet.specs.Reading.{read}
 use Rattle.sheet.specs.declared.Outcome.the-variants.{Accepted}
 use Rattle.layout.specs.Layout.{Layout, textOf}
-use Rattle.layout.proofs.Contains.{Contains}
+use Rattle.layout.specs.Contains.{Contains}
 use Rattle.layout.proofs.Accepted.{accepted-iff, network-contains}
 use Rattle.tighten.specs.Upper.{rowsOf}
 use Rattle.tighten.specs.Tightest.{remaining, remainingOf}

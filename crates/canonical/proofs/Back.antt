@@ -13,7 +13,7 @@ use Rattle.network.specs.Build.{nameOf, observation, constraint, noConstraint}
 use Rattle.network.specs.declared.Constraint.{Constraint}
 use Rattle.network.specs.declared.Network.{Network}
 use Rattle.layout.specs.Layout.{noSignal, noRule}
-use Rattle.layout.proofs.Contains.{lettersOf, Bears, Means, Contains}
+use Rattle.layout.specs.Contains.{lettersOf, Bears, Means, Contains}
 use Rattle.tighten.specs.Upper.{rowsOf}
 use Rattle.tighten.specs.Tightest.{remainingOf}
 use Rattle.tighten.proofs.Rules.{rows-max}

@@ -18,7 +18,7 @@ use Rattle.sheet.specs.Reading.{read}
 use Rattle.sheet.specs.declared.Outcome.the-variants.{Accepted}
 use Rattle.sheet.proofs.WellFormed.{accepted-well-formed}
 use Rattle.layout.specs.Layout.{Signal, Contents, Keeps, noSignal, noRule}
-use Rattle.layout.proofs.Contains.{lettersOf, Contains}
+use Rattle.layout.specs.Contains.{lettersOf, Contains}
 use Rattle.layout.proofs.Finds.{mask-is}
 use Rattle.layout.proofs.KindWords.{defined-passes}
 use Rattle.layout.proofs.Accepted.{accepted-iff, network-contains}

@@ -19,7 +19,7 @@ use Rattle.network.specs.declared.Constraint.{Constraint}
 use Rattle.network.specs.declared.Network.{Network}
 use Rattle.names.proofs.Apart.{Apart}
 use Rattle.layout.specs.Layout.{KeepsRule, Keeps, noRule}
-use Rattle.layout.proofs.Contains.{lettersOf}
+use Rattle.layout.specs.Contains.{lettersOf}
 use Rattle.tighten.specs.Tightest.{remainingOf}
 use Rattle.tighten.proofs.Regular.{rows-regular}
 use Rattle.tighten.proofs.Remains.{remaining-each, remaining-regular, remaining-proper}

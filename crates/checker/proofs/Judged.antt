@@ -33,13 +33,13 @@ some-of-breached (some a) b e = cc
 
 module _ (Γ : Network) (σ : List ℕ) where
   -- the three points, each of all that it speaks of
-  abbrev OnTimes : Type 0
+  abbrev pub OnTimes : Type 0
   OnTimes = (s u : ℕ) → s < scenarios Γ → u < Γ .events → OnTime Γ σ s u
 
-  abbrev Viable : Type 0
+  abbrev pub Viable : Type 0
   Viable = (s c : ℕ) → s < scenarios Γ → c < Γ .rules → Holds Γ σ s (constraint Γ c)
 
-  abbrev Dynamic : Type 0
+  abbrev pub Dynamic : Type 0
   Dynamic = (s r u : ℕ) → s < scenarios Γ → r < scenarios Γ → u < Γ .events → Alike Γ σ s r u
 
   -- the three searches, that of point 3 from one scenario
@@ -60,17 +60,23 @@ module _ (Γ : Network) (σ : List ℕ) where
     λ h. firstBelow-none (unheardFrom Γ σ) (scenarios Γ) λ s l. unheard s .nowhere .1 (λ r u. h s r u l),
   )
 
-  solution-of-pass : length σ ≡ cells Γ → verdict Γ σ ≡ Pass → Solution Γ σ
+  -- a pass keeps the three points
+  pub record Kept : Type 0 where
+    pub on-time : OnTimes
+    pub viable : Viable
+    pub dynamic : Dynamic
+
+  pub kept-of-pass : verdict Γ σ ≡ Pass → Kept
   unfolding verdict
-  solution-of-pass sized e =
+  kept-of-pass e =
       let p = orElse-none (firstLate Γ σ) (orElse (firstBroken Γ σ) (firstUnheard Γ σ)) (none-of-pass (firstBreach Γ σ) e) in
       let q = orElse-none (firstBroken Γ σ) (firstUnheard Γ σ) (p .1) in
-      record {
-        sized = sized;
-        on-time = late .nowhere .0 (p .0);
-        viable = broken .nowhere .0 (q .0);
-        dynamic = none-unheard .0 (q .1);
-      }
+      record { on-time = late .nowhere .0 (p .0); viable = broken .nowhere .0 (q .0); dynamic = none-unheard .0 (q .1) }
+
+  solution-of-pass : length σ ≡ cells Γ → verdict Γ σ ≡ Pass → Solution Γ σ
+  solution-of-pass sized e =
+      let k = kept-of-pass e in
+      record { sized = sized; on-time = k .on-time; viable = k .viable; dynamic = k .dynamic }
 
   pass-of-solution : Solution Γ σ → verdict Γ σ ≡ Pass
   unfolding verdict

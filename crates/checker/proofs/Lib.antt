@@ -3,6 +3,7 @@
 pub mod Points
 pub mod Nested
 pub mod Judged
+pub mod First
 pub mod Examples
 -- Laws of the code's own parts: masks, signed differences, the tests over plain numbers, places in the table,
 -- labelled loops.

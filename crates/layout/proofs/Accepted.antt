@@ -9,7 +9,7 @@ use Rattle.network.specs.declared.Network.{Network}
 use Rattle.sheet.specs.Reading.{Progress, Stop, Go, progress, answered, read}
 use Rattle.sheet.specs.declared.Outcome.the-variants.{Accepted}
 use Rattle.layout.specs.Layout.{Layout}
-use Rattle.layout.proofs.Contains.{Contains}
+use Rattle.layout.specs.Contains.{Contains}
 use Rattle.layout.proofs.Written.{layout-of}
 use Rattle.layout.proofs.Read.{layout-read}
 

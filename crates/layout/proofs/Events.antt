@@ -8,6 +8,7 @@ use borrow.Author.Tests.{eqb-true, not-true}
 use lib.Dec.{eqb}
 use lib.ListN.{length, take, drop}
 use lib.Seq.{take-append-seam}
+use Rattle.prelude.proofs.Checks.{hold, none-fails}
 use Rattle.prelude.specs.Search.{answers}
 use Rattle.prelude.proofs.Tests.{clash, false-of-not-true}
 use Rattle.text.specs.Lines.{lineFeed, field}
@@ -19,10 +20,10 @@ use Rattle.names.specs.Names.{isName}
 use Rattle.line.specs.Rows.{eventOf, eventRefusal, eventRow}
 use Rattle.prelude.specs.Lists.{In, Distinct, Each}
 use Rattle.layout.specs.Layout.{line}
-use Rattle.layout.proofs.Checks.{_&_, hold, none-fails}
+use Rattle.layout.proofs.Checks.{_&_}
 use Rattle.prelude.proofs.Lists.{all-of, each-at, distinct-new}
 use Rattle.layout.proofs.Plain.{plain-name}
-use Rattle.layout.proofs.Contains.{Contains, contents}
+use Rattle.layout.specs.Contains.{Contains, contents}
 use Rattle.layout.proofs.Finds.{event-in, event-answers}
 use Rattle.layout.proofs.Extends.{event-added}
 use Rattle.layout.proofs.Row.{Understood}

@@ -16,7 +16,7 @@ use Rattle.names.specs.Names.{isName}
 use Rattle.prelude.specs.Lists.{In, Distinct, Each}
 use Rattle.layout.specs.Layout.{Signal, Rule, KeepsSignal, KeepsRule, noSignal, noRule}
 use Rattle.prelude.proofs.Lists.{by-place, each-snoc, distinct-snoc}
-use Rattle.layout.proofs.Contains.{lettersOf, eventsOf, Bears, SignalsAre, Means, RulesAre, Contains, contents}
+use Rattle.layout.specs.Contains.{lettersOf, eventsOf, Bears, SignalsAre, Means, RulesAre, Contains, contents}
 
 module _ {A : Type 0} (d : A) where
   no-each : (P : A → Type 0) → Each P [] d

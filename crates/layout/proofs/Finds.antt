@@ -18,7 +18,7 @@ use Rattle.names.specs.Defined.{eventNamed, placeOf, weight, weights, maskOf}
 use Rattle.prelude.specs.Lists.{In, Distinct}
 use Rattle.layout.specs.Layout.{Signal, noSignal}
 use Rattle.layout.proofs.Search.{found, finds}
-use Rattle.layout.proofs.Contains.{lettersOf, eventsOf, Bears, NamesAre, SignalsAre}
+use Rattle.layout.specs.Contains.{lettersOf, eventsOf, Bears, NamesAre, SignalsAre}
 
 -- an event is found by its name
 module _ {sheet : List ℕ} {n : ℕ} {starts lengths : List ℕ} {names : List (List ℕ)} (ns : NamesAre sheet n starts lengths names)

@@ -19,7 +19,7 @@ use Rattle.prelude.specs.Lists.{In, Each}
 use Rattle.layout.specs.Layout.{Signal, kindText}
 use Rattle.layout.proofs.Lines.{plain}
 use Rattle.prelude.proofs.Lists.{each-mono, each-of-every, every-of-each}
-use Rattle.layout.proofs.Contains.{lettersOf, SignalsAre}
+use Rattle.layout.specs.Contains.{lettersOf, SignalsAre}
 use Rattle.layout.proofs.Finds.{letter-in, letter-answers, letter-is}
 
 -- a field is a kind exactly where it is its word

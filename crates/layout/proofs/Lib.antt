@@ -5,7 +5,6 @@ pub mod Plain
 pub mod Numbers
 pub mod Labels
 pub mod Search
-pub mod Contains
 pub mod Finds
 pub mod Extends
 pub mod Row

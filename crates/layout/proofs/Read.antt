@@ -24,7 +24,7 @@ use Rattle.sheet.specs.Reading.{
 }
 use Rattle.layout.specs.Layout.{Signal, Rule, Contents, Keeps, Layout, textOf}
 use Rattle.layout.proofs.Numbers.{magnitude-decimal}
-use Rattle.layout.proofs.Contains.{Contains, contents}
+use Rattle.layout.specs.Contains.{Contains, contents}
 use Rattle.layout.proofs.Extends.{empty-contains}
 use Rattle.layout.proofs.Row.{Reads}
 use Rattle.layout.proofs.Events.{KeptNames, events-understood}

@@ -8,6 +8,7 @@ use Prim.Native.Nat.{ℕ}
 use borrow.Author.Tests.{eqb-true, leb-true}
 use lib.Dec.{eqb, leb}
 use lib.ListN.{length}
+use Rattle.prelude.proofs.Checks.{hold}
 use Rattle.prelude.specs.Search.{answers}
 use Rattle.prelude.specs.Bytes.{distinct}
 use Rattle.prelude.proofs.Tests.{and-true}
@@ -21,11 +22,10 @@ use Rattle.names.specs.Names.{isName, isLabel, labelOf, lettersOf as lettersRea
 use Rattle.names.specs.Defined.{allDefined}
 use Rattle.line.specs.Rows.{eventOf, kindOf, ruleRefusal}
 use Rattle.layout.specs.Layout.{Signal, Rule, KeepsRule, kindText, signedText, labelText}
-use Rattle.layout.proofs.Checks.{hold}
 use Rattle.layout.proofs.Numbers as N
 use Rattle.layout.proofs.Labels.{is-label}
 use Rattle.prelude.proofs.Lists.{all-of, distinct-of-test}
-use Rattle.layout.proofs.Contains.{lettersOf, Contains, contents}
+use Rattle.layout.specs.Contains.{lettersOf, Contains, contents}
 use Rattle.layout.proofs.Finds.{event-in}
 use Rattle.layout.proofs.KindWords.{kind-read, defined-read}
 

@@ -6,6 +6,7 @@ use mathlib.Core.Option.{none, Option·getD}
 use mathlib.Core.List.{List, [], _∷_}
 use Prim.Native.Nat.{ℕ}
 use borrow.Author.Tests.{le-leb}
+use Rattle.prelude.proofs.Checks.{none-fails}
 use Rattle.prelude.specs.Search.{answers}
 use Rattle.prelude.specs.Bytes.{every, distinct}
 use Rattle.prelude.proofs.Tests.{and-both}
@@ -17,13 +18,13 @@ use Rattle.names.specs.Defined.{allDefined, maskOf}
 use Rattle.line.specs.Rows.{eventOf, ruleOf, ruleRefusal, ruleRow}
 use Rattle.prelude.specs.Lists.{In, Each}
 use Rattle.layout.specs.Layout.{Signal, Rule, KeepsRule, noRule, kindText, signedText, labelText}
-use Rattle.layout.proofs.Checks.{_&_, none-fails}
+use Rattle.layout.proofs.Checks.{_&_}
 use Rattle.layout.proofs.Lines.{Plain}
 use Rattle.layout.proofs.Plain.{plain-name}
 use Rattle.layout.proofs.Numbers as N
 use Rattle.layout.proofs.Labels.{labelOf-labelText, isLabel-labelText, plain-labelText}
 use Rattle.prelude.proofs.Lists.{each-at, each-in, test-of-distinct}
-use Rattle.layout.proofs.Contains.{lettersOf, Bears, Means, Contains, contents}
+use Rattle.layout.specs.Contains.{lettersOf, Bears, Means, Contains, contents}
 use Rattle.layout.proofs.Finds.{event-answers, event-found, event-named, mask-is}
 use Rattle.layout.proofs.KindWords.{kind-passes, kind-is, plain-kind, defined-passes, letters-are}
 use Rattle.layout.proofs.Extends.{rule-added}

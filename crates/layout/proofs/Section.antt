@@ -9,6 +9,7 @@ use native.Mathlib.Omega.{arith}
 use borrow.Author.Tests.{eqb-true}
 use lib.Dec.{eqb}
 use lib.ListN.{length, drop, length-map}
+use Rattle.prelude.proofs.Checks.{hold, none-fails}
 use Rattle.prelude.specs.Bytes.{ascii, same, every}
 use Rattle.prelude.proofs.Bytes.{same-true, same-refl}
 use Rattle.prelude.proofs.Tests.{and-true}
@@ -21,7 +22,7 @@ use Rattle.network.specs.declared.Network.{Network}
 use Rattle.line.specs.Rows.{Row, sectionRefusal, sectionCount}
 use Rattle.sheet.specs.Reading.{Progress, Go, readLine, readRows, readSection}
 use Rattle.layout.specs.Layout.{line, lines, section}
-use Rattle.layout.proofs.Checks.{_&_, hold, none-fails}
+use Rattle.layout.proofs.Checks.{_&_}
 use Rattle.layout.proofs.Lines.{plain, lineOf, is-read, line-read}
 use Rattle.layout.proofs.Numbers.{
   isNumber-decimal,

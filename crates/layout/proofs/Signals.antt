@@ -8,6 +8,7 @@ use Prim.Native.Nat.{ℕ, _<_}
 use borrow.Author.Tests.{eqb-true, not-true}
 use lib.Dec.{eqb}
 use lib.ListN.{length, getD}
+use Rattle.prelude.proofs.Checks.{hold, none-fails}
 use Rattle.prelude.specs.Search.{answers}
 use Rattle.prelude.proofs.Tests.{clash, false-of-not-true, and-true, and-both, or-false, or-neither}
 use Rattle.text.specs.Lines.{field}
@@ -20,11 +21,11 @@ use Rattle.names.specs.Defined.{placeOf}
 use Rattle.line.specs.Rows.{eventOf, isObservation, signalRefusal, signalRow}
 use Rattle.prelude.specs.Lists.{In, Distinct, Each}
 use Rattle.layout.specs.Layout.{Signal, KeepsSignal, noSignal}
-use Rattle.layout.proofs.Checks.{_&_, hold, none-fails}
+use Rattle.layout.proofs.Checks.{_&_}
 use Rattle.layout.proofs.Lines.{plain}
 use Rattle.prelude.proofs.Lists.{all-of, each-at, each-in, distinct-new}
 use Rattle.layout.proofs.Plain.{plain-name, plain-letter, one-letter}
-use Rattle.layout.proofs.Contains.{Contains, contents, lettersOf, eventsOf}
+use Rattle.layout.specs.Contains.{Contains, contents, lettersOf, eventsOf}
 use Rattle.layout.proofs.Finds.{
   event-in,
   event-found,

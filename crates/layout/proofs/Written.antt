@@ -17,7 +17,7 @@ use Rattle.network.specs.declared.Network.{Network}
 use Rattle.line.specs.Rows.{sectionCount}
 use Rattle.sheet.specs.Reading.{longest, Go, andThen, readHorizon, readEvents, readSignals, readRules, readEnd, progress}
 use Rattle.layout.specs.Layout.{Signal, Contents, Keeps, Layout, line, kindText}
-use Rattle.layout.proofs.Contains.{Contains, contents}
+use Rattle.layout.specs.Contains.{Contains, contents}
 use Rattle.layout.proofs.Extends.{empty-contains}
 use Rattle.layout.proofs.Row.{stops}
 use Rattle.layout.proofs.Events.{events-understood}

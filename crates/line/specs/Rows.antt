@@ -1,5 +1,5 @@
--- A line of each section, by its fields: why it is refused, if it is, and what it adds to the network (01, The sheet
--- and Refused sheets).
+-- A line of each section, by its fields: its tests in checking order, why it is refused, if it is, and what it adds to
+-- the network (01, The sheet and Refused sheets).
 use mathlib.Core.Bool.{Bool, true, false, _&&_, _||_, not}
 use mathlib.Core.Option.{Option, none, some, Option·getD}
 use mathlib.Core.List.{List, [], _∷_}
@@ -23,14 +23,20 @@ use Rattle.network.specs.declared.Network.{Network}
 use Rattle.names.specs.Names.{isName, isOneLetter, isLabel, labelOf, lettersOf}
 use Rattle.names.specs.Defined.{eventNamed, placeOf, allDefined, maskOf, givesSignal}
 
+-- the tests of a line, each with the cause of its failure
+abbrev pub Tests : Type 0
+Tests = List (Bool × Cause)
+
 -- a section's line: its word, and its count from lo to hi
-unfoldable pub sectionRefusal : String → ℕ → ℕ → List (List ℕ) → Option Cause
-sectionRefusal word lo hi fs =
-    firstFailing
-    ((eqb (length fs) 2 && same (field 0 fs) (ascii word), C.WrongFields)
+abbrev pub sectionTests : String → ℕ → ℕ → List (List ℕ) → Tests
+sectionTests word lo hi fs =
+    (eqb (length fs) 2 && same (field 0 fs) (ascii word), C.WrongFields)
     ∷ (isNumber (field 1 fs), C.IllFormedNumber)
     ∷ (inRange lo hi (field 1 fs), C.OutOfRange)
-    ∷ [])
+    ∷ []
+
+unfoldable pub sectionRefusal : String → ℕ → ℕ → List (List ℕ) → Option Cause
+sectionRefusal word lo hi fs = firstFailing (sectionTests word lo hi fs)
 
 abbrev pub sectionCount : List (List ℕ) → ℕ
 sectionCount fs = magnitude (field 1 fs)
@@ -63,22 +69,23 @@ module _ (sheet : List ℕ) where
   eventOf Γ f = eventNamed sheet (Γ .events) (Γ .starts) (Γ .lengths) f
 
   -- an event name
-  unfoldable pub eventRefusal : Network → List (List ℕ) → Option Cause
-  eventRefusal Γ fs =
-      firstFailing
-      ((eqb (length fs) 1, C.WrongFields)
+  abbrev pub eventTests : Network → List (List ℕ) → Tests
+  eventTests Γ fs =
+      (eqb (length fs) 1, C.WrongFields)
       ∷ (isName (field 0 fs), C.IllFormedName)
       ∷ (not (answers (eventOf Γ (field 0 fs))), C.Duplicate)
-      ∷ [])
+      ∷ []
+
+  unfoldable pub eventRefusal : Network → List (List ℕ) → Option Cause
+  eventRefusal Γ fs = firstFailing (eventTests Γ fs)
 
   abbrev pub eventRow : Row
   eventRow = record { refusal = eventRefusal; add = λ Γ at fs. withEvent Γ at (length (field 0 fs)) }
 
   -- `letter,event`
-  unfoldable pub signalRefusal : Network → List (List ℕ) → Option Cause
-  signalRefusal Γ fs =
-      firstFailing
-      ((eqb (length fs) 2, C.WrongFields)
+  abbrev pub signalTests : Network → List (List ℕ) → Tests
+  signalTests Γ fs =
+      (eqb (length fs) 2, C.WrongFields)
       ∷ (isOneLetter (field 0 fs) && isName (field 1 fs), C.IllFormedName)
       ∷ (
         not (answers (placeOf (Γ .signals) (Γ .letters) (getD (field 0 fs) 0 0))
@@ -86,7 +93,10 @@ module _ (sheet : List ℕ) where
         C.Duplicate,
       )
       ∷ (answers (eventOf Γ (field 1 fs)), C.Undefined)
-      ∷ [])
+      ∷ []
+
+  unfoldable pub signalRefusal : Network → List (List ℕ) → Option Cause
+  signalRefusal Γ fs = firstFailing (signalTests Γ fs)
 
   abbrev pub signalRow : Row
   signalRow = record {
@@ -95,10 +105,9 @@ module _ (sheet : List ℕ) where
   }
 
   -- `kind,from,to,limit,label`
-  unfoldable pub ruleRefusal : Network → List (List ℕ) → Option Cause
-  ruleRefusal Γ fs =
-      firstFailing
-      ((eqb (length fs) 5 && answers (kindOf (field 0 fs)), C.WrongFields)
+  abbrev pub ruleTests : Network → List (List ℕ) → Tests
+  ruleTests Γ fs =
+      (eqb (length fs) 5 && answers (kindOf (field 0 fs)), C.WrongFields)
       ∷ (isNumber (field 3 fs), C.IllFormedNumber)
       ∷ (leb (magnitude (field 3 fs)) L.horizon, C.OutOfRange)
       ∷ (isName (field 1 fs) && (isName (field 2 fs) && isLabel (field 4 fs)), C.IllFormedName)
@@ -108,7 +117,10 @@ module _ (sheet : List ℕ) where
         C.Undefined,
       )
       ∷ (distinct (lettersOf (labelOf (field 4 fs))), C.RepeatedLetter)
-      ∷ [])
+      ∷ []
+
+  unfoldable pub ruleRefusal : Network → List (List ℕ) → Option Cause
+  ruleRefusal Γ fs = firstFailing (ruleTests Γ fs)
 
   abbrev pub ruleOf : Network → List (List ℕ) → Constraint
   ruleOf Γ fs = record {

@@ -3,7 +3,8 @@ use mathlib.Core.List.{List}
 use Prim.Native.Nat.{ℕ}
 use Prim.Native.String.{String}
 use Rattle.network.specs.Limits as L
-use Rattle.line.specs.Rows.{Row, eventRow, signalRow, ruleRow}
+use Rattle.network.specs.declared.Network.{Network}
+use Rattle.line.specs.Rows.{Tests, eventTests, signalTests, ruleTests, Row, eventRow, signalRow, ruleRow}
 use Rattle.line.specs.declared.Section.{Section}
 use Rattle.line.specs.declared.Section.the-variants.{Events, Signals, Rules}
 
@@ -24,3 +25,9 @@ module _ (sheet : List ℕ) where
   rowsOf Events = eventRow sheet
   rowsOf Signals = signalRow sheet
   rowsOf Rules = ruleRow sheet
+
+  -- and their tests
+  abbrev pub testsOf : Section → Network → List (List ℕ) → Tests
+  testsOf Events = eventTests sheet
+  testsOf Signals = signalTests sheet
+  testsOf Rules = ruleTests sheet

@@ -1,4 +1,5 @@
 -- Laws of `specs/`, for the proofs of this crate and of those above. No contract cites them.
 pub mod Truths
 pub mod Listed
+pub mod Short
 pub mod Examples

@@ -145,8 +145,10 @@ module _ (sheet : List ℕ) (g : Reading) (e : g ≡ read sheet) where
         by-end Passes p = unsolved Passes p refl (is .table ∙ rw (p, tableAfter))
         by-end Spent p = unsolved Spent p refl (is .table ∙ rw (p, tableAfter))
 
+    pub listing-right : (t m : List ℕ) → length t ≡ cells (g .network) → written (listing sheet (g .network) t) m ≡ listed sheet t m
+    listing-right t m sized = rw (eq-eqb (length t) (cells (g .network)) sized, listingFor) at (listed-of Accepted a t m)
+
     -- the listing writer's answer is the call's
     pub listing-written : (t m : List ℕ) → length t ≡ cells (g .network) → (x : List ℕ) (w : PD.Written) → WrittenIs (listing sheet (g .network) t) m x w
         → Leaves (listed sheet t m) (handedOut w) x
-    listing-written t m sized x w is =
-        leaves-as (rw (eq-eqb (length t) (cells (g .network)) sized, listingFor) at (listed-of Accepted a t m)) (written-by _ m x w is)
+    listing-written t m sized x w is = leaves-as (listing-right t m sized) (written-by _ m x w is)

@@ -1,38 +1,46 @@
--- The demands hold: each is cited from the crate that proves it. Assumes nothing.
-use mathlib.Core.List.{List}
-use Prim.Native.Nat.{ℕ}
-use Rattle.network.specs.WellFormed.{WellFormed}
+-- The demands hold: each is cited from where it is proved. Assumes nothing.
 use Rattle.network.specs.declared.Network.{Network}
-use Rattle.sheet.proofs.WellFormed.{accepted-well-formed}
-use Rattle.layout.proofs.Accepted.{accepted-iff}
-use Rattle.checker.proofs.Judged.{judged, breach-first}
+use Rattle.sheet.proofs.Fault.{refused-iff}
+use Rattle.layout.proofs.Accepted.{accepted-iff, network-contains}
+use Rattle.checker.proofs.Judged.{judged}
+use Rattle.checker.proofs.First.{breach-iff}
 use Rattle.solver.specs.Solve.{solve}
 use Rattle.rounds.proofs.Hyperarcs.{hyperarcs-agree}
 use Rattle.solver.proofs.Least.{solve-least, solve-none}
-use Rattle.opening.specs.Demands.{Reads, Demands}
-use Rattle.opening.proofs.Promises.{solving-keeps, listing-keeps, bench-keeps, judges, refuses, solves}
-
--- the network of an accepted sheet is well-formed
-pub reads-well-formed : {sheet : List ℕ} {Γ : Network} → Reads sheet Γ → WellFormed Γ
-reads-well-formed {sheet} r = rw (← r .network) (accepted-well-formed sheet (r .accepted) .0)
+use Rattle.opening.specs.Answers.{Reads}
+use Rattle.opening.specs.Demands.{Demands}
+use Rattle.opening.proofs.Promises.{reads-well-formed, solving-keeps, listing-keeps, bench-keeps}
+use Rattle.opening.proofs.InNumbers.{passes, breaches, refuses-13, solves-done, bench-passes, bench-breaches, bench-refuses-13, bench-solves}
+use Rattle.opening.proofs.Header.{header-judge, header-solver}
+use Rattle.opening.proofs.Numbers.{numbers}
 
 pub demands : Demands
 demands = record {
+  numbers = numbers;
   solving-keeps = solving-keeps;
   listing-keeps = listing-keeps;
   bench-keeps = bench-keeps;
   counted = λ sheet Γ r. rw (← r .network, r .accepted);
-  turned-away = λ sheet r e. rw e;
+  turned-away = λ sheet r f. rw (refused-iff sheet r .1 f);
   accepted = accepted-iff;
+  contains = λ sheet Γ r l. rw (← r .network) (network-contains sheet l);
+  at-fault = refused-iff;
   judged = λ sheet σ Γ r l. judged Γ σ l;
-  breach-first = λ sheet σ Γ b r e. breach-first Γ σ b e;
+  breach-first = λ sheet σ Γ b r. breach-iff Γ σ b;
   agree = λ sheet σ Γ r. hyperarcs-agree Γ σ (reads-well-formed r);
   least = λ sheet Γ r e. solve-least Γ (reads-well-formed r) e;
   none = λ sheet Γ r. (
     λ n. solve-none Γ (reads-well-formed r) n,
     λ i e. i .none (solve Γ .reached) (solve-least Γ (reads-well-formed r) e .solves),
   );
-  passes = λ sheet t Γ r. rw (← r .network) (judges sheet (r .accepted) t);
-  refused = λ sheet m Γ r. rw (← r .network) (λ h. refuses sheet (r .accepted) m h);
-  solved = λ sheet m Γ r. rw (← r .network) (λ h. solves sheet (r .accepted) m h);
+  passes = λ sheet t Γ r. rw (← r .network) (passes sheet (r .accepted) t);
+  breaches = λ sheet t Γ b r. rw (← r .network) (breaches sheet (r .accepted) t b);
+  refused = λ sheet m Γ r. rw (← r .network) (λ h. refuses-13 sheet (r .accepted) m h);
+  solved = λ sheet m Γ r. rw (← r .network) (λ h. solves-done sheet (r .accepted) m h);
+  bench-passes = λ sheet b Γ r. rw (← r .network) (bench-passes sheet (r .accepted) b);
+  bench-breaches = λ sheet b Γ x r. rw (← r .network) (bench-breaches sheet (r .accepted) b x);
+  bench-refused = λ sheet b Γ r. rw (← r .network) (bench-refuses-13 sheet (r .accepted) b);
+  bench-solved = λ sheet b Γ r. rw (← r .network) (bench-solves sheet (r .accepted) b);
+  header-judge = header-judge;
+  header-solver = header-solver;
 }

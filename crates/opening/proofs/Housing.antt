@@ -26,16 +26,17 @@ use Rattle.canonical.specs.House.{houseText}
 use Rattle.canonical.specs.Same.{Same}
 use Rattle.canonical.proofs.Again.{form-accepted, form-again, form-few, form-tables}
 use Rattle.canonical.proofs.Forms.{forms-equal}
-use Rattle.opening.specs.Calls.{withoutLine, WrittenValues, writtenValues, Left, kept, written, houseFor, housed}
-use Rattle.opening.specs.Demands.{Reads, Keeps}
-use Rattle.opening.specs.Housing.{Form, answer, refusedAs, wrote, SameTables, Housing}
+use Rattle.opening.specs.Values.{Values, done, refusedAs}
+use Rattle.opening.specs.Calls.{withoutLine, writtenValues, Left, kept, written, houseFor, housed}
+use Rattle.opening.specs.Answers.{Reads, Keeps}
+use Rattle.opening.specs.Housing.{Form, answer, SameTables, Housing}
 use Rattle.opening.specs.declared.Written.the-variants as W
 use Rattle.opening.proofs.Calls.{written-room}
 use Rattle.opening.proofs.Promises.{kept-keeps, written-keeps}
-use Rattle.opening.proofs.Demands.{reads-well-formed}
+use Rattle.opening.proofs.Promises.{reads-well-formed}
 use Rattle.opening.proofs.House.{house-many, house-few}
 
-abbrev number-of : WrittenValues → ℕ
+abbrev number-of : Values ℕ → ℕ
 number-of v = v .number
 
 keeps : (sheet m : List ℕ) → Keeps (housed sheet m) m
@@ -59,10 +60,10 @@ refused : (sheet m : List ℕ) (r : Refusal) → read sheet .outcome ≡ Refused
 refused sheet m r e = rw e
 
 -- the answer to a text, by whether there is room for it
-room-values : (text m : List ℕ) → length text ≤ length m → writtenValues (written text m .answer) ≡ wrote (length text)
+pub room-values : (text m : List ℕ) → length text ≤ length m → writtenValues (written text m .answer) ≡ done (length text)
 room-values text m h = ap (λ (l : Left). writtenValues (l .answer)) (written-room text m h)
 
-short-values : (text m : List ℕ) → length m < length text → writtenValues (written text m .answer) ≡ refusedAs 12
+pub short-values : (text m : List ℕ) → length m < length text → writtenValues (written text m .answer) ≡ refusedAs 12
 short-values text m h = rw (lt-leb (length text) (length m) h, written)
 
 module _ (sheet m : List ℕ) (Γ : Network) (reads : Reads sheet Γ) where
@@ -108,7 +109,7 @@ module _ (sheet m f : List ℕ) (Γ : Network) (form : Form sheet Γ f) where
     λ l. as-form ∙ short-values f m l,
   )
 
-  all-written : length f ≤ length m → (answer sheet m ≡ wrote (length f)) × (housed sheet m .memory ≡ f ++ drop (length f) m)
+  all-written : length f ≤ length m → (answer sheet m ≡ done (length f)) × (housed sheet m .memory ≡ f ++ drop (length f) m)
   all-written l = (
     as-form ∙ room-values f m l,
     ap (λ (l : Left). l .memory) (sym (few sheet m Γ (form .reads) (le-leb (length (remainingOf Γ)) L.rules (form .few))))
@@ -137,7 +138,7 @@ again =
     ))
 
 second-pass : (sheet f m : List ℕ) (Γ : Network) → Form sheet Γ f → length f ≤ length m
-    → (answer f m ≡ wrote (length f)) × (housed f m .memory ≡ f ++ drop (length f) m)
+    → (answer f m ≡ done (length f)) × (housed f m .memory ≡ f ++ drop (length f) m)
 second-pass sheet f m Γ form l = let own = again sheet f Γ form in all-written f m f (own .0) (own .1) l
 
 tables : (sheet f : List ℕ) (Γ Δ : Network) → Form sheet Γ f → Reads f Δ → SameTables Γ Δ

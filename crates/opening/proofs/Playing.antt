@@ -35,17 +35,18 @@ use Rattle.dispatch.proofs.Alike.{indistinct-comm, indistinct-history, indistin
 use Rattle.dispatch.proofs.Answers.{due-misnamed, due-never, due-history}
 use Rattle.dispatch.proofs.HistoryOf.{history-of}
 use Rattle.opening.specs.Calls.{withoutLine}
-use Rattle.opening.specs.Demands.{Reads}
-use Rattle.opening.specs.Play.{answerTo, playedFor, eventsDue, DueValues, dueValues}
-use Rattle.opening.specs.Playing.{RowAt, refusedAs, answer, Plays, Playing}
+use Rattle.opening.specs.Answers.{Reads}
+use Rattle.opening.specs.Values.{Values, refusedAs}
+use Rattle.opening.specs.Play.{answerTo, playedFor, eventsDue, dueValues}
+use Rattle.opening.specs.Playing.{RowAt, answer, Plays, Playing}
 use Rattle.opening.specs.declared.Due.the-variants as D
 use Rattle.opening.specs.declared.Judgement.{Judgement}
 use Rattle.opening.specs.declared.Judgement.the-variants as J
 use Rattle.opening.proofs.Calls.{judged-wrong, judged-as}
 use Rattle.opening.proofs.Play.{lettered}
-use Rattle.opening.proofs.Demands.{reads-well-formed}
+use Rattle.opening.proofs.Promises.{reads-well-formed}
 
-abbrev number-of : DueValues → ℕ
+abbrev number-of : Values ℕ → ℕ
 number-of v = v .number
 
 -- what is answered with 15, and with 16
@@ -66,7 +67,7 @@ no-less n P.Misnamed a b q = let z : _≡_ {A = ℕ} 15 n = ap number-of q in om
 no-less n P.NeverHeard a b q = let z : _≡_ {A = ℕ} 16 n = ap number-of q in omega arith
 
 -- a table of the right length is judged, and then played
-played-at : (sheet t : List ℕ) → read sheet .outcome ≡ Accepted → length t ≡ cells (read sheet .network)
+pub played-at : (sheet t : List ℕ) → read sheet .outcome ≡ Accepted → length t ≡ cells (read sheet .network)
     → (m : ℕ) (hs : List Heard) (w : Verdict) → w ≡ verdict (read sheet .network) t
     → eventsDue sheet t m hs ≡ playedFor (J.Judged w) (due (read sheet .network) t m hs)
 unfolding eventsDue
@@ -74,7 +75,7 @@ played-at sheet t a sized m hs w p =
     ap (λ (j : Judgement). playedFor j (due (read sheet .network) t m hs)) (sym (ap J.Judged p ∙ judged-as sheet (read sheet) refl a t sized))
 
 -- one of another length is refused
-wrong-at : (sheet t : List ℕ) → read sheet .outcome ≡ Accepted → (length t ≡ cells (read sheet .network) → ⊥) → (m : ℕ) (hs : List Heard)
+pub wrong-at : (sheet t : List ℕ) → read sheet .outcome ≡ Accepted → (length t ≡ cells (read sheet .network) → ⊥) → (m : ℕ) (hs : List Heard)
     → eventsDue sheet t m hs ≡ D.Refused (withoutLine WrongTableLength)
 unfolding eventsDue
 wrong-at sheet t a n m hs =
@@ -146,10 +147,10 @@ module _ (sheet t : List ℕ) (Γ : Network) (reads : Reads sheet Γ) where
 
     heard : (m s p : ℕ) → s < scenarios Γ → p < Γ .signals
         → (known Γ t s p m ≡ true)
-        ↔ ((i : ℕ) × (i + reaction Γ p ≤ m) × (truth (answer sheet t i (historyOf Γ t i s) .events) (observation Γ p) ≡ true))
+        ↔ ((i : ℕ) × (i + reaction Γ p ≤ m) × (truth (answer sheet t i (historyOf Γ t i s) .value) (observation Γ p) ≡ true))
     heard m s p h l =
         let o = observation Γ p in
-        let told : (i : ℕ) → truth (answer sheet t i (historyOf Γ t i s) .events) o ≡ eqb (at s o) i =
+        let told : (i : ℕ) → truth (answer sheet t i (historyOf Γ t i s) .value) o ≡ eqb (at s o) i =
         λ i. row-at i (historyOf Γ t i s) s h (own i s) .each o (wf .observed p l) in (
           λ k. (at s o, from-known Γ t s p m k, told (at s o) ∙ eq-eqb (at s o) (at s o) refl),
           λ w.
@@ -190,7 +191,7 @@ module _ (sheet t : List ℕ) (Γ : Network) (reads : Reads sheet Γ) where
       );
     }
 
-refused : (sheet t : List ℕ) (m : ℕ) (hs : List Heard) (r : Refusal) → read sheet .outcome ≡ Refused r
+pub refused : (sheet t : List ℕ) (m : ℕ) (hs : List Heard) (r : Refusal) → read sheet .outcome ≡ Refused r
     → eventsDue sheet t m hs ≡ D.Refused r
 unfolding eventsDue
 refused sheet t m hs r e = rw e

@@ -30,13 +30,17 @@ use Rattle.solver.proofs.Least.{solve-least, solve-none}
 use Rattle.listing.specs.Listing.{listing}
 use Rattle.opening.specs.Calls.{withoutLine, judgement, Left, kept, written, solvedFor, solvingFor, solving, listingFor, listed}
 use Rattle.opening.specs.Bench.{pairsAfter, benchSolving}
-use Rattle.opening.specs.Demands.{Keeps}
+use Rattle.opening.specs.Answers.{Reads, Keeps}
 use Rattle.opening.specs.declared.Judgement.{Judgement}
 use Rattle.opening.specs.declared.Judgement.the-variants as J
 use Rattle.opening.specs.declared.Written.{Written}
 use Rattle.opening.specs.declared.Written.the-variants as W
 use Rattle.pairs.specs.Pairs.{minutesOf}
 use Rattle.opening.proofs.Calls.{written-room, judged-as, solving-room}
+
+-- the network of an accepted sheet is well-formed
+pub reads-well-formed : {sheet : List ℕ} {Γ : Network} → Reads sheet Γ → WellFormed Γ
+reads-well-formed {sheet} r = rw (← r .network) (accepted-well-formed sheet (r .accepted) .0)
 
 -- counts and refusals are told apart
 counted-not-refused {ℓ} : {A : Type ℓ} (n : ℕ) (x : Refusal) → W.Count n ≡ W.Refused x → A

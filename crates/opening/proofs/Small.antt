@@ -29,20 +29,21 @@ use Rattle.checker.proofs.Judged.{breach-first}
 use Rattle.solver.specs.Solve.{solve}
 use Rattle.solver.proofs.Least.{solve-least}
 use Rattle.opening.specs.Calls.{withoutLine, judgementFor, judgement, Left, kept, solvedFor, solvingFor, solving}
-use Rattle.opening.specs.Bench.{benchJudgementFor, benchJudgement, Values, verdictValues, breachValues}
+use Rattle.opening.specs.Values.{Values}
+use Rattle.opening.specs.Bench.{benchJudgementFor, benchJudgement, Said, verdictValues, breachValues}
 use Rattle.opening.specs.declared.Judgement.{Judgement}
 use Rattle.opening.specs.declared.Judgement.the-variants as J
 use Rattle.opening.specs.declared.Written.the-variants as W
 use Rattle.opening.proofs.Bytes.{cells-few}
 
 -- each value of an answer fits its bytes
-pub record Small (v : Values) : Type 0 where
+pub record Small (v : Values Said) : Type 0 where
   pub number : v .number < 256
   pub line : v .line < 65536
-  pub word : v .word < 4
-  pub first : v .first < 256
-  pub second : v .second < 256
-  pub third : v .third < 256
+  pub word : v .value .word < 4
+  pub first : v .value .first < 256
+  pub second : v .value .second < 256
+  pub third : v .value .third < 256
 
 scenarios-few : {Γ : Network} → WellFormed Γ → scenarios Γ ≤ 16
 scenarios-few {Γ} w = pow-mono {i = Γ .signals} {j = 4} (w .signals)

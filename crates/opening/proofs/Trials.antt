@@ -134,7 +134,7 @@ abbrev allAnswered : List Question → Bool
 allAnswered [] = true
 allAnswered (q ∷ qs) =
     let v = dueValues (eventsDue first (q .table) (q .minute) (q .list)) in
-    (eqb (v .number) (q .number) && (eqb (v .line) 0 && eqb (v .events) (q .events))) && allAnswered qs
+    (eqb (v .number) (q .number) && (eqb (v .line) 0 && eqb (v .value) (q .events))) && allAnswered qs
 
 pub questions-answered : allAnswered questions ≡ true
 unfolding isNumber inRange satisfies covers reaction sectionRefusal eventRefusal signalRefusal ruleRefusal progress verdict due eventsDue

@@ -8,7 +8,6 @@ use Prim.Native.Nat.{ℕ, _+_, _*_, _%_}
 use lib.Dec.{eqb}
 use lib.ListN.{length, take, drop}
 use Rattle.pairs.specs.Pairs.{minutesOf, bytesOf}
-use Rattle.refusal.specs.Refusal.{numberOf}
 use Rattle.refusal.specs.declared.Cause.the-variants.{WrongTableLength}
 use Rattle.refusal.specs.declared.Refusal.{Refusal}
 use Rattle.sheet.specs.Reading.{read}
@@ -18,7 +17,8 @@ use Rattle.checker.specs.declared.Breach.{Breach}
 use Rattle.checker.specs.declared.Breach.the-variants.{Late, Rule, Unheard}
 use Rattle.checker.specs.declared.Verdict.{Verdict}
 use Rattle.checker.specs.declared.Verdict.the-variants.{Pass, Breach as Breached}
-use Rattle.opening.specs.Calls.{withoutLine, judgement, WrittenValues, writtenValues, Left, solving}
+use Rattle.opening.specs.Calls.{withoutLine, judgement, writtenValues, Left, solving}
+use Rattle.opening.specs.Values.{Values, done, turnedAway}
 use Rattle.opening.specs.declared.Judgement.{Judgement}
 use Rattle.opening.specs.declared.Judgement.the-variants as J
 use Rattle.opening.specs.declared.Written.{Written}
@@ -46,43 +46,51 @@ benchSolving sheet b =
     let l = solving sheet (minutesOf b) in
     record { answer = l .answer; memory = pairsAfter (l .answer) (l .memory) b }
 
--- document 01's number, line, word and values of an answer: word 0 is a pass, 1 Late with case and event, 2 Rule with
--- case and rule, 3 Unheard with both cases and the event
-pub record Values : Type 0 where
-  pub number : ℕ
-  pub line : ℕ
+-- the values of a verdict: word 0 is a pass, 1 Late with case and event, 2 Rule with case and rule, 3 Unheard with both
+-- cases and the event
+pub record Said : Type 0 where
   pub word : ℕ
   pub first : ℕ
   pub second : ℕ
   pub third : ℕ
 
-abbrev pub refused : Refusal → Values
-refused r = record { number = numberOf (r .cause); line = r .line; word = 0; first = 0; second = 0; third = 0 }
+abbrev pub said : ℕ → ℕ → ℕ → ℕ → Said
+said w a b c = record { word = w; first = a; second = b; third = c }
 
-abbrev pub judged : ℕ → ℕ → ℕ → ℕ → Values
-judged w a b c = record { number = 0; line = 0; word = w; first = a; second = b; third = c }
+abbrev pub refused : Refusal → Values Said
+refused r = turnedAway (said 0 0 0 0) r
 
-abbrev pub breachValues : Breach → Values
+abbrev pub judged : ℕ → ℕ → ℕ → ℕ → Values Said
+judged w a b c = done (said w a b c)
+
+abbrev pub passed : Values Said
+passed = judged 0 0 0 0
+
+abbrev pub breachValues : Breach → Values Said
 breachValues (Late s u) = judged 1 s u 0
 breachValues (Rule s c) = judged 2 s c 0
 breachValues (Unheard s r u) = judged 3 s r u
 
-abbrev pub verdictValues : Verdict → Values
-verdictValues Pass = judged 0 0 0 0
+abbrev pub verdictValues : Verdict → Values Said
+verdictValues Pass = passed
 verdictValues (Breached b) = breachValues b
 
-abbrev pub judgementValues : Judgement → Values
+abbrev pub judgementValues : Judgement → Values Said
 judgementValues (J.Judged v) = verdictValues v
 judgementValues (J.Refused r) = refused r
 
 -- the judge's answer for C, lowest byte first: number, line (two bytes), word, three values
-abbrev pub packed : Values → ℕ
+abbrev pub packed : Values Said → ℕ
 packed v =
-    v .number + 256 * (v .line + 65536 * (v .word + 256 * (v .first + 256 * (v .second + 256 * v .third))))
+    let x = v .value in
+    v .number + 256 * (v .line + 65536 * (x .word + 256 * (x .first + 256 * (x .second + 256 * x .third))))
 
 -- the solver's: number, line (two bytes), count of minutes (two bytes)
+abbrev pub packedCount : Values ℕ → ℕ
+packedCount v = v .number + 256 * (v .line + 65536 * v .value)
+
 abbrev pub packedWritten : Written → ℕ
-packedWritten a = let v = writtenValues a in v .number + 256 * (v .line + 65536 * v .count)
+packedWritten a = packedCount (writtenValues a)
 
 -- the promise of the solver's call: the number, and the bytes as it returns
 pub record BenchLeaves (l : Left) (r : ℕ) (b : List ℕ) : Type 0 where

@@ -9,7 +9,7 @@ use lib.Dec.{eqb, leb}
 use lib.ListN.{length, drop}
 use Rattle.page.specs.declared.Written as PD
 use Rattle.page.specs.declared.Written.the-variants as PW
-use Rattle.refusal.specs.Refusal.{numberOf, refusal}
+use Rattle.refusal.specs.Refusal.{refusal}
 use Rattle.refusal.specs.declared.Cause.{Cause}
 use Rattle.refusal.specs.declared.Refusal.{Refusal}
 use Rattle.refusal.specs.declared.Cause.the-variants.{WrongTableLength, BufferTooShort, Inconsistent, TooManyRows}
@@ -26,6 +26,7 @@ use Rattle.solver.specs.Solve.{solve}
 use Rattle.listing.specs.Listing.{listing}
 use Rattle.tighten.specs.Tightest.{remainingOf}
 use Rattle.canonical.specs.House.{houseText}
+use Rattle.opening.specs.Values.{Values, done, turnedAway}
 use Rattle.opening.specs.declared.Counts.{Counts}
 use Rattle.opening.specs.declared.Summary.{Summary}
 use Rattle.opening.specs.declared.Summary.the-variants as S
@@ -49,19 +50,13 @@ summaryFor Γ (Refused r) = S.Refused r
 abbrev pub summary : List ℕ → Summary
 summary sheet = summaryFor (read sheet .network) (read sheet .outcome)
 
--- the number, the line and the values of an answer: the horizon and the counts with 0 and 0, or a refusal's number
--- and line with none
-pub record SummaryValues : Type 0 where
-  pub number : ℕ
-  pub line : ℕ
-  pub counts : Counts
-
+-- the values of an answer: the horizon and the counts
 abbrev pub noCounts : Counts
 noCounts = record { horizon = 0; events = 0; signals = 0; rules = 0 }
 
-abbrev pub summaryValues : Summary → SummaryValues
-summaryValues (S.Accepted c) = record { number = 0; line = 0; counts = c }
-summaryValues (S.Refused r) = record { number = numberOf (r .cause); line = r .line; counts = noCounts }
+abbrev pub summaryValues : Summary → Values Counts
+summaryValues (S.Accepted c) = done c
+summaryValues (S.Refused r) = turnedAway noCounts r
 
 -- judging: "A table handed in has not exactly n × 2^k numbers" is 11
 abbrev pub judgementFor : Network → Outcome → List ℕ → Judgement
@@ -80,16 +75,10 @@ pub record Left : Type 0 where
   pub answer : Written
   pub memory : List ℕ
 
--- the number, the line and the value of an answer: what was written is counted with 0 and 0, and a refusal's number
--- and line stand with 0
-pub record WrittenValues : Type 0 where
-  pub number : ℕ
-  pub line : ℕ
-  pub count : ℕ
-
-abbrev pub writtenValues : Written → WrittenValues
-writtenValues (W.Count n) = record { number = 0; line = 0; count = n }
-writtenValues (W.Refused r) = record { number = numberOf (r .cause); line = r .line; count = 0 }
+-- the value of an answer: how much was written
+abbrev pub writtenValues : Written → Values ℕ
+writtenValues (W.Count n) = done n
+writtenValues (W.Refused r) = turnedAway 0 r
 
 -- the promise of a call that writes: its answer, and the lent memory as it returns
 pub record Leaves (l : Left) (r : Written) (m : List ℕ) : Type 0 where

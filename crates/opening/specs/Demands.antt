@@ -1,13 +1,12 @@
 -- The three demands, as statements about every sheet, table and lent buffer. They speak of the definitions that the
 -- calls' contracts are equations with: `summary`, `judgement`, `solving` and `listed` (Calls), `benchJudgement` and
--- `benchSolving` (Bench).
+-- `benchSolving` (Bench), and of their answers in the papers' numbers.
 use mathlib.Core.Path.{_≡_}
 use mathlib.Core.Logic.{_↔_}
 use mathlib.Core.List.{List, _++_}
-use Prim.Native.Nat.{ℕ, _≤_}
+use Prim.Native.Nat.{ℕ, _*_, _/_, _≤_}
 use lib.ListN.{length, drop}
-use Rattle.refusal.specs.Refusal.{numberOf}
-use Rattle.refusal.specs.declared.Cause.the-variants.{Inconsistent}
+use Rattle.pairs.specs.Pairs.{minutesOf, bytesOf}
 use Rattle.refusal.specs.declared.Refusal.{Refusal}
 use Rattle.fixpoint.specs.Run.{Rests}
 use Rattle.network.specs.Build.{cells}
@@ -16,44 +15,43 @@ use Rattle.network.specs.Least.{Least}
 use Rattle.network.specs.Least as L
 use Rattle.network.specs.declared.Network.{Network}
 use Rattle.sheet.specs.Reading.{read}
+use Rattle.sheet.specs.Fault.{Fault}
 use Rattle.sheet.specs.declared.Outcome.the-variants.{Accepted, Refused}
 use Rattle.layout.specs.Layout.{Layout}
+use Rattle.layout.specs.Contains.{Contains}
 use Rattle.checker.specs.Verdict.{verdict}
 use Rattle.checker.specs.First.{First}
 use Rattle.checker.specs.declared.Breach.{Breach}
 use Rattle.checker.specs.declared.Verdict.the-variants.{Pass, Breach as Breached}
 use Rattle.rounds.specs.Hyperarcs.{Dynamic, Hyperarcs}
 use Rattle.solver.specs.Solve.{solve}
-use Rattle.opening.specs.Calls.{withoutLine, countsOf, summary, noCounts, summaryValues, judgement, Left, solving, listed}
-use Rattle.opening.specs.Bench.{benchSolving}
-use Rattle.opening.specs.declared.Judgement.the-variants as J
-use Rattle.opening.specs.declared.Written.the-variants as W
-
--- the sheet keeps every rule of its layout, and its network is Γ
-pub record Reads (sheet : List ℕ) (Γ : Network) : Type 0 where
-  pub accepted : read sheet .outcome ≡ Accepted
-  pub network : read sheet .network ≡ Γ
-
--- a call that refuses leaves the lent memory as it was
-pub record Keeps (l : Left) (m : List ℕ) : Type 0 where
-  pub kept : (x : Refusal) → l .answer ≡ W.Refused x → l .memory ≡ m
+use Rattle.opening.specs.Values.{done, turnedAway, refusedAs}
+use Rattle.opening.specs.Calls.{countsOf, summary, noCounts, summaryValues, judgement, writtenValues, Left, solving, listed}
+use Rattle.opening.specs.Bench.{benchJudgement, benchSolving, passed, breachValues, judgementValues, packed, packedWritten}
+use Rattle.opening.specs.Header.{JudgeHolds, SolverHolds}
+use Rattle.opening.specs.Answers.{Reads, Keeps}
+use Rattle.opening.specs.Numbers.{Numbers}
 
 pub record Demands : Type 0 where
-  -- demand 1: every call has one of its defined answers, by its contract; "a refusal leaves each lent buffer unaltered"
+  -- demand 1: every call has one of its defined answers, by its contract; which numbers and lines these are; "a refusal
+  -- leaves each lent buffer unaltered"
+  pub numbers : Numbers
   pub solving-keeps : (sheet m : List ℕ) → Keeps (solving sheet m) m
   pub listing-keeps : (sheet t m : List ℕ) → Keeps (listed sheet t m) m
   pub bench-keeps : (sheet b : List ℕ) → Keeps (benchSolving sheet b) b
   -- of the reader's call: the counts of an accepted sheet, or the number and the line of its refusal
-  pub counted : (sheet : List ℕ) (Γ : Network) → Reads sheet Γ
-      → summaryValues (summary sheet) ≡ record { number = 0; line = 0; counts = countsOf Γ }
-  pub turned-away : (sheet : List ℕ) (r : Refusal) → read sheet .outcome ≡ Refused r
-      → summaryValues (summary sheet) ≡ record { number = numberOf (r .cause); line = r .line; counts = noCounts }
+  pub counted : (sheet : List ℕ) (Γ : Network) → Reads sheet Γ → summaryValues (summary sheet) ≡ done (countsOf Γ)
+  pub turned-away : (sheet : List ℕ) (r : Refusal) → Fault sheet r → summaryValues (summary sheet) ≡ turnedAway noCounts r
   -- demand 2: "A sheet is accepted when it keeps every rule of its layout, otherwise refused"
   pub accepted : (sheet : List ℕ) → (read sheet .outcome ≡ Accepted) ↔ Layout sheet
+  -- its network holds what it contains: ends, limits and labels of the rules as they are written
+  pub contains : (sheet : List ℕ) (Γ : Network) → Reads sheet Γ → (l : Layout sheet) → Contains sheet Γ (l .contents)
+  -- and it is refused with its first line at fault, on which the first test that fails decides
+  pub at-fault : (sheet : List ℕ) (r : Refusal) → (read sheet .outcome ≡ Refused r) ↔ Fault sheet r
   -- "The judge passes a table for an accepted sheet exactly when the three points of a good table hold"
   pub judged : (sheet σ : List ℕ) (Γ : Network) → Reads sheet Γ → length σ ≡ cells Γ → (verdict Γ σ ≡ Pass) ↔ Solution Γ σ
-  -- and a breach that it names is the first in document 01's order
-  pub breach-first : (sheet σ : List ℕ) (Γ : Network) (b : Breach) → Reads sheet Γ → verdict Γ σ ≡ Breached b → First Γ σ b
+  -- and it names a breach exactly where that is the first in document 01's order
+  pub breach-first : (sheet σ : List ℕ) (Γ : Network) (b : Breach) → Reads sheet Γ → (verdict Γ σ ≡ Breached b) ↔ First Γ σ b
   -- point 3 and the hyperarcs agree
   pub agree : (sheet σ : List ℕ) (Γ : Network) → Reads sheet Γ → Dynamic Γ σ ↔ Hyperarcs Γ σ
   -- demand 3: the run ends in "a good table in which each event, in each case, is no later than in any other good
@@ -62,12 +60,28 @@ pub record Demands : Type 0 where
   -- or at none, "exactly when the sheet has no good table"
   pub none : (sheet : List ℕ) (Γ : Network) → Reads sheet Γ → (solve Γ .end ≡ Rests → ⊥) ↔ L.Inconsistent Γ
   -- of the judge's call: it passes a table for an accepted sheet exactly when it is a good table
-  pub passes : (sheet t : List ℕ) (Γ : Network) → Reads sheet Γ → (judgement sheet t ≡ J.Judged Pass) ↔ Solution Γ t
-  -- demand 3, of the solver's call: "for every accepted sheet and lent table long enough, the program refuses with
-  -- \"no table\" exactly when the sheet has no good table"
+  pub passes : (sheet t : List ℕ) (Γ : Network) → Reads sheet Γ → (judgementValues (judgement sheet t) ≡ passed) ↔ Solution Γ t
+  -- and of a table of the right length it tells the first breach
+  pub breaches : (sheet t : List ℕ) (Γ : Network) (b : Breach) → Reads sheet Γ → length t ≡ cells Γ
+      → (judgementValues (judgement sheet t) ≡ breachValues b) ↔ First Γ t b
+  -- demand 3, of the solver's call: "for every accepted sheet and lent table long enough, the program refuses with \"no
+  -- table\" exactly when the sheet has no good table"
   pub refused : (sheet m : List ℕ) (Γ : Network) → Reads sheet Γ → cells Γ ≤ length m
-      → (solving sheet m .answer ≡ W.Refused (withoutLine Inconsistent)) ↔ L.Inconsistent Γ
-  -- "otherwise it writes a good table in which each event, in each case, is no later than in any other good table,
-  -- and leaves everything behind it unaltered"
+      → (writtenValues (solving sheet m .answer) ≡ refusedAs 13) ↔ L.Inconsistent Γ
+  -- "otherwise it writes a good table in which each event, in each case, is no later than in any other good table, and
+  -- leaves everything behind it unaltered"
   pub solved : (sheet m : List ℕ) (Γ : Network) → Reads sheet Γ → cells Γ ≤ length m → (L.Inconsistent Γ → ⊥)
-      → (σ : List ℕ) × Least Γ σ × (solving sheet m .answer ≡ W.Count (cells Γ)) × (solving sheet m .memory ≡ σ ++ drop (cells Γ) m)
+      → (σ : List ℕ) × Least Γ σ × (writtenValues (solving sheet m .answer) ≡ done (cells Γ)) × (solving sheet m .memory ≡ σ ++ drop (cells Γ) m)
+  -- of the bench's calls: demands 2 and 3 on the minutes of the bytes
+  pub bench-passes : (sheet b : List ℕ) (Γ : Network) → Reads sheet Γ
+      → (judgementValues (benchJudgement sheet b) ≡ passed) ↔ ((length b ≡ 2 * cells Γ) × Solution Γ (minutesOf b))
+  pub bench-breaches : (sheet b : List ℕ) (Γ : Network) (x : Breach) → Reads sheet Γ → length b ≡ 2 * cells Γ
+      → (judgementValues (benchJudgement sheet b) ≡ breachValues x) ↔ First Γ (minutesOf b) x
+  pub bench-refused : (sheet b : List ℕ) (Γ : Network) → Reads sheet Γ → cells Γ ≤ length b / 2
+      → (writtenValues (benchSolving sheet b .answer) ≡ refusedAs 13) ↔ L.Inconsistent Γ
+  pub bench-solved : (sheet b : List ℕ) (Γ : Network) → Reads sheet Γ → cells Γ ≤ length b / 2 → (L.Inconsistent Γ → ⊥)
+      → (σ : List ℕ) × Least Γ σ × (writtenValues (benchSolving sheet b .answer) ≡ done (cells Γ))
+      × (benchSolving sheet b .memory ≡ bytesOf σ ++ drop (2 * cells Γ) b)
+  -- and the functions of opening.h give back the values that were packed
+  pub header-judge : (sheet b : List ℕ) → let v = judgementValues (benchJudgement sheet b) in JudgeHolds (packed v) v
+  pub header-solver : (sheet b : List ℕ) → let w = benchSolving sheet b .answer in SolverHolds (packedWritten w) (writtenValues w)

@@ -18,8 +18,9 @@ use Rattle.tighten.specs.Remaining.{Remaining}
 use Rattle.tighten.specs.Tightest.{remainingOf}
 use Rattle.canonical.specs.House.{houseText}
 use Rattle.canonical.specs.Same.{Same}
-use Rattle.opening.specs.Calls.{WrittenValues, writtenValues, Left, housed}
-use Rattle.opening.specs.Demands.{Reads, Keeps}
+use Rattle.opening.specs.Values.{Values, done, refusedAs}
+use Rattle.opening.specs.Calls.{writtenValues, Left, housed}
+use Rattle.opening.specs.Answers.{Reads, Keeps}
 use Rattle.opening.specs.declared.Written.the-variants as W
 
 -- the sheet's network is Γ, no more rows remain of it than a sheet may have, and f is its form
@@ -29,14 +30,8 @@ pub record Form (sheet : List ℕ) (Γ : Network) (f : List ℕ) : Type 0 where
   pub form : f ≡ houseText sheet Γ
 
 -- the answer's values, in a lent buffer m
-abbrev pub answer : List ℕ → List ℕ → WrittenValues
+abbrev pub answer : List ℕ → List ℕ → Values ℕ
 answer sheet m = writtenValues (housed sheet m .answer)
-
-abbrev pub refusedAs : ℕ → WrittenValues
-refusedAs n = record { number = n; line = 0; count = 0 }
-
-abbrev pub wrote : ℕ → WrittenValues
-wrote n = record { number = 0; line = 0; count = n }
 
 -- two networks have the same good tables: the same least one, or none
 pub record SameTables (Γ Δ : Network) : Type 0 where
@@ -53,7 +48,7 @@ pub record Housing : Type 0 where
   pub too-short : (sheet m f : List ℕ) (Γ : Network) → Form sheet Γ f → (answer sheet m ≡ refusedAs 12) ↔ (length m < length f)
   -- otherwise the form is written, and everything behind it is unaltered
   pub written : (sheet m f : List ℕ) (Γ : Network) → Form sheet Γ f → length f ≤ length m
-      → (answer sheet m ≡ wrote (length f)) × (housed sheet m .memory ≡ f ++ drop (length f) m)
+      → (answer sheet m ≡ done (length f)) × (housed sheet m .memory ≡ f ++ drop (length f) m)
   -- the rows in it are those that remain of the sheet's, in document 02's words, and no other list is
   pub rows : (sheet : List ℕ) (Γ : Network) → Reads sheet Γ → Remaining (rowsOf Γ) (remainingOf Γ)
   pub rows-alone : (sheet : List ℕ) (Γ : Network) (rs : List Constraint) → Reads sheet Γ → Remaining (rowsOf Γ) rs → rs ≡ remainingOf Γ
@@ -61,7 +56,7 @@ pub record Housing : Type 0 where
   pub again : (sheet f : List ℕ) (Γ : Network) → Form sheet Γ f → (Δ : Network) × Form f Δ f
   -- "a second pass changes no byte": the call on the form writes the form
   pub second-pass : (sheet f m : List ℕ) (Γ : Network) → Form sheet Γ f → length f ≤ length m
-      → (answer f m ≡ wrote (length f)) × (housed f m .memory ≡ f ++ drop (length f) m)
+      → (answer f m ≡ done (length f)) × (housed f m .memory ≡ f ++ drop (length f) m)
   -- "The form reads back to the same good tables"
   pub tables : (sheet f : List ℕ) (Γ Δ : Network) → Form sheet Γ f → Reads f Δ → SameTables Γ Δ
   -- "Two sheets give equal bytes if and only if their horizons, event lists, signal lists and remaining rows are equal"

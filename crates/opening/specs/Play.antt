@@ -3,7 +3,6 @@
 -- stands twice; 16, no case has heard exactly this list", each with line 0.
 use mathlib.Core.List.{List}
 use Prim.Native.Nat.{ℕ}
-use Rattle.refusal.specs.Refusal.{numberOf}
 use Rattle.refusal.specs.declared.Cause.the-variants as C
 use Rattle.sheet.specs.Reading.{read}
 use Rattle.sheet.specs.declared.Reading.{Reading}
@@ -14,6 +13,7 @@ use Rattle.dispatch.specs.declared.Heard.{Heard}
 use Rattle.dispatch.specs.declared.Dispatched.{Dispatched}
 use Rattle.dispatch.specs.declared.Dispatched.the-variants as P
 use Rattle.opening.specs.Calls.{withoutLine, judgement}
+use Rattle.opening.specs.Values.{Values, done, turnedAway}
 use Rattle.opening.specs.declared.Judgement.{Judgement}
 use Rattle.opening.specs.declared.Judgement.the-variants as J
 use Rattle.opening.specs.declared.Due.{Due}
@@ -39,13 +39,7 @@ eventsDue sheet t m hs = playedFor (judgement sheet t) (due (read sheet .network
 unfoldable pub eventsDueOn : List ℕ → List ℕ → ℕ → ℕ → Due
 eventsDueOn sheet t m x = playedFor (judgement sheet t) (dueOn (read sheet .network) t m x)
 
--- the number, the line and the value of an answer: the events due with 0 and 0, or a refusal's number and line with
--- no event
-pub record DueValues : Type 0 where
-  pub number : ℕ
-  pub line : ℕ
-  pub events : ℕ
-
-abbrev pub dueValues : Due → DueValues
-dueValues (D.Events e) = record { number = 0; line = 0; events = e }
-dueValues (D.Refused r) = record { number = numberOf (r .cause); line = r .line; events = 0 }
+-- the value of an answer: the events due
+abbrev pub dueValues : Due → Values ℕ
+dueValues (D.Events e) = done e
+dueValues (D.Refused r) = turnedAway 0 r

@@ -18,24 +18,21 @@ use Rattle.sheet.specs.declared.Reading.{Reading}
 use Rattle.dispatch.specs.Heard.{WellNamed}
 use Rattle.dispatch.specs.History.{History, historyOf}
 use Rattle.dispatch.specs.declared.Heard.{Heard}
-use Rattle.opening.specs.Demands.{Reads}
-use Rattle.opening.specs.Play.{eventsDue, DueValues, dueValues}
+use Rattle.opening.specs.Answers.{Reads}
+use Rattle.opening.specs.Values.{Values, refusedAs}
+use Rattle.opening.specs.Play.{eventsDue, dueValues}
 use Rattle.opening.specs.declared.Due.the-variants.{Refused}
 
 -- the answer is the row of the case s at the minute m: of each event, whether it is due; and no bit behind the events
-pub record RowAt (Γ : Network) (t : List ℕ) (m s : ℕ) (v : DueValues) : Type 0 where
+pub record RowAt (Γ : Network) (t : List ℕ) (m s : ℕ) (v : Values ℕ) : Type 0 where
   pub number : v .number ≡ 0
   pub line : v .line ≡ 0
-  pub each : (u : ℕ) → u < Γ .events → truth (v .events) u ≡ eqb (time (Γ .events) t s u) m
-  pub no-more : v .events < 2 ^ Γ .events
-
--- refused with this number, and line 0
-abbrev pub refusedAs : ℕ → DueValues
-refusedAs n = record { number = n; line = 0; events = 0 }
+  pub each : (u : ℕ) → u < Γ .events → truth (v .value) u ≡ eqb (time (Γ .events) t s u) m
+  pub no-more : v .value < 2 ^ Γ .events
 
 module _ (sheet t : List ℕ) where
   -- the answer's values
-  abbrev pub answer : ℕ → List Heard → DueValues
+  abbrev pub answer : ℕ → List Heard → Values ℕ
   answer m hs = dueValues (eventsDue sheet t m hs)
 
   -- of a good table of the network Γ
@@ -48,7 +45,7 @@ module _ (sheet t : List ℕ) where
     -- reaction ago or sooner
     pub heard : (m s p : ℕ) → s < scenarios Γ → p < Γ .signals
         → (known Γ t s p m ≡ true)
-        ↔ ((i : ℕ) × (i + reaction Γ p ≤ m) × (truth (answer i (historyOf Γ t i s) .events) (observation Γ p) ≡ true))
+        ↔ ((i : ℕ) × (i + reaction Γ p ≤ m) × (truth (answer i (historyOf Γ t i s) .value) (observation Γ p) ≡ true))
     -- "Two cases that have heard the same get the same events"
     pub same : (m : ℕ) (hs : List Heard) (s r u : ℕ) → s < scenarios Γ → r < scenarios Γ → u < Γ .events
         → History Γ t m hs s → History Γ t m hs r → (time (Γ .events) t s u ≡ m) ↔ (time (Γ .events) t r u ≡ m)

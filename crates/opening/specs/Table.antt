@@ -1,36 +1,40 @@
--- What the program `table` prints for a sheet: "the solver's listing, or `refused N line L` with the number and the
--- line" (01, The printed listing).
+-- What the programs print, by the calls that they make: `table` prints "the solver's listing, or `refused N line L`
+-- with the number and the line" (01, The printed listing), and `house` the house form (02, point 2). Each lends the
+-- calls memory that is long enough.
+use mathlib.Core.Bool.{true, false}
 use mathlib.Core.List.{List, [], _∷_, _++_}
 use Prim.Native.Nat.{ℕ}
+use lib.Dec.{eqb}
+use lib.ListN.{take, replicate}
 use Rattle.prelude.specs.Bytes.{ascii}
 use Rattle.text.specs.Lines.{lineFeed}
 use Rattle.text.specs.Decimal.{decimal}
-use Rattle.refusal.specs.Refusal.{numberOf, refusal}
-use Rattle.refusal.specs.declared.Cause.the-variants.{Inconsistent}
-use Rattle.refusal.specs.declared.Refusal.{Refusal}
-use Rattle.network.specs.declared.Network.{Network}
-use Rattle.sheet.specs.Reading.{read}
-use Rattle.sheet.specs.declared.Outcome.{Outcome}
-use Rattle.sheet.specs.declared.Outcome.the-variants.{Accepted, Refused}
-use Rattle.sheet.specs.declared.Reading.{Reading}
-use Rattle.fixpoint.specs.Run.{Run, End, Rests, Passes, Spent}
-use Rattle.solver.specs.Solve.{solve}
-use Rattle.listing.specs.Listing.{listing}
+use Rattle.opening.specs.Values.{Values}
+use Rattle.opening.specs.Calls.{writtenValues, Left, solving, listed, housed}
 
-abbrev pub refusedText : Refusal → List ℕ
-refusedText r =
-    ascii "refused " ++ decimal (numberOf (r .cause)) ++ ascii " line " ++ decimal (r .line) ++ lineFeed ∷ []
+abbrev pub refusedText : Values ℕ → List ℕ
+refusedText v = ascii "refused " ++ decimal (v .number) ++ ascii " line " ++ decimal (v .line) ++ lineFeed ∷ []
 
-module _ (sheet : List ℕ) (Γ : Network) where
-  -- a run that rests has the table; any other has passed a limit
-  abbrev pub solvedText : End → List ℕ → List ℕ
-  solvedText Rests σ = listing sheet Γ σ
-  solvedText Passes σ = refusedText (refusal Inconsistent 0)
-  solvedText Spent σ = refusedText (refusal Inconsistent 0)
+-- what a call has written goes on; a refusal is printed
+abbrev pub orRefused : Left → (List ℕ → List ℕ) → List ℕ
+orRefused l next =
+    let v = writtenValues (l .answer) in
+    elim (eqb (v .number) 0) [ true ↦ next (take (v .value) (l .memory)) | false ↦ refusedText v ]
 
-  abbrev pub readText : Outcome → List ℕ
-  readText Accepted = solvedText (solve Γ .end) (solve Γ .reached)
-  readText (Refused r) = refusedText r
+-- the listing of a table, on a page that is lent
+abbrev pub listingOn : List ℕ → List ℕ → List ℕ → List ℕ
+listingOn page sheet t = orRefused (listed sheet t page) (λ text. text)
 
+-- the solver's, in a table that is lent
+abbrev pub tableOn : List ℕ → List ℕ → List ℕ → List ℕ
+tableOn m page sheet = orRefused (solving sheet m) (listingOn page sheet)
+
+abbrev pub formOn : List ℕ → List ℕ → List ℕ
+formOn page sheet = orRefused (housed sheet page) (λ text. text)
+
+-- as the programs lend them
 abbrev pub tableText : List ℕ → List ℕ
-tableText sheet = readText sheet (read sheet .network) (read sheet .outcome)
+tableText sheet = tableOn (replicate 256 0) (replicate 2048 0) sheet
+
+abbrev pub formText : List ℕ → List ℕ
+formText sheet = formOn (replicate 4096 0) sheet

@@ -1,6 +1,7 @@
 -- Laws of `specs/`, and of tests and cells, for the proofs of the crates above. No contract cites them.
 pub mod Tests
 pub mod Search
+pub mod Checks
 pub mod Bounded
 pub mod Parts
 pub mod Gather

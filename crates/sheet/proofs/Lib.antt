@@ -1,5 +1,5 @@
 -- Laws of the sheet's definitions, in reading order: places and a line's tests; what each line keeps; the lines of a
--- section; the whole sheet; and examples.
+-- section; the whole sheet; its first line at fault; and examples.
 pub mod Places
 pub mod RowTests
 pub mod Rows
@@ -10,4 +10,8 @@ pub mod Turns
 pub mod Lines
 pub mod WellFormed
 pub mod Sections
+pub mod Order
+pub mod Over
+pub mod Comes
+pub mod Fault
 pub mod Examples

@@ -1,4 +1,5 @@
--- What the network holds of the contents that have been read. Assumes nothing.
+-- What it means that a network holds the contents of a sheet: its horizon, each event by its name, each signal by its
+-- letter and event, each rule by its kind, ends, limit and label (01, The sheet).
 use mathlib.Core.Path.{_≡_}
 use mathlib.Core.Bool.{true}
 use mathlib.Core.List.{List, [], map}

@@ -1,0 +1,123 @@
+-- What the programs print, from what holds of the calls: the lent memory is long enough for every sheet. Assumes
+-- nothing.
+use mathlib.Core.Path.{_≡_, refl, sym, _∙_, ap}
+use mathlib.Core.Bool.{Bool, true, false}
+use mathlib.Core.List.{List, _++_}
+use Prim.Native.Nat.{ℕ, _≤_, _<_}
+use native.Mathlib.Omega.{arith}
+use borrow.Author.Tests.{lt-leb, le-leb, ne-eqb}
+use lib.ListN.{length, take, drop, replicate, length-replicate}
+use lib.Seq.{take-at}
+use Rattle.refusal.specs.Refusal.{numberOf}
+use Rattle.refusal.specs.declared.Refusal.{Refusal}
+use Rattle.network.specs.Limits as L
+use Rattle.network.specs.Build.{scenarios, cells}
+use Rattle.network.specs.Strategy.{time}
+use Rattle.network.specs.Least.{Least, Inconsistent}
+use Rattle.network.specs.WellFormed.{WellFormed, Named}
+use Rattle.network.specs.declared.Network.{Network}
+use Rattle.network.proofs.Least.{least-unique}
+use Rattle.sheet.specs.Reading.{read}
+use Rattle.sheet.specs.declared.Outcome.the-variants.{Accepted}
+use Rattle.sheet.proofs.Fault.{refused-iff}
+use Rattle.sheet.proofs.WellFormed.{accepted-well-formed}
+use Rattle.listing.specs.Listing.{listing}
+use Rattle.listing.proofs.Short.{listing-short}
+use Rattle.tighten.specs.Tightest.{remainingOf}
+use Rattle.canonical.specs.House.{houseText}
+use Rattle.canonical.proofs.Again.{form-short}
+use Rattle.opening.specs.Values.{Values, turnedAway, refusedAs}
+use Rattle.opening.specs.Calls.{Left, written, solving, listed, housed}
+use Rattle.opening.specs.Table.{refusedText, orRefused, listingOn, tableOn, formOn}
+use Rattle.opening.specs.Answers.{Reads}
+use Rattle.opening.specs.Housing.{Form}
+use Rattle.opening.specs.Printing.{Printing}
+use Rattle.opening.specs.declared.Written.{Written}
+use Rattle.opening.specs.declared.Written.the-variants as W
+use Rattle.opening.proofs.Calls.{written-room, listing-right}
+use Rattle.opening.proofs.Bytes.{cells-few}
+use Rattle.opening.proofs.Promises.{refuses, solves}
+use Rattle.opening.proofs.House.{house-many, house-few}
+use Rattle.opening.proofs.InNumbers.{numbered}
+
+-- a call that wrote n, and one that refused
+wrote-on : (l : Left) (n : ℕ) (next : List ℕ → List ℕ) → l .answer ≡ W.Count n → orRefused l next ≡ next (take n (l .memory))
+wrote-on l n next e = ap (λ (w : Written). orRefused (record { answer = w; memory = l .memory }) next) e
+
+refused-on : (l : Left) (r : Refusal) (next : List ℕ → List ℕ) → l .answer ≡ W.Refused r → orRefused l next ≡ refusedText (turnedAway 0 r)
+refused-on l r next e =
+    ap (λ (w : Written). orRefused (record { answer = w; memory = l .memory }) next) e
+    ∙ ap (λ (b : Bool). elim b as (λ _. List ℕ) [ true ↦ next (take 0 (l .memory)) | false ↦ refusedText (turnedAway 0 r) ])
+    (ne-eqb (numberOf (r .cause)) 0 (numbered (r .cause)))
+
+-- a text that there is room for
+text-on : (l : Left) (text m : List ℕ) → written text m ≡ l → length text ≤ length m → orRefused l (λ t. t) ≡ text
+text-on l text m e h =
+    let w : l ≡ record { answer = W.Count (length text); memory = text ++ drop (length text) m } = sym e ∙ written-room text m h in
+    wrote-on l (length text) (λ t. t) (ap (λ (k : Left). k .answer) w)
+    ∙ ap (λ (k : Left). take (length text) (k .memory)) w
+    ∙ take-at text (drop (length text) m) (length text) refl
+
+module _ (sheet : List ℕ) (a : read sheet .outcome ≡ Accepted) where
+  abbrev net : Network
+  net = read sheet .network
+
+  formed : WellFormed net × Named sheet net
+  formed = accepted-well-formed sheet a
+
+  listed-on : (σ page : List ℕ) → Least net σ → 2048 ≤ length page → listingOn page sheet σ ≡ listing sheet net σ
+  listed-on σ page least h =
+      let good = least .solves in
+      let times : (s u : ℕ) → s < scenarios net → u < net .events → time (net .events) σ s u ≤ 65535 =
+      λ s u l k. omega (arith, good .on-time s u l k .in-horizon, formed .0 .horizon) in
+      let short = listing-short sheet net σ (formed .0) (formed .1) times in
+      text-on (listed sheet σ page) (listing sheet net σ) page (listing-right sheet (read sheet) refl a σ page (good .sized))
+      (omega (arith, short))
+
+  table-on : (σ m page : List ℕ) → Least net σ → 256 ≤ length m → 2048 ≤ length page → tableOn m page sheet ≡ listing sheet net σ
+  table-on σ m page least h k =
+      let room : cells net ≤ length m = omega (arith, cells-few (formed .0)) in
+      let s = solves sheet a m room (λ i. i .none σ (least .solves)) in
+      let same : s .0 ≡ σ = least-unique (s .1) least in
+      let front : take (cells net) (solving sheet m .memory) ≡ s .0 =
+      ap (λ (x : List ℕ). take (cells net) x) (s .3) ∙ take-at (s .0) (drop (cells net) m) (cells net) (s .1 .solves .sized) in
+      wrote-on (solving sheet m) (cells net) (listingOn page sheet) (s .2)
+      ∙ ap (listingOn page sheet) (front ∙ same)
+      ∙ listed-on σ page least k
+
+  none-on : (m page : List ℕ) → Inconsistent net → 256 ≤ length m → tableOn m page sheet ≡ refusedText (refusedAs 13)
+  none-on m page i h =
+      refused-on (solving sheet m) _ (listingOn page sheet) (refuses sheet a m (omega (arith, cells-few (formed .0))) .1 i)
+
+  many-on : (page : List ℕ) → L.rules < length (remainingOf net) → formOn page sheet ≡ refusedText (refusedAs 17)
+  many-on page h =
+      refused-on (housed sheet page) _ (λ t. t)
+      (sym (ap (λ (l : Left). l .answer) (house-many sheet (read sheet) refl a page (lt-leb (length (remainingOf net)) L.rules h))))
+
+  form-on : (page : List ℕ) → length (remainingOf net) ≤ L.rules → 4096 ≤ length page → formOn page sheet ≡ houseText sheet net
+  form-on page few h =
+      text-on (housed sheet page) (houseText sheet net) page
+      (house-few sheet (read sheet) refl a page (le-leb (length (remainingOf net)) L.rules few))
+      (omega (arith, form-short sheet a few))
+
+abbrev minutes : List ℕ
+minutes = replicate 256 0
+
+abbrev page : ℕ → List ℕ
+page n = replicate n 0
+
+pub printing : Printing
+printing = record {
+  table-refused = λ sheet r f. let e = refused-iff sheet r .1 f in refused-on (solving sheet minutes) r (listingOn (page 2048) sheet) (rw e);
+  house-refused = λ sheet r f. let e = refused-iff sheet r .1 f in refused-on (housed sheet (page 4096)) r (λ t. t) (rw e);
+  none = λ sheet Γ r. rw (← r .network) (λ i. none-on sheet (r .accepted) minutes (page 2048) i (omega (arith, length-replicate {A = ℕ} 256 0)));
+  many = λ sheet Γ r. rw (← r .network) (many-on sheet (r .accepted) (page 4096));
+  table = λ sheet σ Γ r. rw (← r .network)
+      (λ least.
+      table-on sheet (r .accepted) σ minutes (page 2048) least (omega (arith, length-replicate {A = ℕ} 256 0))
+      (omega (arith, length-replicate {A = ℕ} 2048 0)));
+  house = λ sheet f Γ form.
+      let n = form .reads .network in
+      rw (form .form, ← n)
+      (form-on sheet (form .reads .accepted) (page 4096) (rw (← n) at (form .few)) (omega (arith, length-replicate {A = ℕ} 4096 0)));
+}

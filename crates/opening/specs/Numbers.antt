@@ -1,0 +1,88 @@
+-- Demand 1: each public call's own refusals in checking order, with their causes, and that it answers by them (01,
+-- Refused sheets and calls; 02, points 1 and 2). A later call is one list and one field more.
+use mathlib.Core.Path.{_≡_}
+use mathlib.Core.List.{List, [], _∷_}
+use Prim.Native.Nat.{ℕ, _*_, _/_, _<_}
+use lib.ListN.{length}
+use Rattle.network.specs.Limits as L
+use Rattle.network.specs.Build.{scenarios, cells}
+use Rattle.network.specs.Solution.{Solution}
+use Rattle.network.specs.Least.{Inconsistent}
+use Rattle.network.specs.declared.Network.{Network}
+use Rattle.dispatch.specs.Heard.{WellNamed}
+use Rattle.dispatch.specs.History.{History}
+use Rattle.dispatch.specs.Said.{dueOn}
+use Rattle.dispatch.specs.declared.Heard.{Heard}
+use Rattle.dispatch.specs.declared.Dispatched.the-variants.{Misnamed, NeverHeard}
+use Rattle.listing.specs.Listing.{listing}
+use Rattle.tighten.specs.Tightest.{remainingOf}
+use Rattle.canonical.specs.House.{houseText}
+use Rattle.opening.specs.Calls.{summary, summaryValues, judgement, writtenValues, Left, solving, listed, housed}
+use Rattle.opening.specs.Bench.{judgementValues, benchJudgement, benchSolving}
+use Rattle.opening.specs.Play.{eventsDue, eventsDueOn, dueValues}
+use Rattle.opening.specs.Answers.{Own, Answers}
+
+-- "A table handed in has not exactly n × 2^k numbers"
+abbrev pub wrongLength : List ℕ → Own
+wrongLength t = record { number = 11; cause = λ Γ. length t ≡ cells Γ → ⊥ }
+
+-- "A lent table or byte buffer is too short for what would be written": so much is lent, and so much is needed
+abbrev pub tooShort : ℕ → (Network → ℕ) → Own
+tooShort lent needed = record { number = 12; cause = λ Γ. lent < needed Γ }
+
+-- "No good table exists"
+abbrev pub noTable : Own
+noTable = record { number = 13; cause = Inconsistent }
+
+abbrev pub judges : List ℕ → List Own
+judges t = wrongLength t ∷ []
+
+abbrev pub solves : List ℕ → List Own
+solves m = tooShort (length m) cells ∷ noTable ∷ []
+
+abbrev pub lists : List ℕ → List ℕ → List ℕ → List Own
+lists sheet t m = wrongLength t ∷ tooShort (length m) (λ Γ. length (listing sheet Γ t)) ∷ []
+
+-- "more than 64 rows would be left"
+abbrev pub houses : List ℕ → List ℕ → List Own
+houses sheet m =
+    record { number = 17; cause = λ Γ. L.rules < length (remainingOf Γ) }
+    ∷ tooShort (length m) (λ Γ. length (houseText sheet Γ))
+    ∷ []
+
+-- "the table does not pass the judge; a letter in the list is undefined or stands twice; no case has heard exactly this
+-- list"
+abbrev pub plays : List ℕ → ℕ → List Heard → List Own
+plays t m hs =
+    wrongLength t
+    ∷ record { number = 14; cause = λ Γ. Solution Γ t → ⊥ }
+    ∷ record { number = 15; cause = λ Γ. WellNamed Γ hs → ⊥ }
+    ∷ record { number = 16; cause = λ Γ. (s : ℕ) → s < scenarios Γ → History Γ t m hs s → ⊥ }
+    ∷ []
+
+-- the same by a mask: what the player says of it
+abbrev pub playsOn : List ℕ → ℕ → ℕ → List Own
+playsOn t m x =
+    wrongLength t
+    ∷ record { number = 14; cause = λ Γ. Solution Γ t → ⊥ }
+    ∷ record { number = 15; cause = λ Γ. dueOn Γ t m x ≡ Misnamed }
+    ∷ record { number = 16; cause = λ Γ. dueOn Γ t m x ≡ NeverHeard }
+    ∷ []
+
+-- "For the judge an odd number of bytes is refusal 11; the solver counts the whole pairs it is lent"
+abbrev pub judgesBytes : List ℕ → List Own
+judgesBytes b = record { number = 11; cause = λ Γ. length b ≡ 2 * cells Γ → ⊥ } ∷ []
+
+abbrev pub solvesBytes : List ℕ → List Own
+solvesBytes b = tooShort (length b / 2) cells ∷ noTable ∷ []
+
+pub record Numbers : Type 0 where
+  pub reader : (sheet : List ℕ) → Answers sheet [] (summaryValues (summary sheet))
+  pub judge : (sheet t : List ℕ) → Answers sheet (judges t) (judgementValues (judgement sheet t))
+  pub solver : (sheet m : List ℕ) → Answers sheet (solves m) (writtenValues (solving sheet m .answer))
+  pub lister : (sheet t m : List ℕ) → Answers sheet (lists sheet t m) (writtenValues (listed sheet t m .answer))
+  pub bench-judge : (sheet b : List ℕ) → Answers sheet (judgesBytes b) (judgementValues (benchJudgement sheet b))
+  pub bench-solver : (sheet b : List ℕ) → Answers sheet (solvesBytes b) (writtenValues (benchSolving sheet b .answer))
+  pub player : (sheet t : List ℕ) (m : ℕ) (hs : List Heard) → Answers sheet (plays t m hs) (dueValues (eventsDue sheet t m hs))
+  pub player-on : (sheet t : List ℕ) (m x : ℕ) → Answers sheet (playsOn t m x) (dueValues (eventsDueOn sheet t m x))
+  pub housing : (sheet m : List ℕ) → Answers sheet (houses sheet m) (writtenValues (housed sheet m .answer))

@@ -1,0 +1,178 @@
+-- The reading comes as far as each line holds its tests, and stops at the first of which one fails. Assumes nothing.
+use mathlib.Core.Path.{_≡_, refl, sym, ap}
+use mathlib.Core.Logic.{inl, inr}
+use mathlib.Core.Bool.{Bool, true, false}
+use mathlib.Core.Option.{Option, none, some}
+use mathlib.Core.List.{List, _∷_}
+use Prim.Native.Nat.{ℕ, zero, suc, _≤_, _<_}
+use Prim.Native.String.{String}
+use native.Mathlib.Omega.{arith}
+use borrow.Author.Tests.{leb-true, leb-false, ltb-false}
+use lib.Dec.{leb, ltb}
+use lib.ListN.{length}
+use Rattle.prelude.specs.Checks.{firstFailing, Hold, FirstFails}
+use Rattle.prelude.proofs.Checks.{hold, first-fails}
+use Rattle.prelude.proofs.Tests.{lt-or-ge}
+use Rattle.text.specs.Lines.{lineAt, endsAt, afterLine, fields}
+use Rattle.refusal.specs.Refusal.{refusal}
+use Rattle.refusal.specs.declared.Cause.{Cause}
+use Rattle.refusal.specs.declared.Cause.the-variants as C
+use Rattle.network.specs.Limits as L
+use Rattle.network.specs.Build.{empty}
+use Rattle.network.specs.declared.Network.{Network}
+use Rattle.line.specs.Rows.{Tests, sectionTests, sectionRefusal, sectionCount, eventRefusal, signalRefusal, ruleRefusal}
+use Rattle.line.specs.Sections.{headingOf, rowsOf, testsOf}
+use Rattle.line.specs.declared.Section.{Section}
+use Rattle.line.specs.declared.Section.the-variants.{Events, Signals, Rules}
+use Rattle.sheet.specs.Reading.{longest, Progress, Stop, Go, andThen, readRows, readHorizon, readEvents, readSignals}
+use Rattle.sheet.specs.Reading.{readRules, readEnd, progress, answered, read}
+use Rattle.sheet.specs.Sections.{readOf}
+use Rattle.sheet.specs.Place.{Due, Horizon, Heading, Entry, NoMore, behind, entries, Place, testsAt, dueAfter, definedAfter}
+use Rattle.sheet.specs.Place.{next, place, tests}
+use Rattle.sheet.specs.Fault.{FirstFault, Fault}
+use Rattle.sheet.specs.declared.Outcome.{Outcome}
+use Rattle.sheet.specs.declared.Outcome.the-variants.{Accepted, Refused}
+use Rattle.sheet.proofs.Over.{all-hold}
+
+-- the refusal of a line is its first test to fail
+section-refusal : (word : String) (lo hi : ℕ) (fs : List (List ℕ)) → sectionRefusal word lo hi fs ≡ firstFailing (sectionTests word lo hi fs)
+unfolding sectionRefusal
+section-refusal word lo hi fs = refl
+
+row-refusal : (sheet : List ℕ) (s : Section) (Γ : Network) (fs : List (List ℕ))
+    → rowsOf sheet s .refusal Γ fs ≡ firstFailing (testsOf sheet s Γ fs)
+unfolding eventRefusal signalRefusal ruleRefusal
+row-refusal sheet Events Γ fs = refl
+row-refusal sheet Signals Γ fs = refl
+row-refusal sheet Rules Γ fs = refl
+
+module _ (sheet : List ℕ) where
+  -- line k begins at this place, and the lines above it pass
+  record At (d : Due) (Γ : Network) (at k : ℕ) : Type 0 where
+    above : ℕ
+    number : k ≡ suc above
+    is : place sheet above ≡ record { due = d; network = Γ; at = at }
+    pass : (j : ℕ) → j < above → Hold (tests sheet j)
+
+  -- the reading has come so far, or it has stopped at the first fault
+  abbrev Comes : Due → Progress → Type 0
+  Comes d (Stop r) = FirstFault sheet r
+  Comes d (Go Γ at k) = At d Γ at k
+
+  module _ (d : Due) (Γ : Network) (at k : ℕ) (a : At d Γ at k) where
+    own-tests : tests sheet (a .above) ≡ testsAt sheet d Γ at
+    own-tests = ap (λ (p : Place). testsAt sheet (p .due) (p .network) (p .at)) (a .is)
+
+    stops : (c : Cause) → FirstFails (testsAt sheet d Γ at) c → FirstFault sheet (refusal c k)
+    stops c f = record { above = a .above; line = a .number; pass = a .pass; fault = rw own-tests f }
+
+    holds : Hold (testsAt sheet d Γ at) → (j : ℕ) → j < suc (a .above) → Hold (tests sheet j)
+    holds h j l =
+        elim (lt-or-ge j (a .above)) [
+          | inl m ↦ a .pass j m
+          | inr m ↦ let e : j ≡ a .above = omega arith in rw (e, own-tests) h
+        ]
+
+    goes-on : Hold (testsAt sheet d Γ at)
+        → let fs = fields (lineAt sheet at) in
+        At (dueAfter d fs) (definedAfter sheet d Γ at fs) (afterLine sheet at) (suc k)
+    goes-on h = record {
+      above = suc (a .above);
+      number = ap suc (a .number);
+      is = ap (next sheet) (a .is);
+      pass = holds h;
+    }
+
+  -- a line by its two tests
+  by-line : (d : Due) (k : ℕ) (b : Bool) (o : Option Cause) (ts : Tests) (p : Progress) → o ≡ firstFailing ts
+      → ((c : Cause) → FirstFails ((b, C.MissingLine) ∷ ts) c → FirstFault sheet (refusal c k))
+      → (Hold ((b, C.MissingLine) ∷ ts) → Comes d p)
+      → Comes d (elim b as (λ _. Progress) [
+        | false ↦ Stop (refusal C.MissingLine k)
+        | true ↦ elim o as (λ _. Progress) [ some c ↦ Stop (refusal c k) | none ↦ p ]
+      ])
+  by-line d k false o ts p e stop go = stop C.MissingLine (inl (refl, refl))
+  by-line d k true none ts p e stop go = go (refl, hold ts (sym e))
+  by-line d k true (some c) ts p e stop go = stop c (inr (refl, first-fails ts c (sym e)))
+
+  rows-come : (s : Section) (m : ℕ) (Γ : Network) (at k : ℕ) → At (entries s m) Γ at k
+      → Comes (behind s) (readRows sheet (rowsOf sheet s) m Γ at k)
+  rows-come s zero Γ at k a = a
+  rows-come s (suc m) Γ at k a =
+      let fs = fields (lineAt sheet at) in
+      by-line (behind s) k (endsAt sheet at) (rowsOf sheet s .refusal Γ fs) (testsOf sheet s Γ fs) _ (row-refusal sheet s Γ fs)
+      (stops (Entry s m) Γ at k a)
+      (λ h. rows-come s m (rowsOf sheet s .add Γ at fs) (afterLine sheet at) (suc k) (goes-on (Entry s m) Γ at k a h))
+
+  section-comes : (s : Section) (Γ : Network) (at k : ℕ) → At (Heading s) Γ at k → Comes (behind s) (readOf sheet s Γ at k)
+  section-comes s Γ at k a =
+      let fs = fields (lineAt sheet at) in
+      let head = headingOf s in
+      by-line (behind s) k (endsAt sheet at) (sectionRefusal (head .word) (head .least) (head .most) fs)
+      (sectionTests (head .word) (head .least) (head .most) fs) _ (section-refusal (head .word) (head .least) (head .most) fs)
+      (stops (Heading s) Γ at k a)
+      (λ h. rows-come s (sectionCount fs) Γ (afterLine sheet at) (suc k) (goes-on (Heading s) Γ at k a h))
+
+  horizon-comes : Comes (Heading Events) (readHorizon sheet)
+  horizon-comes =
+      let fs = fields (lineAt sheet 0) in
+      let a : At Horizon (empty 0) 0 1 = record { above = 0; number = refl; is = refl; pass = λ j l. absurd (omega arith) } in
+      by-line (Heading Events) 1 (endsAt sheet 0) (sectionRefusal "horizon" 0 L.horizon fs) (sectionTests "horizon" 0 L.horizon fs) _
+      (section-refusal "horizon" 0 L.horizon fs)
+      (stops Horizon (empty 0) 0 1 a)
+      (goes-on Horizon (empty 0) 0 1 a)
+
+  then-comes : (d e : Due) (p : Progress) (f : Network → ℕ → ℕ → Progress) → Comes d p
+      → ((Γ : Network) (at k : ℕ) → At d Γ at k → Comes e (f Γ at k)) → Comes e (andThen p f)
+  then-comes d e (Stop r) f c g = c
+  then-comes d e (Go Γ at k) f c g = g Γ at k c
+
+  abbrev toEvents : Progress
+  toEvents = andThen (readHorizon sheet) (readEvents sheet)
+
+  abbrev toSignals : Progress
+  toSignals = andThen toEvents (readSignals sheet)
+
+  abbrev toRules : Progress
+  toRules = andThen toSignals (readRules sheet)
+
+  sections-come : Comes NoMore toRules
+  sections-come =
+      let events = then-comes (Heading Events) (Heading Signals) (readHorizon sheet) (readEvents sheet) horizon-comes (section-comes Events) in
+      let signals = then-comes (Heading Signals) (Heading Rules) toEvents (readSignals sheet) events (section-comes Signals) in
+      then-comes (Heading Rules) NoMore toSignals (readRules sheet) signals (section-comes Rules)
+
+  -- at its end: the first fault, or none
+  abbrev Ends : Progress → Type 0
+  Ends (Stop r) = FirstFault sheet r
+  Ends (Go Γ at k) = (j : ℕ) → Hold (tests sheet j)
+
+  end-comes : (Γ : Network) (at k : ℕ) → At NoMore Γ at k → Ends (readEnd sheet Γ at k)
+  end-comes Γ at k a = by-bytes (ltb at (length sheet)) refl
+    where
+      by-bytes : (b : Bool) → ltb at (length sheet) ≡ b
+          → Ends (elim b as (λ _. Progress) [ true ↦ Stop (refusal C.TrailingBytes k) | false ↦ Go Γ at k ])
+      by-bytes true e = stops NoMore Γ at k a C.TrailingBytes (inl (rw e, refl))
+      by-bytes false e = all-hold sheet (a .above) (rw (a .is) (record { over = refl; end = ltb-false at (length sheet) e })) (a .pass)
+
+  then-ends : (p : Progress) → Comes NoMore p → Ends (andThen p (readEnd sheet))
+  then-ends (Stop r) c = c
+  then-ends (Go Γ at k) c = end-comes Γ at k c
+
+  -- of the whole sheet
+  abbrev pub Answers : Outcome → Type 0
+  Answers (Refused r) = Fault sheet r
+  Answers Accepted = (length sheet ≤ longest) × ((j : ℕ) → Hold (tests sheet j))
+
+  pub answers : Answers (read sheet .outcome)
+  unfolding progress
+  answers = by-length (leb (length sheet) longest) refl
+    where
+      ended : (p : Progress) → length sheet ≤ longest → Ends p → Answers (answered p .outcome)
+      ended (Stop r) l e = inr (l, e)
+      ended (Go Γ at k) l e = (l, e)
+
+      by-length : (b : Bool) → leb (length sheet) longest ≡ b
+          → Answers (answered (elim b as (λ _. Progress) [ false ↦ Stop (refusal C.TooLong 0) | true ↦ andThen toRules (readEnd sheet) ]) .outcome)
+      by-length false e = inl (leb-false (length sheet) longest e, refl)
+      by-length true e = ended (andThen toRules (readEnd sheet)) (leb-true (length sheet) longest e) (then-ends toRules sections-come)

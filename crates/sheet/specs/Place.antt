@@ -1,0 +1,87 @@
+-- What is due on each line of a sheet, and the tests of that place (01, The sheet and Refused sheets and calls).
+use mathlib.Core.Bool.{not}
+use mathlib.Core.List.{List, [], _∷_}
+use Prim.Native.Nat.{ℕ, zero, suc}
+use lib.Dec.{ltb}
+use lib.ListN.{length}
+use Rattle.text.specs.Lines.{lineAt, endsAt, afterLine, fields}
+use Rattle.refusal.specs.declared.Cause.the-variants as C
+use Rattle.network.specs.Limits as L
+use Rattle.network.specs.Build.{empty}
+use Rattle.network.specs.declared.Network.{Network}
+use Rattle.line.specs.Rows.{Tests, sectionTests, sectionCount}
+use Rattle.line.specs.Sections.{headingOf, rowsOf, testsOf}
+use Rattle.line.specs.declared.Section.{Section}
+use Rattle.line.specs.declared.Section.the-variants.{Events, Signals, Rules}
+
+-- what is due on a line: the horizon, the word and the count of a section, a line of a section with so many more behind
+-- it, or no more
+pub data Due : Type 0 where
+  Horizon : Due
+  Heading : Section → Due
+  Entry : Section → ℕ → Due
+  NoMore : Due
+
+-- "Sections stand in this order, each after its count" (01, The sheet)
+abbrev pub behind : Section → Due
+behind Events = Heading Signals
+behind Signals = Heading Rules
+behind Rules = NoMore
+
+-- so many lines of a section, and then what is behind it
+abbrev pub entries : Section → ℕ → Due
+entries s zero = behind s
+entries s (suc m) = Entry s m
+
+-- what is due behind a line with these fields
+abbrev pub dueAfter : Due → List (List ℕ) → Due
+dueAfter Horizon fs = Heading Events
+dueAfter (Heading s) fs = entries s (sectionCount fs)
+dueAfter (Entry s m) fs = entries s m
+dueAfter NoMore fs = NoMore
+
+-- what is due on a line, what the lines above it have defined, and where it begins
+pub record Place : Type 0 where
+  pub due : Due
+  pub network : Network
+  pub at : ℕ
+
+-- the first line
+abbrev pub top : Place
+top = record { due = Horizon; network = empty 0; at = 0 }
+
+module _ (sheet : List ℕ) where
+  -- a line that begins here: it has its line feed, and its fields pass
+  abbrev pub lineTests : ℕ → (List (List ℕ) → Tests) → Tests
+  lineTests at ts = (endsAt sheet at, C.MissingLine) ∷ ts (fields (lineAt sheet at))
+
+  -- the tests of what is due; behind the last rule no byte follows
+  abbrev pub testsAt : Due → Network → ℕ → Tests
+  testsAt Horizon Γ at = lineTests at (sectionTests "horizon" 0 L.horizon)
+  testsAt (Heading s) Γ at = lineTests at (sectionTests (headingOf s .word) (headingOf s .least) (headingOf s .most))
+  testsAt (Entry s m) Γ at = lineTests at (testsOf sheet s Γ)
+  testsAt NoMore Γ at = (not (ltb at (length sheet)), C.TrailingBytes) ∷ []
+
+  -- what is defined behind a line with these fields that begins here
+  abbrev pub definedAfter : Due → Network → ℕ → List (List ℕ) → Network
+  definedAfter Horizon Γ at fs = empty (sectionCount fs)
+  definedAfter (Heading s) Γ at fs = Γ
+  definedAfter (Entry s m) Γ at fs = rowsOf sheet s .add Γ at fs
+  definedAfter NoMore Γ at fs = Γ
+
+  abbrev pub next : Place → Place
+  next p =
+      let fs = fields (lineAt sheet (p .at)) in
+      record {
+        due = dueAfter (p .due) fs;
+        network = definedAfter (p .due) (p .network) (p .at) fs;
+        at = afterLine sheet (p .at);
+      }
+
+  -- the line that so many lines stand above, which pass their tests; and its own
+  abbrev pub place : ℕ → Place
+  place zero = top
+  place (suc k) = next (place k)
+
+  abbrev pub tests : ℕ → Tests
+  tests k = let p = place k in testsAt (p .due) (p .network) (p .at)
