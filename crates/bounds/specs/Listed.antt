@@ -4,22 +4,24 @@
 use mathlib.Core.Path.{_≡_}
 use mathlib.Core.Bool.{cond}
 use mathlib.Core.List.{List}
-use Prim.Native.Nat.{ℕ, _+_, _*_, _≤_, _<_, max}
+use Prim.Native.Nat.{ℕ, suc, _+_, _-_, _*_, _≤_, _<_, max}
 use lib.Dec.{eqb}
-use lib.IntN.{ℤ, negℤ}
+use lib.IntN.{ℤ, pos, negsuc, negℤ}
 use lib.ListN.{length, getD, set}
 use Rattle.prelude.specs.Bounded.{maxBelow}
-use Rattle.network.specs.Raised.{raised}
+use Rattle.network.specs.Limits as L
 use Rattle.network.specs.Scenario.{satisfies}
 use Rattle.network.specs.declared.Label.{Label}
 use Rattle.rows.specs.declared.Frame.{Frame}
 
--- the weight of b - a ≤ w, for the least time of a; and that of w ≤ b - a, for the least time of b
+-- the weight of b - a ≤ w, for the least time of a: 10,080 less w
 abbrev pub upperWeight : ℤ → ℕ
-upperWeight w = raised (negℤ w)
+upperWeight (pos w) = L.horizon - w
+upperWeight (negsuc w) = L.horizon + suc w
 
+-- that of w ≤ b - a, for the least time of b: it is a - b ≤ -w
 abbrev pub lowerWeight : ℤ → ℕ
-lowerWeight w = raised w
+lowerWeight w = upperWeight (negℤ w)
 
 -- what a bound asks of event u at the times of row, and 10,080
 abbrev pub asking : ℕ → ℕ → ℕ → List ℕ → ℕ → ℕ

@@ -11,22 +11,23 @@ ghost use Rattle.bounds.specs.Listed.{Lists, Short, Bound, Added, listed
 ghost use Rattle.bounds.specs.Halves.{Listable, UpperAdded, LowerAdded};
 use network::Constraint;
 use network::Label;
+use network::Network;
 use rows::Frame;
 
-// The weight that keeps `to` at most the bound after `from`: `from` is at least the bound negated after `to`.
-fn upper_weight(bound: i32) -> u16
-    requires { ⌜ InLimits bound ⌝ }
-    ensures { λ r. ⌜ r ≡ upperWeight bound ⌝ }
+// The weight that keeps `to` at most the limit after `from`: 10,080 less the limit, which never is negative.
+fn upper_weight(limit: i32) -> u16
+    requires { ⌜ InLimits limit ⌝ }
+    ensures { λ r. ⌜ r ≡ upperWeight limit ⌝ }
 {
-    network::raised(-bound)
+    (Network::HORIZON as i32 - limit) as u16
 }
 
-// The weight that keeps `to` at least the bound after `from`.
-fn lower_weight(bound: i32) -> u16
-    requires { ⌜ InLimits bound ⌝ }
-    ensures { λ r. ⌜ r ≡ lowerWeight bound ⌝ }
+// The weight that keeps `to` at least the limit after `from`, that is, `from` at most the limit negated after `to`.
+fn lower_weight(limit: i32) -> u16
+    requires { ⌜ InLimits limit ⌝ }
+    ensures { λ r. ⌜ r ≡ lowerWeight limit ⌝ }
 {
-    network::raised(bound)
+    upper_weight(-limit)
 }
 
 // One more bound in the list of scenario s.

@@ -53,6 +53,20 @@ sum-is : (w : ℤ) → InLimits w → w +ℤ pos 10080 ≡ pos (raised w)
 sum-is (pos w) h = ap pos (omega arith)
 sum-is (negsuc w) h = rw (le-ltb 10080 (suc w) h)
 
+-- a number of the code from 0 to 20,160 fits, and is cast to 16 bits as it is
+module _ (z : ℤ) (n : ℕ) (e : z ≡ pos n) (few : n ≤ 20160) where
+  pub unsigned-fits : SFits w32 z
+  unsigned-fits = rw e (record { sfits = omega arith })
+
+  same : toZ w32 (ofZ w32 z) ≡ pos n
+  same = toZ-ofZ unsigned-fits ∙ e
+
+  pub unsigned-cast : T (nonNeg (toZ w32 (ofZ w32 z))) × Fits w16 (natAbs (toZ w32 (ofZ w32 z)))
+  unsigned-cast = rw same (tt, record { fits = omega arith })
+
+  pub unsigned-value : natAbs (toZ w32 (ofZ w32 z)) ≡ n
+  unsigned-value = rw same
+
 -- the limit and 10,080, as the code adds them
 module _ (w : ℤ) (h : InLimits w) where
   abbrev sum : ℤ
@@ -62,16 +76,13 @@ module _ (w : ℤ) (h : InLimits w) where
   total = rw (read-back w h) (sum-is w h)
 
   pub sum-fits : SFits w32 sum
-  sum-fits = let few = raised-few w h in rw total (record { sfits = omega arith })
-
-  same : toZ w32 (ofZ w32 sum) ≡ pos (raised w)
-  same = toZ-ofZ sum-fits ∙ total
+  sum-fits = unsigned-fits sum (raised w) total (raised-few w h)
 
   pub sum-cast : T (nonNeg (toZ w32 (ofZ w32 sum))) × Fits w16 (natAbs (toZ w32 (ofZ w32 sum)))
-  sum-cast = let few = raised-few w h in rw same (tt, record { fits = omega arith })
+  sum-cast = unsigned-cast sum (raised w) total (raised-few w h)
 
   pub sum-value : natAbs (toZ w32 (ofZ w32 sum)) ≡ raised w
-  sum-value = rw same
+  sum-value = unsigned-value sum (raised w) total (raised-few w h)
 
 -- 10,080 less, as the code subtracts it from a number of 16 bits
 module _ (v : ℕ) (h : v < 65536) where

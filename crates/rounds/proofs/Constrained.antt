@@ -20,6 +20,7 @@ use Rattle.rows.specs.declared.Frame.{Frame}
 use Rattle.rows.specs.Framed.{Framed}
 use Rattle.bounds.specs.Listed.{asking, upperWeight, lowerWeight, Lists}
 use Rattle.bounds.specs.Halves.{Listable, UpperAdded, LowerAdded}
+use Rattle.bounds.proofs.Weights.{neg-weight}
 use Rattle.bounds.proofs.Halves.{upper-lists, lower-lists}
 use Rattle.rounds.specs.Propagate.{leastFrom, leastTo, isUpper, isLower, upperBound, lowerBound}
 use Rattle.rounds.specs.Compiled.{RowIn, Constrained, Listing}
@@ -31,8 +32,8 @@ upper-adds b (pos (suc w)) h = omega arith
 upper-adds b (negsuc w) h = omega arith
 
 lower-adds : (a : ℕ) (w : ℤ) → InLimits w → a + lowerWeight w - 10080 ≡ leastTo a w
-lower-adds a (pos w) h = omega arith
-lower-adds a (negsuc w) h = omega arith
+lower-adds a (pos w) h = omega (arith, neg-weight (pos w))
+lower-adds a (negsuc w) h = omega (arith, neg-weight (negsuc w))
 
 -- a half that counts, and one that does not
 counts : (a k b : Bool) (x y h : ℕ) → k ≡ true → x - h ≡ y → cond a (cond b x 0) 0 - h ≡ cond (a && (k && b)) y 0

@@ -1,18 +1,21 @@
--- The limit negated, which is a limit again (the network's `Signed`), without its sign. Assumes nothing.
-use mathlib.Core.Path.{_∙_, ap}
-use Rattle.network.specs.Raised.{raised}
-use Rattle.network.proofs.Signed.{negated-fits, negated-read, negated-limit}
+-- 10,080 less the limit is neither negative nor over 20,160, so it fits and is cast as it is (`Weights`). Assumes
+-- nothing.
+use borrow.Author.Needs.{needs}
+use Rattle.bounds.proofs.Weights.{less-fits, less-cast, less-value}
 use Rattle.bounds.proofs.upper_weight.Statement.{statement}
 use Rattle.bounds.proofs.upper_weight.Tie as tie
 
-sub-raised : tie.Need-sub-raised
-sub-raised c = negated-fits (c .args .bound) (c .pre)
+cast-result : tie.Need-cast-result
+cast-result c = search needs
 
-raised-requires : tie.Need-raised-requires
-raised-requires c κs = negated-limit (c .args .bound) (c .pre)
+sub-result : tie.Need-sub-result
+sub-result c = less-fits (c .args .limit) (c .pre)
+
+cast-result-2 : tie.Need-cast-result-2
+cast-result-2 c = less-cast (c .args .limit) (c .pre)
 
 returns : tie.Need-returns
-returns c = c .raised .ensures ∙ ap raised (negated-read (c .before .args .bound) (c .before .pre))
+returns c = less-value (c .args .limit) (c .pre)
 
 pub upper-weight-spec : {M : Type 1} → statement M
-upper-weight-spec = tie.close (tie.spec sub-raised raised-requires returns)
+upper-weight-spec = tie.close (tie.spec cast-result sub-result cast-result-2 returns)
