@@ -1,10 +1,11 @@
 // Constraints as lists of difference bounds, one list for each scenario: how they are listed, and how a row of times
 // is raised by them. A bound asks that the time of its target is at least the time of its source and its weight, less
 // 10,080. The lists are lent: counts has how many bounds each scenario has, and lists has three numbers for each:
-// target, source, weight; those of scenario s stand from bound 128 s on.
+// target, source, weight; those of scenario s stand from bound BOUNDS * s on.
 ghost use mathlib.Core.Path.{_≡_};
 ghost use Prim.Native.Nat.{ℕ, _+_, _-_, _*_, _≤_, _<_, max};
 ghost use lib.ListN.{length, getD};
+ghost use Rattle.network.specs.Limits as L;
 ghost use Rattle.network.specs.WellFormed.{InLimits};
 ghost use Rattle.rows.specs.Rows.{Few, Row};
 ghost use Rattle.bounds.specs.Listed.{Lists, Short, Bound, Added, listed, upperWeight, lowerWeight, countAfter, listAfter};
@@ -13,6 +14,11 @@ use network::Constraint;
 use network::Label;
 use network::Network;
 use rows::Frame;
+
+// The most bounds of one scenario, two for each rule, and the numbers of all lists, three for each bound.
+pub const BOUNDS: usize = 2 * Network::RULES;
+
+pub const LIST: usize = Network::CASES * BOUNDS * 3;
 
 // The weight that keeps `to` at most the limit after `from`: 10,080 less the limit, which never is negative.
 fn upper_weight(limit: i32) -> u16
@@ -36,17 +42,17 @@ fn append(
     target: usize,
     source: usize,
     weight: u16,
-    counts: &mut [usize; 16],
-    lists: &mut [u16; 6144],
+    counts: &mut [usize; Network::CASES],
+    lists: &mut [u16; LIST],
 )
-    requires { ⌜ (s < 16) × (target < 16) × (source < 16) × (length (now counts) ≡ 16)
+    requires { ⌜ (s < L.cases) × (target < L.events) × (source < L.events) × (length (now counts) ≡ L.cases)
         × (length (now lists) ≡ 6144) × (getD (now counts) s 0 < 128) ⌝ }
     ensures { λ _. ⌜ (now (counts .exit) ≡ countAfter (now (counts .entry)) s)
         × (now (lists .exit) ≡ listAfter (now (lists .entry))
         (s * 128 + getD (now (counts .entry)) s 0) target source weight) ⌝ }
 {
     let count = counts[s];
-    let e = (s * 128 + count) * 3;
+    let e = (s * BOUNDS + count) * 3;
     lists[e] = target as u16;
     lists[e + 1] = source as u16;
     lists[e + 2] = weight;
@@ -60,8 +66,8 @@ fn list_bound(
     target: usize,
     source: usize,
     weight: u16,
-    counts: &mut [usize; 16],
-    lists: &mut [u16; 6144],
+    counts: &mut [usize; Network::CASES],
+    lists: &mut [u16; LIST],
 )
     requires { ⌜ Bound frame label target source weight × Lists (frame .events) (now counts) (now lists)
         × Short 127 (now counts) ⌝ }
@@ -79,7 +85,12 @@ fn list_bound(
 }
 
 // The bound of a constraint's upper half: `to` comes at most the limit after `from`.
-pub fn list_upper(frame: Frame, c: Constraint, counts: &mut [usize; 16], lists: &mut [u16; 6144])
+pub fn list_upper(
+    frame: Frame,
+    c: Constraint,
+    counts: &mut [usize; Network::CASES],
+    lists: &mut [u16; LIST],
+)
     requires { ⌜ Listable frame c × Lists (frame .events) (now counts) (now lists) × Short 127 (now counts) ⌝ }
     ensures { λ _. ⌜ UpperAdded frame c (now (counts .entry)) (now (lists .entry)) (now (counts .exit))
         (now (lists .exit)) ⌝ }
@@ -90,7 +101,12 @@ pub fn list_upper(frame: Frame, c: Constraint, counts: &mut [usize; 16], lists: 
 }
 
 // The bound of its lower half: `to` comes at least the limit after `from`.
-pub fn list_lower(frame: Frame, c: Constraint, counts: &mut [usize; 16], lists: &mut [u16; 6144])
+pub fn list_lower(
+    frame: Frame,
+    c: Constraint,
+    counts: &mut [usize; Network::CASES],
+    lists: &mut [u16; LIST],
+)
     requires { ⌜ Listable frame c × Lists (frame .events) (now counts) (now lists) × Short 127 (now counts) ⌝ }
     ensures { λ _. ⌜ LowerAdded frame c (now (counts .entry)) (now (lists .entry)) (now (counts .exit))
         (now (lists .exit)) ⌝ }
@@ -101,13 +117,13 @@ pub fn list_lower(frame: Frame, c: Constraint, counts: &mut [usize; 16], lists: 
 }
 
 // 10,080 more than each time, so that no bound needs a sign.
-pub fn lift(row: &[u16; 16], o: &mut [u16; 16])
-    requires { ⌜ Few 10080 (now row) × (length (now o) ≡ 16) ⌝ }
-    ensures { λ _. ⌜ Row (now (o .exit)) (λ u. getD (now (row .entry)) u 0 + 10080) ⌝ }
+pub fn lift(row: &[u16; Network::EVENTS], o: &mut [u16; Network::EVENTS])
+    requires { ⌜ Few L.horizon (now row) × (length (now o) ≡ L.events) ⌝ }
+    ensures { λ _. ⌜ Row (now (o .exit)) (λ u. getD (now (row .entry)) u 0 + L.horizon) ⌝ }
 {
     let mut u: usize = 0;
-    while u < 16 {
-        o[u] = row[u] + 10080;
+    while u < Network::EVENTS {
+        o[u] = row[u] + Network::HORIZON;
         u += 1;
     }
 }
@@ -115,19 +131,19 @@ pub fn lift(row: &[u16; 16], o: &mut [u16; 16])
 // The bounds of scenario s: o, 10,080 more than the times, is raised as far as they say.
 pub fn raise_by_bounds(
     s: usize,
-    counts: &[usize; 16],
-    lists: &[u16; 6144],
-    row: &[u16; 16],
-    o: &mut [u16; 16],
+    counts: &[usize; Network::CASES],
+    lists: &[u16; LIST],
+    row: &[u16; Network::EVENTS],
+    o: &mut [u16; Network::EVENTS],
 )
-    requires { ⌜ (s < 16) × Lists 16 (now counts) (now lists) × Short 128 (now counts)
-        × Few 10080 (now row) × (length (now o) ≡ 16) × Few 32767 (now o) ⌝ }
+    requires { ⌜ (s < L.cases) × Lists L.events (now counts) (now lists) × Short 128 (now counts)
+        × Few L.horizon (now row) × (length (now o) ≡ L.events) × Few 32767 (now o) ⌝ }
     ensures { λ _. ⌜ Row (now (o .exit))
         (λ u. max (getD (now (o .entry)) u 0)
         (listed (now (counts .entry)) (now (lists .entry)) s (now (row .entry)) u)) ⌝ }
 {
     let count = counts[s];
-    let base = s * 128;
+    let base = s * BOUNDS;
     let mut j: usize = 0;
     while j < count {
         let e = (base + j) * 3;
@@ -139,13 +155,13 @@ pub fn raise_by_bounds(
 }
 
 // The times again.
-pub fn lower(o: &mut [u16; 16])
-    requires { ⌜ ((u : ℕ) → u < 16 → 10080 ≤ getD (now o) u 0) × (length (now o) ≡ 16) ⌝ }
-    ensures { λ _. ⌜ Row (now (o .exit)) (λ u. getD (now (o .entry)) u 0 - 10080) ⌝ }
+pub fn lower(o: &mut [u16; Network::EVENTS])
+    requires { ⌜ ((u : ℕ) → u < L.events → L.horizon ≤ getD (now o) u 0) × (length (now o) ≡ L.events) ⌝ }
+    ensures { λ _. ⌜ Row (now (o .exit)) (λ u. getD (now (o .entry)) u 0 - L.horizon) ⌝ }
 {
     let mut u: usize = 0;
-    while u < 16 {
-        o[u] = o[u] - 10080;
+    while u < Network::EVENTS {
+        o[u] = o[u] - Network::HORIZON;
         u += 1;
     }
 }

@@ -148,7 +148,7 @@ fn first_broken(network: Network, table: &[u16]) -> Found
 
 // Whether s and r give p the same truth.
 fn agree(s: usize, r: usize, p: usize) -> bool
-    requires { ⌜ (s < 16) × (r < 16) × (p < L.signals) ⌝ }
+    requires { ⌜ (s < L.cases) × (r < L.cases) × (p < L.signals) ⌝ }
     ensures { λ b. ⌜ b ≡ S.agree s r p ⌝ }
 {
     ((s ^ r) >> p) & 1 == 0
@@ -181,7 +181,7 @@ fn apart(
     s: usize,
     r: usize,
 ) -> u32
-    requires { ⌜ P.Observed events (now table) s (now observations) signals × (r < 16) ⌝ }
+    requires { ⌜ P.Observed events (now table) s (now observations) signals × (r < L.cases) ⌝ }
     ensures { λ t. ⌜ t ≡ P.apart events (now (table .entry)) s (now (observations .entry)) r signals ⌝ }
 {
     let mut first = NEVER;

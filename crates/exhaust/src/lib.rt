@@ -8,10 +8,12 @@ ghost use Rattle.network.specs.WellFormed.{WellFormed};
 use checker::Verdict;
 use network::Network;
 
-// The most tables that are made, and the most cells that a table has.
+// The most tables that are made, the most cells that a table has, and the latest time of a cell.
 const TABLES: u32 = 70000;
 
 const CELLS: usize = 32;
+
+const LATEST: u16 = 15;
 
 // Whether the network was small enough to be searched; whether it has a solution; the least time of each cell over
 // all solutions.
@@ -154,7 +156,7 @@ pub fn search(network: Network) -> Tried
     if CELLS < cells {
         return untried();
     }
-    if 15 < horizon {
+    if LATEST < horizon {
         return untried();
     }
     let times = horizon as u32 + 1;

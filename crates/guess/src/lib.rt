@@ -3,6 +3,13 @@
 ghost use mathlib.Core.Path.{_≡_};
 ghost use Prim.Native.Nat.{_≤_, _<_};
 ghost use lib.ListN.{length};
+ghost use Rattle.network.specs.Limits as L;
+use network::Network;
+
+// The longest horizon, and half of it.
+const LONGEST: u32 = Network::HORIZON as u32;
+
+const HALF: u32 = LONGEST / 2;
 
 // A round that raises as the marked one did ends a period. From round `from` on a round is marked, and another after
 // `window` rounds in which none was alike. What is to be done next: `keep` the table as the one that periods are
@@ -33,8 +40,13 @@ pub fn first_watch() -> Watching {
 }
 
 // Whether a round raised as mark says.
-fn alike(mark: &[u16; 256], before: &[u16; 256], after: &[u16; 256], cells: usize) -> bool
-    requires { ⌜ cells ≤ 256 ⌝ }
+fn alike(
+    mark: &[u16; Network::CELLS],
+    before: &[u16; Network::CELLS],
+    after: &[u16; Network::CELLS],
+    cells: usize,
+) -> bool
+    requires { ⌜ cells ≤ L.cells ⌝ }
 {
     let mut i: usize = 0;
     while i < cells {
@@ -50,12 +62,12 @@ fn look(
     w: Watching,
     turns: u32,
     age: u32,
-    mark: &[u16; 256],
-    before: &[u16; 256],
-    after: &[u16; 256],
+    mark: &[u16; Network::CELLS],
+    before: &[u16; Network::CELLS],
+    after: &[u16; Network::CELLS],
     cells: usize,
 ) -> Sight
-    requires { ⌜ cells ≤ 256 ⌝ }
+    requires { ⌜ cells ≤ L.cells ⌝ }
 {
     if turns < w.from {
         return Sight::Nothing;
@@ -91,13 +103,13 @@ pub fn watch(
     turns: u32,
     rounds: u32,
     age: u32,
-    mark: &mut [u16; 256],
-    before: &[u16; 256],
-    after: &[u16; 256],
+    mark: &mut [u16; Network::CELLS],
+    before: &[u16; Network::CELLS],
+    after: &[u16; Network::CELLS],
     cells: usize,
 ) -> Watching
-    requires { ⌜ (cells ≤ 256) × (length (now mark) ≡ 256) ⌝ }
-    ensures { λ _. ⌜ length (now (mark .exit)) ≡ 256 ⌝ }
+    requires { ⌜ (cells ≤ L.cells) × (length (now mark) ≡ L.cells) ⌝ }
+    ensures { λ _. ⌜ length (now (mark .exit)) ≡ L.cells ⌝ }
 {
     match look(w, turns, age, mark, before, after, cells) {
         Sight::Nothing => Watching {
@@ -157,8 +169,8 @@ pub struct Counts {
 }
 
 pub fn first_count(most: u32) -> Counts
-    requires { ⌜ most ≤ 10080 ⌝ }
-    ensures { λ r. ⌜ r .j ≤ 10080 ⌝ }
+    requires { ⌜ most ≤ L.horizon ⌝ }
+    ensures { λ r. ⌜ r .j ≤ L.horizon ⌝ }
 {
     Counts {
         j: most,
@@ -169,7 +181,7 @@ pub fn first_count(most: u32) -> Counts
 
 // Few, and at most half as many.
 fn few(j: u32) -> u32
-    ensures { λ r. ⌜ r ≤ 10080 ⌝ }
+    ensures { λ r. ⌜ r ≤ L.horizon ⌝ }
 {
     if j < 8 {
         return j / 2;
@@ -179,18 +191,18 @@ fn few(j: u32) -> u32
 
 // Twice as many, at most the longest horizon.
 fn twice(j: u32) -> u32
-    ensures { λ r. ⌜ r ≤ 10080 ⌝ }
+    ensures { λ r. ⌜ r ≤ L.horizon ⌝ }
 {
-    if 5040 < j {
-        return 10080;
+    if HALF < j {
+        return LONGEST;
     }
     2 * j
 }
 
 // The next count, after one that held or did not.
 pub fn next_count(c: Counts, held: bool) -> Counts
-    requires { ⌜ c .j ≤ 10080 ⌝ }
-    ensures { λ r. ⌜ r .j ≤ 10080 ⌝ }
+    requires { ⌜ c .j ≤ L.horizon ⌝ }
+    ensures { λ r. ⌜ r .j ≤ L.horizon ⌝ }
 {
     if c.first && !held {
         return Counts {
@@ -226,7 +238,7 @@ pub struct Pace {
 
 // Event 0 does not rise, so nothing is told before another cell is chosen.
 pub fn first_pace() -> Pace
-    ensures { λ r. ⌜ r .cell < 256 ⌝ }
+    ensures { λ r. ⌜ r .cell < L.cells ⌝ }
 {
     Pace {
         cell: 0,
@@ -239,9 +251,9 @@ pub fn first_pace() -> Pace
 }
 
 // The later of the times at two places.
-fn later_of(t: &[u16; 256], r: usize, i: usize) -> usize
-    requires { ⌜ (r < 256) × (i < 256) ⌝ }
-    ensures { λ k. ⌜ k < 256 ⌝ }
+fn later_of(t: &[u16; Network::CELLS], r: usize, i: usize) -> usize
+    requires { ⌜ (r < L.cells) × (i < L.cells) ⌝ }
+    ensures { λ k. ⌜ k < L.cells ⌝ }
 {
     if t[r] < t[i] {
         return i;
@@ -250,9 +262,9 @@ fn later_of(t: &[u16; 256], r: usize, i: usize) -> usize
 }
 
 // Where the latest time is.
-fn latest(t: &[u16; 256], cells: usize) -> usize
-    requires { ⌜ cells ≤ 256 ⌝ }
-    ensures { λ k. ⌜ k < 256 ⌝ }
+fn latest(t: &[u16; Network::CELLS], cells: usize) -> usize
+    requires { ⌜ cells ≤ L.cells ⌝ }
+    ensures { λ k. ⌜ k < L.cells ⌝ }
 {
     let mut r: usize = 0;
     let mut i: usize = 0;
@@ -264,9 +276,9 @@ fn latest(t: &[u16; 256], cells: usize) -> usize
 }
 
 // A cell is chosen; the period of the one before it is p.
-fn choose(want: u32, p: u32, turns: u32, after: &[u16; 256], cells: usize) -> Pace
-    requires { ⌜ cells ≤ 256 ⌝ }
-    ensures { λ r. ⌜ r .cell < 256 ⌝ }
+fn choose(want: u32, p: u32, turns: u32, after: &[u16; Network::CELLS], cells: usize) -> Pace
+    requires { ⌜ cells ≤ L.cells ⌝ }
+    ensures { λ r. ⌜ r .cell < L.cells ⌝ }
 {
     let cell = latest(after, cells);
     Pace {
@@ -281,9 +293,9 @@ fn choose(want: u32, p: u32, turns: u32, after: &[u16; 256], cells: usize) -> Pa
 
 // The cell has risen as often as was wanted. A period that is long for the turns made is not told, and is watched
 // again.
-fn tell(w: Pace, turns: u32, after: &[u16; 256], cells: usize) -> Pace
-    requires { ⌜ cells ≤ 256 ⌝ }
-    ensures { λ r. ⌜ r .cell < 256 ⌝ }
+fn tell(w: Pace, turns: u32, after: &[u16; Network::CELLS], cells: usize) -> Pace
+    requires { ⌜ cells ≤ L.cells ⌝ }
+    ensures { λ r. ⌜ r .cell < L.cells ⌝ }
 {
     let p = std::num::wrapping_sub_u32(turns, w.start);
     if turns / 8 < p {
@@ -298,16 +310,16 @@ fn tell(w: Pace, turns: u32, after: &[u16; 256], cells: usize) -> Pace
     )
 }
 
-fn rose(before: &[u16; 256], after: &[u16; 256], cell: usize) -> bool
-    requires { ⌜ cell < 256 ⌝ }
+fn rose(before: &[u16; Network::CELLS], after: &[u16; Network::CELLS], cell: usize) -> bool
+    requires { ⌜ cell < L.cells ⌝ }
 {
     before[cell] < after[cell]
 }
 
 // The cell has risen so often since the turn `start`.
 fn counted(w: Pace, rises: u32, start: u32) -> Pace
-    requires { ⌜ w .cell < 256 ⌝ }
-    ensures { λ r. ⌜ r .cell < 256 ⌝ }
+    requires { ⌜ w .cell < L.cells ⌝ }
+    ensures { λ r. ⌜ r .cell < L.cells ⌝ }
 {
     Pace {
         cell: w.cell,
@@ -324,13 +336,13 @@ fn counted(w: Pace, rises: u32, start: u32) -> Pace
 pub fn follow(
     w: Pace,
     turns: u32,
-    since: &mut [u16; 256],
-    before: &[u16; 256],
-    after: &[u16; 256],
+    since: &mut [u16; Network::CELLS],
+    before: &[u16; Network::CELLS],
+    after: &[u16; Network::CELLS],
     cells: usize,
 ) -> Pace
-    requires { ⌜ (cells ≤ 256) × (length (now since) ≡ 256) × (w .cell < 256) ⌝ }
-    ensures { λ r. ⌜ (length (now (since .exit)) ≡ 256) × (r .cell < 256) ⌝ }
+    requires { ⌜ (cells ≤ L.cells) × (length (now since) ≡ L.cells) × (w .cell < L.cells) ⌝ }
+    ensures { λ r. ⌜ (length (now (since .exit)) ≡ L.cells) × (r .cell < L.cells) ⌝ }
 {
     let cell = w.cell;
     if w.until < turns {
@@ -370,9 +382,16 @@ fn fewer(j: u32, t: u16, d: u16, horizon: u16) -> u32
 }
 
 // How often the rises d may be added to t, and once more within the horizon, by at most so many rounds, p each time.
-pub fn most(t: &[u16; 256], d: &[u16; 256], horizon: u16, p: u32, left: u32, cells: usize) -> u32
-    requires { ⌜ cells ≤ 256 ⌝ }
-    ensures { λ r. ⌜ r ≤ 10080 ⌝ }
+pub fn most(
+    t: &[u16; Network::CELLS],
+    d: &[u16; Network::CELLS],
+    horizon: u16,
+    p: u32,
+    left: u32,
+    cells: usize,
+) -> u32
+    requires { ⌜ cells ≤ L.cells ⌝ }
+    ensures { λ r. ⌜ r ≤ L.horizon ⌝ }
 {
     let mut j: u32 = affordable(p, left);
     let mut i: usize = 0;
@@ -385,14 +404,14 @@ pub fn most(t: &[u16; 256], d: &[u16; 256], horizon: u16, p: u32, left: u32, cel
 
 // How often p rounds are among those left, at most the longest horizon.
 fn affordable(p: u32, left: u32) -> u32
-    ensures { λ r. ⌜ r ≤ 10080 ⌝ }
+    ensures { λ r. ⌜ r ≤ L.horizon ⌝ }
 {
     if p == 0 {
         return 0;
     }
     let k = left / p;
-    if 10080 < k {
-        return 10080;
+    if LONGEST < k {
+        return LONGEST;
     }
     k
 }
@@ -405,8 +424,8 @@ fn greater_below(r: u16, d: u16, limit: u16) -> u16 {
 }
 
 // The highest rise below the limit.
-pub fn highest_below(d: &[u16; 256], limit: u16, cells: usize) -> u16
-    requires { ⌜ cells ≤ 256 ⌝ }
+pub fn highest_below(d: &[u16; Network::CELLS], limit: u16, cells: usize) -> u16
+    requires { ⌜ cells ≤ L.cells ⌝ }
 {
     let mut r: u16 = 0;
     let mut i: usize = 0;
@@ -420,13 +439,13 @@ pub fn highest_below(d: &[u16; 256], limit: u16, cells: usize) -> u16
 // A rise and one more, if it is not 0: cells that have another period may rise once more in some p rounds than in
 // others.
 pub fn margin(m: u16) -> u16
-    ensures { λ r. ⌜ r ≤ 10080 ⌝ }
+    ensures { λ r. ⌜ r ≤ L.horizon ⌝ }
 {
     if m == 0 {
         return 0;
     }
-    if 10080 <= m {
-        return 10080;
+    if Network::HORIZON <= m {
+        return Network::HORIZON;
     }
     m + 1
 }

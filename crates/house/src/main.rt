@@ -4,7 +4,7 @@ use opening::Written;
 
 // No form is longer than a sheet may be.
 fn print_house(sheet: &[u8]) {
-    let mut page = [0u8; 4096];
+    let mut page = [0u8; opening::SHEET_BYTES];
     let written = opening::write_house(sheet, &mut page);
     match written {
         Written::Refused(refusal) => report::print_refusal(refusal),
@@ -14,7 +14,7 @@ fn print_house(sheet: &[u8]) {
 
 // One byte more than the longest sheet shows that a sheet is too long.
 fn main() {
-    let mut sheet = [0u8; 4097];
+    let mut sheet = [0u8; opening::SHEET_BYTES + 1];
     let n = io::read_full(STDIN_FILENO, &mut sheet);
     print_house(&sheet[..n]);
 }

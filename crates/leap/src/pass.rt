@@ -1,15 +1,17 @@
 // The leap: rounds passed over at once, if p of them are seen to add the same rises again and again.
 ghost use mathlib.Core.Path.{_≡_};
 ghost use Prim.Native.Nat.{_+_, _*_, _≤_, _<_};
+ghost use Rattle.network.specs.Limits as L;
 ghost use Rattle.rows.specs.Rows.{Times};
 ghost use Rattle.rounds.specs.Compiled.{Usable};
 ghost use Rattle.moves.specs.Levels.{Some};
 ghost use Rattle.leap.specs.Tables.{Advanced};
 use crate::test;
+use network::Network;
 use rows::Frame;
 
 fn product(j: u32, p: u32) -> u32
-    requires { ⌜ (j ≤ 10080) × (p ≤ 65535) ⌝ }
+    requires { ⌜ (j ≤ L.horizon) × (p ≤ 65535) ⌝ }
     ensures { λ r. ⌜ r ≡ j * p ⌝ }
 {
     j * p
@@ -18,19 +20,19 @@ fn product(j: u32, p: u32) -> u32
 // j times p rounds at once, if they are seen to add d each time, stay within the limits and are no more than are
 // left: how many. x is what p rounds make of a, before and after.
 fn hop(
-    a: &mut [u16; 256],
-    x: &mut [u16; 256],
-    d: &[u16; 256],
+    a: &mut [u16; Network::CELLS],
+    x: &mut [u16; Network::CELLS],
+    d: &[u16; Network::CELLS],
     j: u32,
     p: u32,
     left: u32,
     frame: Frame,
-    counts: &[usize; 16],
-    lists: &[u16; 6144],
+    counts: &[usize; Network::CASES],
+    lists: &[u16; bounds::LIST],
 ) -> u32
     requires { ⌜ Usable frame (now counts) (now lists) × Times (frame .events) (frame .scenarios) (now a)
-        × Times (frame .events) (frame .scenarios) (now d) × (j ≤ 10080) × (p ≤ 65535)
-        × Some (now d) (frame .scenarios * 16)
+        × Times (frame .events) (frame .scenarios) (now d) × (j ≤ L.horizon) × (p ≤ 65535)
+        × Some (now d) (frame .scenarios * L.events)
         × Advanced frame (now counts) (now lists) p (now a) (now x) ⌝ }
     ensures { λ r. ⌜ (r ≤ left) × Advanced frame (now (counts .entry)) (now (lists .entry)) r (now (a .entry))
         (now (a .exit))
@@ -40,15 +42,15 @@ fn hop(
     if left < made {
         return 0;
     }
-    let mut o: [u16; 256] = [0; 256];
+    let mut o: [u16; Network::CELLS] = [0; Network::CELLS];
     if !moves::place(
         a,
         d,
         0,
-        10080,
+        Network::HORIZON,
         j,
         frame.horizon,
-        frame.scenarios * 16,
+        frame.scenarios * Network::EVENTS,
         &mut o,
     ) {
         return 0;
@@ -73,13 +75,13 @@ fn hop(
 // horizon.
 pub fn pass_over(
     leaps: bool,
-    a: &mut [u16; 256],
-    x: &mut [u16; 256],
+    a: &mut [u16; Network::CELLS],
+    x: &mut [u16; Network::CELLS],
     p: u32,
     left: u32,
     frame: Frame,
-    counts: &[usize; 16],
-    lists: &[u16; 6144],
+    counts: &[usize; Network::CASES],
+    lists: &[u16; bounds::LIST],
 ) -> u32
     requires { ⌜ Usable frame (now counts) (now lists) × Times (frame .events) (frame .scenarios) (now a)
         × Advanced frame (now counts) (now lists) p (now a) (now x) ⌝ }
@@ -94,8 +96,8 @@ pub fn pass_over(
     if 65535 < p {
         return 0;
     }
-    let cells = frame.scenarios * 16;
-    let mut d: [u16; 256] = [0; 256];
+    let cells = frame.scenarios * Network::EVENTS;
+    let mut d: [u16; Network::CELLS] = [0; Network::CELLS];
     moves::rise(a, x, &mut d, cells);
     if moves::next_level(&d, 0, cells) == 0 {
         return 0;

@@ -5,9 +5,11 @@ ghost use mathlib.Core.Path.{_≡_};
 ghost use mathlib.Core.Bool.{true};
 ghost use Prim.Native.Nat.{_+_, _-_, _*_, _%_, _≤_, _<_, min};
 ghost use lib.ListN.{length, getD};
+ghost use Rattle.network.specs.Limits as L;
 ghost use Rattle.rows.specs.Rows.{Wrote};
 ghost use Rattle.moves.specs.Moves.{partOf, Placed, Between, Clipped};
 ghost use Rattle.moves.specs.Levels.{NextLevel};
+use network::Network;
 
 fn above(b: u16, a: u16) -> u16
     ensures { λ r. ⌜ r ≡ b - a ⌝ }
@@ -19,8 +21,13 @@ fn above(b: u16, a: u16) -> u16
 }
 
 // How far each time of x is above t's.
-pub fn rise(t: &[u16; 256], x: &[u16; 256], d: &mut [u16; 256], cells: usize)
-    requires { ⌜ (cells ≤ 256) × (length (now d) ≡ 256) ⌝ }
+pub fn rise(
+    t: &[u16; Network::CELLS],
+    x: &[u16; Network::CELLS],
+    d: &mut [u16; Network::CELLS],
+    cells: usize,
+)
+    requires { ⌜ (cells ≤ L.cells) × (length (now d) ≡ L.cells) ⌝ }
     ensures { λ _. ⌜ Wrote (now (d .entry)) (now (d .exit)) 0 cells
         (λ i. getD (now (x .entry)) i 0 - getD (now (t .entry)) i 0) ⌝ }
 {
@@ -32,8 +39,8 @@ pub fn rise(t: &[u16; 256], x: &[u16; 256], d: &mut [u16; 256], cells: usize)
 }
 
 // The first cells of b into a.
-pub fn copy(b: &[u16; 256], a: &mut [u16; 256], cells: usize)
-    requires { ⌜ (cells ≤ 256) × (length (now a) ≡ 256) ⌝ }
+pub fn copy(b: &[u16; Network::CELLS], a: &mut [u16; Network::CELLS], cells: usize)
+    requires { ⌜ (cells ≤ L.cells) × (length (now a) ≡ L.cells) ⌝ }
     ensures { λ _. ⌜ Wrote (now (a .entry)) (now (a .exit)) 0 cells (λ i. getD (now (b .entry)) i 0) ⌝ }
 {
     let mut i: usize = 0;
@@ -56,7 +63,7 @@ fn part(d: u16, lo: u16, hi: u16) -> u16
 
 // The time t moved on j times by e.
 pub fn reached(t: u16, e: u16, j: u32) -> u32
-    requires { ⌜ (e ≤ 10080) × (j ≤ 10080) ⌝ }
+    requires { ⌜ (e ≤ L.horizon) × (j ≤ L.horizon) ⌝ }
     ensures { λ r. ⌜ r ≡ t + j * e ⌝ }
 {
     t as u32 + j * e as u32
@@ -64,12 +71,12 @@ pub fn reached(t: u16, e: u16, j: u32) -> u32
 
 // Whether the cell i may have the time v: event 0 stays at 0.
 fn fits(v: u32, i: usize, horizon: u16) -> bool
-    ensures { λ r. ⌜ (r ≡ true → (v ≤ horizon) × (i % 16 ≡ 0 → v ≡ 0)) ⌝ }
+    ensures { λ r. ⌜ (r ≡ true → (v ≤ horizon) × (i % L.events ≡ 0 → v ≡ 0)) ⌝ }
 {
     if (horizon as u32) < v {
         return false;
     }
-    if i % 16 == 0 {
+    if i % Network::EVENTS == 0 {
         return v == 0;
     }
     true
@@ -77,17 +84,17 @@ fn fits(v: u32, i: usize, horizon: u16) -> bool
 
 // t moved on j times by the part of its rises d between lo and hi; whether it is within the limits.
 pub fn place(
-    t: &[u16; 256],
-    d: &[u16; 256],
+    t: &[u16; Network::CELLS],
+    d: &[u16; Network::CELLS],
     lo: u16,
     hi: u16,
     j: u32,
     horizon: u16,
     cells: usize,
-    o: &mut [u16; 256],
+    o: &mut [u16; Network::CELLS],
 ) -> bool
-    requires { ⌜ (cells ≤ 256) × (length (now o) ≡ 256) × (j ≤ 10080) × (hi ≤ 10080) ⌝ }
-    ensures { λ r. ⌜ (length (now (o .exit)) ≡ 256)
+    requires { ⌜ (cells ≤ L.cells) × (length (now o) ≡ L.cells) × (j ≤ L.horizon) × (hi ≤ L.horizon) ⌝ }
+    ensures { λ r. ⌜ (length (now (o .exit)) ≡ L.cells)
         × (r ≡ true → Placed (now (t .entry)) (now (d .entry)) lo hi j horizon cells (now (o .exit))) ⌝ }
 {
     let mut i: usize = 0;
@@ -120,8 +127,8 @@ fn nearer(a: u16, l: u16, r: u16) -> u16
 }
 
 // The least level above l, or 0.
-pub fn next_level(d: &[u16; 256], l: u16, cells: usize) -> u16
-    requires { ⌜ cells ≤ 256 ⌝ }
+pub fn next_level(d: &[u16; Network::CELLS], l: u16, cells: usize) -> u16
+    requires { ⌜ cells ≤ L.cells ⌝ }
     ensures { λ r. ⌜ NextLevel (now (d .entry)) l cells r ⌝ }
 {
     let mut r: u16 = 0;
@@ -152,15 +159,15 @@ fn is_between(t: u16, d: u16, l: u16, low: u32, high: u32, o: u16) -> bool
 
 // Whether each time whose rise is l has gone at least `low` and at most `high` from t to o.
 pub fn between(
-    t: &[u16; 256],
-    d: &[u16; 256],
+    t: &[u16; Network::CELLS],
+    d: &[u16; Network::CELLS],
     l: u16,
     low: u32,
     high: u32,
-    o: &[u16; 256],
+    o: &[u16; Network::CELLS],
     cells: usize,
 ) -> bool
-    requires { ⌜ (cells ≤ 256) × (low ≤ 200000000) × (high ≤ 200000000) ⌝ }
+    requires { ⌜ (cells ≤ L.cells) × (low ≤ 200000000) × (high ≤ 200000000) ⌝ }
     ensures { λ r. ⌜ (r ≡ true → Between (now (t .entry)) (now (d .entry)) l low high (now (o .entry)) cells) ⌝ }
 {
     let mut i: usize = 0;
@@ -176,8 +183,8 @@ pub fn between(
 // The highest rise stays, none stays none, and any other becomes m: bounds that are guessed, so no more is promised
 // than that rounds may go from what they are.
 fn clip_one(d: u16, top: u16, m: u16) -> u16
-    requires { ⌜ m ≤ 10080 ⌝ }
-    ensures { λ r. ⌜ (d ≤ 10080 → r ≤ 10080) × (d ≡ 0 → r ≡ 0) ⌝ }
+    requires { ⌜ m ≤ L.horizon ⌝ }
+    ensures { λ r. ⌜ (d ≤ L.horizon → r ≤ L.horizon) × (d ≡ 0 → r ≡ 0) ⌝ }
 {
     if d == 0 || d == top {
         return d;
@@ -185,8 +192,14 @@ fn clip_one(d: u16, top: u16, m: u16) -> u16
     m
 }
 
-pub fn clip(d: &[u16; 256], top: u16, m: u16, o: &mut [u16; 256], cells: usize)
-    requires { ⌜ (cells ≤ 256) × (length (now o) ≡ 256) × (m ≤ 10080) ⌝ }
+pub fn clip(
+    d: &[u16; Network::CELLS],
+    top: u16,
+    m: u16,
+    o: &mut [u16; Network::CELLS],
+    cells: usize,
+)
+    requires { ⌜ (cells ≤ L.cells) × (length (now o) ≡ L.cells) × (m ≤ L.horizon) ⌝ }
     ensures { λ _. ⌜ Clipped (now (d .entry)) cells (now (o .exit)) ⌝ }
 {
     let mut i: usize = 0;

@@ -1,6 +1,6 @@
 -- The limits of a sheet (01, The sheet). The code has them as constants of `Network`, whose contract `limits` pins
 -- them to these.
-use Prim.Native.Nat.{ℕ}
+use Prim.Native.Nat.{ℕ, _*_, _^_}
 
 -- "H from 0 to 10,080", and the size of a rule's limit
 abbrev pub horizon : ℕ
@@ -17,3 +17,10 @@ signals = 4
 -- "m from 0 to 64"
 abbrev pub rules : ℕ
 rules = 64
+
+-- "There are 2^k cases", and a table has "n × 2^k in all"
+abbrev pub cases : ℕ
+cases = 2 ^ signals
+
+abbrev pub cells : ℕ
+cells = events * cases

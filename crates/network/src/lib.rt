@@ -4,7 +4,7 @@ ghost use mathlib.Core.Path.{_≡_};
 ghost use Prim.Native.Nat.{_*_, _^_, _≤_, _<_};
 ghost use Rattle.network.specs.Limits as L;
 ghost use Rattle.network.specs.Scenario as S;
-ghost use Rattle.network.specs.Build.{limits, empty, withEvent, withSignal, withRule};
+ghost use Rattle.network.specs.Build.{limits, empty};
 ghost use Rattle.network.specs.WellFormed.{InLimits};
 ghost use Rattle.network.specs.Raised as R;
 
@@ -65,6 +65,11 @@ impl Network {
 
     pub const RULES: usize = 64;
 
+    // As many cases as the signals make, and as many cells as a table then has.
+    pub const CASES: usize = 1 << Self::SIGNALS;
+
+    pub const CELLS: usize = Self::EVENTS * Self::CASES;
+
     // The constants are document 01's numbers.
     pub fn limits() -> Limits
         ensures { λ r. ⌜ r ≡ limits ⌝ }
@@ -103,46 +108,11 @@ impl Network {
             constraints: [c; Self::RULES],
         }
     }
-
-    // One event more, whose name is the sheet's part from start on.
-    pub fn with_event(mut self, start: usize, length: usize) -> Self
-        requires { ⌜ self .events < L.events ⌝ }
-        ensures { λ r. ⌜ r ≡ withEvent self start length ⌝ }
-    {
-        let u = self.events;
-        self.starts[u] = start;
-        self.lengths[u] = length;
-        self.events = u + 1;
-        self
-    }
-
-    // One proposition more.
-    pub fn with_signal(mut self, letter: u8, observation: usize) -> Self
-        requires { ⌜ self .signals < L.signals ⌝ }
-        ensures { λ r. ⌜ r ≡ withSignal self letter observation ⌝ }
-    {
-        let p = self.signals;
-        self.letters[p] = letter;
-        self.observations[p] = observation;
-        self.signals = p + 1;
-        self
-    }
-
-    // One constraint more.
-    pub fn with_rule(mut self, constraint: Constraint) -> Self
-        requires { ⌜ self .rules < L.rules ⌝ }
-        ensures { λ r. ⌜ r ≡ withRule self constraint ⌝ }
-    {
-        let c = self.rules;
-        self.constraints[c] = constraint;
-        self.rules = c + 1;
-        self
-    }
 }
 
 // Whether s satisfies the label: all of its true letters, and none of its false ones.
 pub fn satisfies(s: usize, label: Label) -> bool
-    requires { ⌜ (s < 16) × (label .positive < 16) × (label .negative < 16) ⌝ }
+    requires { ⌜ (s < L.cases) × (label .positive < L.cases) × (label .negative < L.cases) ⌝ }
     ensures { λ r. ⌜ r ≡ S.satisfies s label ⌝ }
 {
     let positive = label.positive as usize;
@@ -174,12 +144,12 @@ pub fn raised(bound: i32) -> u16
     requires { ⌜ InLimits bound ⌝ }
     ensures { λ r. ⌜ r ≡ R.raised bound ⌝ }
 {
-    (bound + 10080) as u16
+    (bound + Network::HORIZON as i32) as u16
 }
 
 // The limit that was raised to v.
 pub fn lowered(v: u16) -> i32
     ensures { λ r. ⌜ r ≡ R.lowered v ⌝ }
 {
-    v as i32 - 10080
+    v as i32 - Network::HORIZON as i32
 }

@@ -7,6 +7,7 @@ use crate::Judgement;
 use crate::Written;
 use checker::Breach;
 use checker::Verdict;
+use network::Network;
 use refusal::Cause;
 use refusal::Refusal;
 use sheet::Outcome;
@@ -26,7 +27,7 @@ fn judge_bytes(sheet: &[u8], bytes: &[u8]) -> Judgement
             if bytes.len() != 2 * cells {
                 return Judgement::Refused(crate::without_line(Cause::WrongTableLength));
             }
-            let mut table = [0u16; 256];
+            let mut table = [0u16; Network::CELLS];
             pairs::unpack(bytes, &mut table);
             Judgement::Judged(checker::check(network, &table[..cells]))
         }
@@ -47,7 +48,7 @@ fn solve_bytes(sheet: &[u8], bytes: &mut [u8]) -> Written
             if bytes.len() / 2 < cells {
                 return Written::Refused(crate::without_line(Cause::BufferTooShort));
             }
-            let mut table = [0u16; 256];
+            let mut table = [0u16; Network::CELLS];
             let solved = solver::solve(network, &mut table);
             match solved {
                 Solved::Found { rounds: _ } => {

@@ -6,12 +6,21 @@ ghost use Rattle.opening.specs.Play.{eventsDue, eventsDueOn, answerTo};
 use checker::Verdict;
 use dispatch::Dispatched;
 use dispatch::Heard;
+use network::Network;
 use refusal::Cause;
 use refusal::Refusal;
 use sheet::Outcome;
 use solver::Solved;
 
 pub mod bench;
+
+// Lent memory of these lengths is long enough for every sheet: a table's minutes, a listing's bytes, and the bytes of a
+// sheet, also in its house form.
+pub const TABLE_MINUTES: usize = Network::CELLS;
+
+pub const LISTING_BYTES: usize = 2048;
+
+pub const SHEET_BYTES: usize = sheet::LONGEST;
 
 pub struct Counts {
     pub horizon: u16,

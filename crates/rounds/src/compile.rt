@@ -13,7 +13,12 @@ use network::Network;
 use rows::Frame;
 
 // The one or two bounds of a constraint.
-fn list_constraint(frame: Frame, c: Constraint, counts: &mut [usize; 16], lists: &mut [u16; 6144])
+fn list_constraint(
+    frame: Frame,
+    c: Constraint,
+    counts: &mut [usize; Network::CASES],
+    lists: &mut [u16; bounds::LIST],
+)
     requires { ⌜ Listable frame c × Lists (frame .events) (now counts) (now lists) × Short 126 (now counts) ⌝ }
     ensures { λ _. ⌜ Constrained frame c (now (counts .entry)) (now (lists .entry)) (now (counts .exit))
         (now (lists .exit)) ⌝ }
@@ -33,8 +38,8 @@ fn list_constraint(frame: Frame, c: Constraint, counts: &mut [usize; 16], lists:
 pub fn list_constraints(
     network: Network,
     frame: Frame,
-    counts: &mut [usize; 16],
-    lists: &mut [u16; 6144],
+    counts: &mut [usize; Network::CASES],
+    lists: &mut [u16; bounds::LIST],
 )
     requires { ⌜ WellFormed network × Framed network frame × Lists (frame .events) (now counts) (now lists)
         × ((s : ℕ) → getD (now counts) s 0 ≡ 0) ⌝ }

@@ -3,10 +3,12 @@
 ghost use mathlib.Core.Path.{_≡_};
 ghost use Prim.Native.Nat.{_+_, _*_, _<_};
 ghost use lib.ListN.{length, getD};
+ghost use Rattle.network.specs.Limits as L;
 ghost use Rattle.network.specs.declared.Network.{Network};
 ghost use Rattle.rows.specs.Rows.{Few, Times, Stored};
 ghost use Rattle.rounds.specs.Compiled.{Compiled, Usable, raisedAt};
 ghost use Rattle.rounds.specs.Rounds.{Rounded};
+use network::Network;
 use rows::Frame;
 use rows::known;
 
@@ -22,28 +24,28 @@ pub enum Outcome {
 
 // Row s of new: the times of scenario s in t, raised to what constraints and hyperarcs ask.
 fn raise_row(
-    t: &[u16; 256],
-    new: &mut [u16; 256],
+    t: &[u16; Network::CELLS],
+    new: &mut [u16; Network::CELLS],
     s: usize,
     frame: Frame,
-    counts: &[usize; 16],
-    lists: &[u16; 6144],
-    climb: &mut [u16; 16],
-    highest: &mut [u16; 16],
+    counts: &[usize; Network::CASES],
+    lists: &[u16; bounds::LIST],
+    climb: &mut [u16; Network::EVENTS],
+    highest: &mut [u16; Network::EVENTS],
 )
     requires { ⌜ (s < frame .scenarios) × Usable frame (now counts) (now lists)
-        × Times (frame .events) (frame .scenarios) (now t) × (length (now new) ≡ 256)
-        × (length (now climb) ≡ 16) × Few 32767 (now climb)
-        × (length (now highest) ≡ 16) × Few 32767 (now highest) ⌝ }
-    ensures { λ _. ⌜ Stored (now (new .entry)) (now (new .exit)) s (λ u. getD (now (t .entry)) (s * 16 + u) 0)
+        × Times (frame .events) (frame .scenarios) (now t) × (length (now new) ≡ L.cells)
+        × (length (now climb) ≡ L.events) × Few 32767 (now climb)
+        × (length (now highest) ≡ L.events) × Few 32767 (now highest) ⌝ }
+    ensures { λ _. ⌜ Stored (now (new .entry)) (now (new .exit)) s (λ u. getD (now (t .entry)) (s * L.events + u) 0)
         (λ u. raisedAt frame (now (counts .entry)) (now (lists .entry)) (now (t .entry)) s u)
         (now (climb .entry)) (now (climb .exit)) (now (highest .entry)) (now (highest .exit)) ⌝ }
 {
-    let mut row: [u16; 16] = [0; 16];
+    let mut row: [u16; Network::EVENTS] = [0; Network::EVENTS];
     rows::read_row(t, s, &mut row);
-    let mut first: [u16; 16] = [0; 16];
+    let mut first: [u16; Network::CASES] = [0; Network::CASES];
     known::first_known(&row, frame, &mut first);
-    let mut o: [u16; 16] = [0; 16];
+    let mut o: [u16; Network::EVENTS] = [0; Network::EVENTS];
     bounds::lift(&row, &mut o);
     bounds::raise_by_bounds(s, counts, lists, &row, &mut o);
     bounds::lower(&mut o);
@@ -58,20 +60,20 @@ fn raise_row(
 
 // The table after t, and what is to be said of it.
 pub fn round(
-    t: &[u16; 256],
-    new: &mut [u16; 256],
+    t: &[u16; Network::CELLS],
+    new: &mut [u16; Network::CELLS],
     frame: Frame,
-    counts: &[usize; 16],
-    lists: &[u16; 6144],
+    counts: &[usize; Network::CASES],
+    lists: &[u16; bounds::LIST],
 ) -> Outcome
     requires { ⌜ Usable frame (now counts) (now lists) × Times (frame .events) (frame .scenarios) (now t)
-        × (length (now new) ≡ 256) ⌝ }
+        × (length (now new) ≡ L.cells) ⌝ }
     ensures { λ r. ⌜ ((Γ : Network) → Compiled Γ frame (now (counts .entry)) (now (lists .entry))
         → Rounded Γ (now (t .entry)) (now (new .exit)) r) ⌝ }
 {
     let scenarios = frame.scenarios;
-    let mut climb: [u16; 16] = [0; 16];
-    let mut highest: [u16; 16] = [0; 16];
+    let mut climb: [u16; Network::EVENTS] = [0; Network::EVENTS];
+    let mut highest: [u16; Network::EVENTS] = [0; Network::EVENTS];
     let mut s: usize = 0;
     while s < scenarios {
         raise_row(t, new, s, frame, counts, lists, &mut climb, &mut highest);

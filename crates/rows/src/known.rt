@@ -2,13 +2,15 @@
 ghost use mathlib.Core.Path.{_≡_};
 ghost use Prim.Native.Nat.{ℕ, _+_, _%_, _≤_, _<_};
 ghost use lib.ListN.{length, getD};
+ghost use Rattle.network.specs.Limits as L;
 ghost use Rattle.rows.specs.Rows.{Few};
 ghost use Rattle.rows.specs.Known.{Doubled, First};
 use crate::Frame;
+use network::Network;
 
 // The second p of first: the lesser of the first p and v.
-fn double(first: &mut [u16; 16], p: usize, v: u16)
-    requires { ⌜ (p ≤ 8) × (length (now first) ≡ 16) × (v ≤ 32767)
+fn double(first: &mut [u16; Network::CASES], p: usize, v: u16)
+    requires { ⌜ (p ≤ 8) × (length (now first) ≡ L.cases) × (v ≤ 32767)
         × ((d : ℕ) → d < p → getD (now first) d 0 ≤ 32767) ⌝ }
     ensures { λ _. ⌜ Doubled p v (now (first .entry)) (now (first .exit)) p ⌝ }
 {
@@ -21,19 +23,20 @@ fn double(first: &mut [u16; 16], p: usize, v: u16)
 
 // From when on proposition p is known in a scenario whose times are row. Behind the last signal the observation is any
 // number, and the remainder keeps the index in the row.
-fn known_from(row: &[u16; 16], frame: Frame, p: usize) -> u16
-    requires { ⌜ (p < 4) × Few 10080 (now row) ⌝ }
-    ensures { λ r. ⌜ r ≡ getD (now (row .entry)) (getD (frame .observations) p 0 % 16) 0 + 1 ⌝ }
+fn known_from(row: &[u16; Network::EVENTS], frame: Frame, p: usize) -> u16
+    requires { ⌜ (p < L.signals) × Few L.horizon (now row) ⌝ }
+    ensures { λ r. ⌜ r ≡ getD (now (row .entry)) (getD (frame .observations) p 0 % L.events) 0 + 1 ⌝ }
 {
     let u = frame.observations[p];
-    row[u % 16] + 1
+    row[u % Network::EVENTS] + 1
 }
 
 // The first known time of each set d of propositions, for two propositions or for four: the sets that no scenario asks
 // for cost less than a loop over the signals.
-pub fn first_known(row: &[u16; 16], frame: Frame, first: &mut [u16; 16])
-    requires { ⌜ (frame .signals ≤ 4) × ((p : ℕ) → p < frame .signals → getD (frame .observations) p 0 < 16)
-        × Few 10080 (now row) × (length (now first) ≡ 16) ⌝ }
+pub fn first_known(row: &[u16; Network::EVENTS], frame: Frame, first: &mut [u16; Network::CASES])
+    requires { ⌜ (frame .signals ≤ L.signals)
+        × ((p : ℕ) → p < frame .signals → getD (frame .observations) p 0 < L.events)
+        × Few L.horizon (now row) × (length (now first) ≡ L.cases) ⌝ }
     ensures { λ _. ⌜ First (frame .signals) (λ p. getD (now (row .entry)) (getD (frame .observations) p 0) 0 + 1)
         (now (first .exit)) ⌝ }
 {

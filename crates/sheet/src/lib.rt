@@ -10,7 +10,7 @@ use refusal::Cause;
 use refusal::Refusal;
 
 // The most bytes of a sheet.
-const LONGEST: usize = 4096;
+pub const LONGEST: usize = 4096;
 
 pub enum Outcome {
     Accepted,

@@ -4,6 +4,7 @@
 ghost use mathlib.Core.Path.{_≡_};
 ghost use Prim.Native.Nat.{_*_, _≤_};
 ghost use lib.ListN.{length};
+ghost use Rattle.network.specs.Limits as L;
 ghost use Rattle.network.specs.Build.{cells};
 ghost use Rattle.network.specs.WellFormed.{WellFormed};
 ghost use Rattle.rows.specs.Rows.{Times};
@@ -30,17 +31,27 @@ pub enum Ended {
     Spent { rounds: u32, turns: u32 },
 }
 
+// More rounds than any run takes: one more than the cells have room for.
+pub const BUDGET: u32 = Network::CELLS as u32 * Network::HORIZON as u32 + 1;
+
 fn cells_of(frame: Frame) -> usize
-    requires { ⌜ frame .scenarios ≤ 16 ⌝ }
-    ensures { λ r. ⌜ (r ≡ frame .scenarios * 16) × (r ≤ 256) ⌝ }
+    requires { ⌜ frame .scenarios ≤ L.cases ⌝ }
+    ensures { λ r. ⌜ (r ≡ frame .scenarios * L.events) × (r ≤ L.cells) ⌝ }
 {
-    frame.scenarios * 16
+    frame.scenarios * Network::EVENTS
 }
 
 // The table that periods are counted from, and in which round it was reached: where it is to be kept anew, a, reached
 // here.
-fn keep(anew: bool, a: &[u16; 256], base: &mut [u16; 256], at: u32, here: u32, cells: usize) -> u32
-    requires { ⌜ (cells ≤ 256) × (length (now base) ≡ 256) ⌝ }
+fn keep(
+    anew: bool,
+    a: &[u16; Network::CELLS],
+    base: &mut [u16; Network::CELLS],
+    at: u32,
+    here: u32,
+    cells: usize,
+) -> u32
+    requires { ⌜ (cells ≤ L.cells) × (length (now base) ≡ L.cells) ⌝ }
     ensures { λ r. ⌜ Kept (now (a .entry)) (now (base .entry)) (now (base .exit)) cells at here r ⌝ }
 {
     if !anew {
@@ -52,24 +63,24 @@ fn keep(anew: bool, a: &[u16; 256], base: &mut [u16; 256], at: u32, here: u32, c
 
 // At most `budget` rounds from what a holds. Where no limit is passed, a then holds what they reached.
 pub fn run(
-    a: &mut [u16; 256],
+    a: &mut [u16; Network::CELLS],
     budget: u32,
     frame: Frame,
-    counts: &[usize; 16],
-    lists: &[u16; 6144],
+    counts: &[usize; Network::CASES],
+    lists: &[u16; bounds::LIST],
 ) -> Ended
     requires { ⌜ Usable frame (now counts) (now lists) × Times (frame .events) (frame .scenarios) (now a) ⌝ }
-    ensures { λ r. ⌜ (length (now (a .exit)) ≡ 256) ×
+    ensures { λ r. ⌜ (length (now (a .exit)) ≡ L.cells) ×
         ((Γ : Network) → Compiled Γ frame (now (counts .entry)) (now (lists .entry))
         → RunIs Γ budget (now (a .entry)) (now (a .exit)) r) ⌝ }
 {
     let cells = cells_of(frame);
-    let mut b: [u16; 256] = [0; 256];
+    let mut b: [u16; Network::CELLS] = [0; Network::CELLS];
     let mut base = *a;
     let mut at: u32 = 0;
-    let mut mark: [u16; 256] = [0; 256];
+    let mut mark: [u16; Network::CELLS] = [0; Network::CELLS];
     let mut w = guess::first_watch();
-    let mut since: [u16; 256] = [0; 256];
+    let mut since: [u16; Network::CELLS] = [0; Network::CELLS];
     let mut v = guess::first_pace();
     let mut turns: u32 = 0;
     let mut rounds: u32 = 0;
@@ -120,18 +131,17 @@ pub fn run(
     }
 }
 
-// The least solution into the first cells of the table, or that there is none; the count of rounds either way. The
-// budget is one more than 256 cells have room for.
+// The least solution into the first cells of the table, or that there is none; the count of rounds either way.
 pub fn solve(network: Network, table: &mut [u16]) -> Solved
     requires { ⌜ WellFormed network × (cells network ≤ length (now table)) ⌝ }
     ensures { λ r. ⌜ SolvedIs network (now (table .entry)) (now (table .exit)) r ⌝ }
 {
     let frame = rows::frame_of(network);
-    let mut counts: [usize; 16] = [0; 16];
-    let mut lists: [u16; 6144] = [0; 6144];
+    let mut counts: [usize; Network::CASES] = [0; Network::CASES];
+    let mut lists: [u16; bounds::LIST] = [0; bounds::LIST];
     rounds::compile::list_constraints(network, frame, &mut counts, &mut lists);
-    let mut a: [u16; 256] = [0; 256];
-    let ended = run(&mut a, 2580481, frame, &counts, &lists);
+    let mut a: [u16; Network::CELLS] = [0; Network::CELLS];
+    let ended = run(&mut a, BUDGET, frame, &counts, &lists);
     match ended {
         Ended::Passes { rounds, turns: _ } => Solved::Inconsistent { rounds: rounds },
         Ended::Spent { rounds, turns: _ } => Solved::Inconsistent { rounds: rounds },

@@ -4,7 +4,7 @@ use opening::Written;
 
 // No listing is longer than the page.
 fn print_listing(sheet: &[u8], table: &[u16]) {
-    let mut page = [0u8; 2048];
+    let mut page = [0u8; opening::LISTING_BYTES];
     let written = opening::write_listing(sheet, table, &mut page);
     match written {
         Written::Refused(refusal) => report::print_refusal(refusal),
@@ -20,7 +20,7 @@ fn list_front(sheet: &[u8], table: &[u16], n: usize) {
 }
 
 fn print_table(sheet: &[u8]) {
-    let mut table = [0u16; 256];
+    let mut table = [0u16; opening::TABLE_MINUTES];
     let written = opening::solve_sheet(sheet, &mut table);
     match written {
         Written::Refused(refusal) => report::print_refusal(refusal),
@@ -30,7 +30,7 @@ fn print_table(sheet: &[u8]) {
 
 // One byte more than the longest sheet shows that a sheet is too long.
 fn main() {
-    let mut sheet = [0u8; 4097];
+    let mut sheet = [0u8; opening::SHEET_BYTES + 1];
     let n = io::read_full(STDIN_FILENO, &mut sheet);
     print_table(&sheet[..n]);
 }

@@ -6,12 +6,11 @@
 // `tally_turns` answers with the rounds made one by one. A sheet that is refused gets 0.
 ghost use Prim.Native.Nat.{_+_, _*_};
 ghost use Rattle.rounds.specs.Compiled.{Usable};
+use network::Network;
 use rounds::Outcome;
 use rows::Frame;
+use solver::BUDGET;
 use solver::Ended;
-
-// More rounds than any run makes.
-const BUDGET: u32 = 2580481;
 
 // Rounds, turns and the sum.
 struct Count {
@@ -28,11 +27,11 @@ fn wide(x: u16) -> u32 {
 }
 
 // The sum of the sums of the times on the way, so that exchanged times show.
-fn sum_of(t: &[u16; 256]) -> u32 {
+fn sum_of(t: &[u16; Network::CELLS]) -> u32 {
     let mut one: u32 = 0;
     let mut two: u32 = 0;
     let mut i: usize = 0;
-    while i < 256 {
+    while i < Network::CELLS {
         one = std::num::wrapping_add_u32(one, wide(t[i]));
         two = std::num::wrapping_add_u32(two, one);
         i += 1;
@@ -40,10 +39,10 @@ fn sum_of(t: &[u16; 256]) -> u32 {
     two
 }
 
-fn by_leaps(frame: Frame, counts: &[usize; 16], lists: &[u16; 6144]) -> Count
+fn by_leaps(frame: Frame, counts: &[usize; Network::CASES], lists: &[u16; bounds::LIST]) -> Count
     requires { ⌜ Usable frame (now counts) (now lists) ⌝ }
 {
-    let mut a: [u16; 256] = [0; 256];
+    let mut a: [u16; Network::CELLS] = [0; Network::CELLS];
     let ended = solver::run(&mut a, BUDGET, frame, counts, lists);
     match ended {
         Ended::Rests { rounds, turns } => Count {
@@ -64,12 +63,12 @@ fn by_leaps(frame: Frame, counts: &[usize; 16], lists: &[u16; 6144]) -> Count
     }
 }
 
-fn by_rounds(frame: Frame, counts: &[usize; 16], lists: &[u16; 6144]) -> Count
+fn by_rounds(frame: Frame, counts: &[usize; Network::CASES], lists: &[u16; bounds::LIST]) -> Count
     requires { ⌜ Usable frame (now counts) (now lists) ⌝ }
 {
-    let cells = frame.scenarios * 16;
-    let mut a: [u16; 256] = [0; 256];
-    let mut b: [u16; 256] = [0; 256];
+    let cells = frame.scenarios * Network::EVENTS;
+    let mut a: [u16; Network::CELLS] = [0; Network::CELLS];
+    let mut b: [u16; Network::CELLS] = [0; Network::CELLS];
     let mut rounds: u32 = 0;
     while rounds < BUDGET {
         rounds += 1;
@@ -108,8 +107,8 @@ fn tally(sheet: &[u8], plain: bool) -> Count {
         },
         sheet::Outcome::Accepted => {
             let frame = rows::frame_of(network);
-            let mut counts: [usize; 16] = [0; 16];
-            let mut lists: [u16; 6144] = [0; 6144];
+            let mut counts: [usize; Network::CASES] = [0; Network::CASES];
+            let mut lists: [u16; bounds::LIST] = [0; bounds::LIST];
             rounds::compile::list_constraints(network, frame, &mut counts, &mut lists);
             if plain {
                 return by_rounds(frame, &counts, &lists);

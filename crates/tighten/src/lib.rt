@@ -22,10 +22,13 @@ pub struct Rows {
     pub rows: [Constraint; Network::RULES],
 }
 
-// The numbers of rows, at most two a rule: the first `count` of the list.
+// The most rows: two a rule.
+const MOST: usize = 2 * Network::RULES;
+
+// The numbers of rows: the first `count` of the list.
 struct Numbers {
     count: usize,
-    list: [u32; 128],
+    list: [u32; MOST],
 }
 
 // The number of the row `max,from,to,bound,label`.
@@ -56,7 +59,7 @@ fn row_of(number: u32) -> Constraint
 }
 
 // One number more.
-fn add(list: &mut [u32; 128], count: usize, number: u32) -> usize
+fn add(list: &mut [u32; MOST], count: usize, number: u32) -> usize
     requires { ⌜ (length (now list) ≡ 128) × (count < 128) ⌝ }
     ensures { λ r. ⌜ Added (now (list .entry)) count (number ∷ []) (now (list .exit)) r ⌝ }
 {
@@ -65,7 +68,7 @@ fn add(list: &mut [u32; 128], count: usize, number: u32) -> usize
 }
 
 // The numbers of a rule: "a `min` swaps its ends and negates its limit, and a `fix` becomes both".
-fn add_rule(list: &mut [u32; 128], count: usize, rule: Constraint) -> usize
+fn add_rule(list: &mut [u32; MOST], count: usize, rule: Constraint) -> usize
     requires { ⌜ (length (now list) ≡ 128) × (count + 2 ≤ 128) × N.Numbered (rule .from) (rule .to) (rule .bound) (rule .label) ⌝ }
     ensures { λ r. ⌜ Added (now (list .entry)) count (map N.numberOf (uppers (rule .kind) rule)) (now (list .exit)) r ⌝ }
 {
@@ -88,7 +91,7 @@ fn numbers_of(network: Network) -> Numbers
     requires { ⌜ WellFormed network ⌝ }
     ensures { λ r. ⌜ NumbersAre (rowsOf network) r ⌝ }
 {
-    let mut list = [0u32; 128];
+    let mut list = [0u32; MOST];
     let mut count = 0;
     for c in 0..network.rules {
         count = add_rule(&mut list, count, network.constraints[c]);
@@ -100,7 +103,7 @@ fn numbers_of(network: Network) -> Numbers
 const TOP: u32 = 2147483648;
 
 // The least of the first `count` numbers that is at least the floor, or TOP where there is none.
-fn least_from(list: &[u32; 128], count: usize, floor: u32) -> u32
+fn least_from(list: &[u32; MOST], count: usize, floor: u32) -> u32
     requires { ⌜ count ≤ 128 ⌝ }
     ensures { λ r. ⌜ r ≡ N.leastBelow count (λ i. getD (now (list .entry)) i 0) floor ⌝ }
 {

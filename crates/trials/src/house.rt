@@ -12,7 +12,7 @@ fn is_front(page: &[u8], n: usize, form: &[u8]) -> bool {
 }
 
 fn is_own_form(form: &[u8]) -> bool {
-    let mut page = [0u8; 4096];
+    let mut page = [0u8; opening::SHEET_BYTES];
     let written = opening::write_house(form, &mut page);
     match written {
         Written::Refused(_) => false,
@@ -68,7 +68,7 @@ fn say_front(page: &[u8], n: usize, last: &mut [u8], count: usize) -> usize {
 
 // The last form has `count` bytes; answers how many it has now.
 pub fn tell(sheet: &[u8], last: &mut [u8], count: usize) -> usize {
-    let mut page = [0u8; 4096];
+    let mut page = [0u8; opening::SHEET_BYTES];
     let written = opening::write_house(sheet, &mut page);
     match written {
         Written::Refused(refusal) => {

@@ -29,7 +29,7 @@ fn read_file(path: &[u8], buf: &mut [u8]) -> usize
 }
 
 fn list(sheet: &[u8], table: &[u16]) {
-    let mut out = [0u8; 2048];
+    let mut out = [0u8; opening::LISTING_BYTES];
     let written = opening::write_listing(sheet, table, &mut out);
     match written {
         Written::Refused(refusal) => {
@@ -50,7 +50,7 @@ fn list_front(sheet: &[u8], table: &[u16], n: usize) {
 // The listing of the table that playing gives, and some questions.
 fn play_front(sheet: &[u8], network: Network, table: &[u16], n: usize) {
     if n <= table.len() {
-        let mut played = [65535u16; 256];
+        let mut played = [play::NOT_YET; opening::TABLE_MINUTES];
         play::all(sheet, network, &table[..n], &mut played);
         say::text(b"played ");
         list_front(sheet, &played, n);
@@ -67,7 +67,7 @@ fn list_and_play(sheet: &[u8], table: &[u16], n: usize) {
 }
 
 fn solve(sheet: &[u8]) {
-    let mut table = [0u16; 256];
+    let mut table = [0u16; opening::TABLE_MINUTES];
     let written = opening::solve_sheet(sheet, &mut table);
     match written {
         Written::Refused(refusal) => {
@@ -138,7 +138,7 @@ fn trial(sheet: &[u8], bytes: &[u8]) {
 // One byte more than a sheet may have, so that a longer one is seen to be longer. The last form has `count` bytes;
 // answers how many it has now.
 fn from_files(csv: &[u8], tab: &[u8], last: &mut [u8], count: usize) -> usize {
-    let mut sheet = [0u8; 4097];
+    let mut sheet = [0u8; opening::SHEET_BYTES + 1];
     let mut bytes = [0u8; 1024];
     let n = read_file(csv, &mut sheet);
     let k = read_file(tab, &mut bytes);
@@ -167,7 +167,7 @@ fn small_sheets() {
 }
 
 fn main() {
-    let mut last = [0u8; 4096];
+    let mut last = [0u8; opening::SHEET_BYTES];
     let mut count = 0;
     for i in 1..=191u8 {
         count = numbered(i, &mut last, count);

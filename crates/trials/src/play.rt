@@ -7,7 +7,7 @@ use network::Network;
 use opening::Due;
 
 // What stands where an event has not come, and where it has come twice: minutes that no good table has.
-const NOT_YET: u16 = 65535;
+pub const NOT_YET: u16 = 65535;
 
 const TWICE: u16 = 65534;
 
@@ -21,10 +21,10 @@ pub fn has(mask: usize, bit: usize) -> bool {
 
 // The cell u places behind the row's first. No table has as many.
 fn behind(first: usize, u: usize) -> usize {
-    if 4096 < first {
+    if Network::CELLS < first {
         return first;
     }
-    if 16 < u {
+    if Network::EVENTS < u {
         return first;
     }
     first + u
@@ -43,7 +43,7 @@ fn note(played: &mut [u16], cell: usize, minute: u16) {
 
 // The events that have come at the minute.
 fn note_all(played: &mut [u16], first: usize, minute: u16, due: usize) {
-    for u in 0..16usize {
+    for u in 0..Network::EVENTS {
         if has(due, u) {
             note(played, behind(first, u), minute);
         }
@@ -53,7 +53,7 @@ fn note_all(played: &mut [u16], first: usize, minute: u16, due: usize) {
 // What has been heard, with the signals that the events due give in the case s.
 fn hear(network: Network, s: usize, due: usize, said: u64) -> u64 {
     let mut more = said;
-    for p in 0..4usize {
+    for p in 0..Network::SIGNALS {
         let letter = network.letters[p];
         if p < network.signals {
             if has(due, network.observations[p]) {
@@ -94,14 +94,14 @@ fn cases(signals: usize) -> usize {
         1 => 2,
         2 => 4,
         3 => 8,
-        _ => 16,
+        _ => Network::CASES,
     }
 }
 
 // Plays each case, into a table of its own.
 pub fn all(sheet: &[u8], network: Network, table: &[u16], played: &mut [u16]) {
     let mut first = 0;
-    for s in 0..16usize {
+    for s in 0..Network::CASES {
         if s < cases(network.signals) {
             case(sheet, network, table, played, s, first);
             first = behind(first, network.events);

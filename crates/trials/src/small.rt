@@ -58,7 +58,7 @@ fn compare_with(sheet: &[u8], tried: Tried) -> Compared {
     if !tried.tried {
         return Compared::Differ;
     }
-    let mut table = [0u16; 256];
+    let mut table = [0u16; opening::TABLE_MINUTES];
     let written = opening::solve_sheet(sheet, &mut table);
     match written {
         Written::Refused(refusal) => without_table(found, refusal),

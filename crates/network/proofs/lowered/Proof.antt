@@ -8,6 +8,9 @@ use Rattle.network.proofs.lowered.Tie as tie
 cast-result : tie.Need-cast-result
 cast-result c = search needs
 
+cast-result-2 : tie.Need-cast-result-2
+cast-result-2 c = search needs
+
 sub-result : tie.Need-sub-result
 sub-result c = less-fits (c .args .v) (omega arith)
 
@@ -15,4 +18,4 @@ returns : tie.Need-returns
 returns c = less-value (c .args .v) (omega arith)
 
 pub lowered-spec : {M : Type 1} → statement M
-lowered-spec = tie.close (tie.spec cast-result sub-result returns)
+lowered-spec = tie.close (tie.spec cast-result cast-result-2 sub-result returns)
