@@ -3,11 +3,11 @@
 use mathlib.Core.Path.{_≡_, refl, _∙_, ap}
 use mathlib.Core.Logic.{inl, inr}
 use mathlib.Core.Bool.{Bool, true, false, _&&_, _||_, cond, and-true, and-false, or-false}
-use Prim.Native.Nat.{ℕ, zero, suc, _+_, _/_, _%_, _^_, _≤_, _<_}
-use native.Mathlib.Nat.{mod-lt, div-eq-of-lt, one-mul}
+use Prim.Native.Nat.{ℕ, zero, suc, _+_, _-_, _/_, _%_, _^_, _≤_, _<_}
+use native.Mathlib.Nat.{mod-lt, div-eq-of-lt, zero-mul, one-mul}
 use native.Mathlib.Omega.{arith}
-use borrow.Author.Tests.{eqb-true, eq-eqb, ne-eqb}
-use lib.Bits.{bitOr, or-shr, or-mod, or-shifted-r, or-zero-r}
+use borrow.Author.Tests.{eqb-true, eqb-false, eq-eqb, ne-eqb}
+use lib.Bits.{bitOr, or-shr, or-mod, or-disjoint, and-high, or-shifted-r, or-zero-r}
 use lib.Dec.{eqb}
 use lib.Pow.{pow-pos}
 use Rattle.prelude.specs.Bounded.{allBelow, sumBelow}
@@ -30,6 +30,15 @@ truth-or a b k =
 
 truth-small : (x k : ℕ) → x < 2 ^ k → truth x k ≡ false
 truth-small x k h = ap (λ (q : ℕ). eqb (q % 2) 1) (div-eq-of-lt h)
+
+-- a bit that is not there is added
+pub add-bit : (x k : ℕ) → truth x k ≡ false → bitOr x (2 ^ k) ≡ x + 2 ^ k
+add-bit x k e =
+    let one : 1 + k ≡ suc k = omega arith in
+    let power : 2 ^ suc k - 2 ^ k ≡ 2 ^ k = omega arith in
+    let small : x / 2 ^ k % 2 < 2 = mod-lt (x / 2 ^ k) (omega arith) in
+    let digit : x / 2 ^ k % 2 ≡ 0 = omega (arith, eqb-false (x / 2 ^ k % 2) 1 e) in
+    or-disjoint x (2 ^ k) (rw (one, power, digit, zero-mul) at (and-high x 1 k))
 
 -- the digit of a test
 abbrev digit : Bool → ℕ

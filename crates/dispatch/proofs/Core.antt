@@ -1,19 +1,20 @@
 -- Laws of the core. Letters and their bits; one record more; what is said of a letter, by its two bits, and that over
--- a network it is what a case has heard. Then two loops, each by what has been passed: bits that add up, each of them
--- new, so that nothing is carried (`Summing`), and the search for a case (`Hearing`). Assumes nothing.
-use mathlib.Core.Path.{_≡_, refl, _∙_, ap₂}
+-- a network it is what a case has heard. Then three loops, each by what has been passed: bits that add up, each of them
+-- new, so that nothing is carried (`Summing`), the records that a mask names (`Naming`), and the search for a case
+-- (`Hearing`). Assumes nothing.
+use mathlib.Core.Path.{_≡_, refl, sym, _∙_, ap, ap₂}
 use mathlib.Core.Logic.{_⊎_, inl, inr}
-use mathlib.Core.Bool.{Bool, true, false, _&&_, _||_, not, Bool·beq, cond, and-false}
+use mathlib.Core.Bool.{Bool, true, false, _&&_, not, Bool·beq, cond, and-false}
 use mathlib.Core.List.{List}
 use Prim.Native.Nat.{ℕ, suc, _+_, _*_, _%_, _^_, _≤_, _<_}
-use native.Mathlib.Nat.{one-mul, add-zero, mul-le-mul-right}
+use native.Mathlib.Nat.{one-mul, zero-add, add-zero, mul-le-mul-right}
 use native.Mathlib.Numerals.{add-one}
 use native.Mathlib.Omega.{arith}
 use borrow.Author.Tests.{le-leb, lt-leb, eq-eqb, ne-eqb}
 use lib.Dec.{eqb, leb}
 use lib.ListN.{length}
 use lib.Pow.{shl-exact, pow-mono}
-use Rattle.prelude.specs.Search.{when, answers}
+use Rattle.prelude.specs.Search.{when}
 use Rattle.prelude.specs.Bounded.{sumBelow}
 use Rattle.prelude.proofs.Search.{Searching}
 use Rattle.network.specs.Build.{letter, observation, scenarios, cells}
@@ -21,17 +22,18 @@ use Rattle.network.specs.Scenario.{truth}
 use Rattle.network.specs.Strategy.{time}
 use Rattle.network.specs.declared.Network.{Network}
 use Rattle.names.specs.Names.{isLetter}
-use Rattle.names.specs.Defined.{placeOf}
 use Rattle.names.proofs.Tokens.{letter-low, letter-from}
 use Rattle.names.proofs.Finds.{finds-on, finds-at, finds-end}
 use Rattle.checker.specs.Plain.{knownAfter}
 use Rattle.checker.proofs.Plain.{known-after-is}
 use Rattle.dispatch.specs.Due.{asHeard, dueIn, hasHeard}
-use Rattle.dispatch.specs.Said.{place, misnamed, withBit, saidOn, standsOn, asSaid, added, wellNamedOn, dueOn}
+use Rattle.dispatch.specs.Said.{place, misnamed, withBit, saidOn, standsOn, asSaid, added, saidFrom}
+use Rattle.dispatch.specs.Said.{recordsOn, wellNamedOn, dueOn}
 use Rattle.dispatch.specs.declared.Heard.{Heard}
 use Rattle.dispatch.specs.declared.Dispatched.the-variants.{Events, Misnamed, NeverHeard}
 use Rattle.dispatch.proofs.Bits.{mask-small}
 use Rattle.dispatch.proofs.Letters.{place-lt}
+use Rattle.dispatch.proofs.Again.{named-from}
 
 -- one bit, shifted: below the width nothing is lost
 pub one-shifted : (k w : ℕ) → k < w → (1 * 2 ^ k) % 2 ^ w ≡ 2 ^ k
@@ -86,10 +88,6 @@ pub as-heard-is : (Γ : Network) (σ : List ℕ) (m x s p k : ℕ) (t : Bool)
     → asSaid x (letter Γ p) (leb k m) t ≡ asHeard Γ σ m (saidOn x) s p
 as-heard-is Γ σ m x s p k t e d = rw (known-after-is Γ σ s p m, e, d)
 
--- the test that the i-th letter passes: where it stands, it is one of the first k
-abbrev pub named : ℕ → List ℕ → ℕ → ℕ → Bool
-named k letters x i = not (standsOn x (97 + i)) || answers (placeOf k letters (97 + i))
-
 -- a loop over the n events of s has come to u, and due has a bit for each below u that is due at m
 pub record Summing (n : ℕ) (σ : List ℕ) (m s due u : ℕ) : Type 0 where
   pub within : u ≤ n
@@ -116,14 +114,39 @@ module _ {n : ℕ} {σ : List ℕ} {m s due u : ℕ} (here : Summing n σ m s du
 pub row-in : (Γ : Network) (σ : List ℕ) → length σ ≡ cells Γ → (s : ℕ) → s < scenarios Γ → s * Γ .events + Γ .events ≤ length σ
 row-in Γ σ e s h = omega (arith, e, mul-le-mul-right (Γ .events) h)
 
-pub misnamed-on : (Γ : Network) (σ : List ℕ) (m x : ℕ) → wellNamedOn (Γ .signals) (Γ .letters) x ≡ false
+pub misnamed-on : (Γ : Network) (σ : List ℕ) (m x : ℕ) → wellNamedOn Γ x ≡ false
     → Misnamed ≡ dueOn Γ σ m x
 unfolding dueOn
 misnamed-on Γ σ m x e = rw e
 
+-- a loop over the signals has come to p, and `named` is the mask of the records that x names of those below p
+pub record Naming (Γ : Network) (x named p : ℕ) : Type 0 where
+  pub within : p ≤ Γ .signals
+  pub rest : (n : ℕ) → p + n ≡ Γ .signals → saidFrom named (named-from Γ x p n) ≡ saidFrom 0 (recordsOn Γ x)
+
+pub naming-start : (Γ : Network) (x : ℕ) → Naming Γ x 0 0
+naming-start Γ x = record {
+  within = omega arith;
+  rest = λ n e. ap (λ (k : ℕ). saidFrom 0 (named-from Γ x 0 k)) (sym (zero-add n) ∙ e);
+}
+
+module _ {Γ : Network} {x named p : ℕ} (here : Naming Γ x named p) where
+  module _ (h : p < Γ .signals) where
+    pub naming-one : standsOn x (letter Γ p) ≡ true
+        → Naming Γ x (added named (record { letter = letter Γ p; truth = saidOn x (letter Γ p) true })) (p + 1)
+    naming-one s =
+        record { within = omega arith; rest = λ n e. rw add-one (rw s at (here .rest (suc n) (omega arith))) }
+
+    pub naming-none : standsOn x (letter Γ p) ≡ false → Naming Γ x named (p + 1)
+    naming-none s =
+        record { within = omega arith; rest = λ n e. rw add-one (rw s at (here .rest (suc n) (omega arith))) }
+
+  pub naming-end : Γ .signals ≤ p → eqb named x ≡ wellNamedOn Γ x
+  naming-end h = ap (λ (y : ℕ). eqb y x) (here .rest 0 (omega (arith, here .within)))
+
 -- the letters passed, and the search for a case that has heard what x says has come to s
 pub record Hearing (Γ : Network) (σ : List ℕ) (m x s : ℕ) : Type 0 where
-  pub named : wellNamedOn (Γ .signals) (Γ .letters) x ≡ true
+  pub named : wellNamedOn Γ x ≡ true
   pub search : Searching (λ r. when (hasHeard Γ σ m (saidOn x) r) r) (scenarios Γ) s
 
 module _ {Γ : Network} {σ : List ℕ} {m x s : ℕ} (here : Hearing Γ σ m x s) where

@@ -3,10 +3,11 @@
 use mathlib.Core.Path.{_≡_, refl}
 use mathlib.Core.Bool.{Bool, true, false, _&&_}
 use mathlib.Core.List.{List, [], _∷_}
-use Prim.Native.Nat.{ℕ, zero, suc}
+use Prim.Native.Nat.{ℕ, zero, suc, _+_, _^_}
 use Prim.Native.Char.{code}
 use lib.Dec.{eqb}
 use Rattle.prelude.specs.Bounded.{tabulate}
+use Rattle.prelude.specs.Bytes.{every}
 use Rattle.network.specs.Build.{empty, withEvent, withSignal}
 use Rattle.network.specs.Strategy.{reaction}
 use Rattle.network.specs.declared.Network.{Network}
@@ -102,6 +103,15 @@ ends =
     && (eqb (number (due (sixteen 16) row 16 [])) 0
     && eqb (number (due (sixteen 16) row 0 (p true ∷ []))) (number Misnamed))
 
-pub played : all questions && ends ≡ true
+-- at 6, the mask of p true, and of p false; and masks that no list has, p true with one bit more: p false, r, those of
+-- no letter, and one past the 64
+abbrev masks : Bool
+masks =
+    eqb (number (dueOn net table 6 (2 ^ 15))) 0
+    && (eqb (number (dueOn net table 6 (2 ^ 47))) 4
+    && every (λ k. eqb (number (dueOn net table 6 (2 ^ 15 + 2 ^ k))) (number Misnamed))
+    (47 ∷ 17 ∷ 26 ∷ 31 ∷ 58 ∷ 62 ∷ 63 ∷ 64 ∷ []))
+
+pub played : all questions && (ends && masks) ≡ true
 unfolding reaction due added dueOn
 played = refl

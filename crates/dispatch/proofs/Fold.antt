@@ -74,7 +74,7 @@ module _ (x : ℕ) (h : Heard) where
   misnamed-set n = rw n (truth-withBit x misnamed misnamed (omega arith) (omega arith) ∙ or-true-right (truth x misnamed))
 
   module _ (f : free x (h .letter) ≡ true) where
-    added-free : added x h ≡ withBit x (place (h .letter) (h .truth))
+    pub added-free : added x h ≡ withBit x (place (h .letter) (h .truth))
     unfolding added
     added-free = rw f
 
@@ -88,7 +88,7 @@ module _ (x : ℕ) (h : Heard) where
         → saidOn (added x h) l v ≡ (eqb (h .letter) l && Bool·beq (h .truth) v) || saidOn x l v
     said-added l v e = rw added-free (said-with x (h .letter) (h .truth) letter l v e)
 
-    fits-added : (ls : List ℕ) → fits (added x h) ls ≡ fits x (h .letter ∷ ls)
+    pub fits-added : (ls : List ℕ) → fits (added x h) ls ≡ fits x (h .letter ∷ ls)
     fits-added ls =
         rw (added-free, every-free x (h .letter) (h .truth) letter ls, f)
         (and-assoc (every (free x) ls) (not (isIn (h .letter) ls)) (distinct ls))
@@ -103,13 +103,18 @@ named-said x (h ∷ hs) =
       | inr n ↦ rw (misnamed-set x h n, n) (sym (and-false-right (not (truth x misnamed))))
     ]
 
+-- the first letter of a list that fits
+pub fits-first : (x l : ℕ) (ls : List ℕ) → fits x (l ∷ ls) ≡ true → free x l ≡ true
+fits-first x l ls w =
+    let all = and-true (every (free x) (l ∷ ls)) (distinct (l ∷ ls)) w .0 in
+    and-true (free x l) (every (free x) ls) all .0
+
 -- what the mask says after a list that fits
 pub said-more : (x : ℕ) (hs : List Heard) (l : ℕ) (v : Bool) → isLetter l ≡ true → fits x (lettersOf hs) ≡ true
     → saidOn (saidFrom x hs) l v ≡ saidOn x l v || says hs l v
 said-more x [] l v e w = sym (or-false-right (saidOn x l v))
 said-more x (h ∷ hs) l v e w =
     let ls = lettersOf hs in
-    let all = and-true (every (free x) (h .letter ∷ ls)) (distinct (h .letter ∷ ls)) w .0 in
-    let f = and-true (free x (h .letter)) (every (free x) ls) all .0 in
+    let f = fits-first x (h .letter) ls w in
     said-more (added x h) hs l v e (fits-added x h f ls ∙ w)
     ∙ rw (said-added x h f l v e) (or-swap (eqb (h .letter) l && Bool·beq (h .truth) v) (saidOn x l v) (says hs l v))

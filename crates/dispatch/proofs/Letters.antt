@@ -1,37 +1,20 @@
--- The bits of letters in a mask. The letters are 26 (`true-of-letters`, `letters-true`). Two letters with truths have
--- one bit only where both agree, and none has the bit `misnamed` (`place-same`, `place-lt`); so a letter that is
--- added with a truth is said with it, and all else is as it was (`said-with`, `misnamed-with`). The empty mask says
--- nothing. Assumes nothing.
+-- The bits of letters in a mask. Two letters with truths have one bit only where both agree, and none has the bit
+-- `misnamed` (`place-same`, `place-lt`); so a letter that is added with a truth is said with it, and all else is as it
+-- was (`said-with`, `misnamed-with`). The empty mask says nothing. Assumes nothing.
 use mathlib.Core.Path.{_≡_, sym, _∙_}
 use mathlib.Core.Bool.{Bool, true, false, _&&_, _||_, Bool·beq, or-comm}
 use mathlib.Core.Bool.{and-true as and-true-right, and-false as and-false-right, or-false as or-false-right}
-use Prim.Native.Nat.{ℕ, _+_, _-_, _^_, _≤_, _<_}
+use Prim.Native.Nat.{ℕ, _-_, _^_, _≤_, _<_}
 use native.Mathlib.Nat.{zero-div}
 use native.Mathlib.Omega.{arith}
-use borrow.Author.Tests.{le-leb, ne-eqb}
-use lib.Dec.{eqb, leb}
-use Rattle.prelude.specs.Bounded.{allBelow}
-use Rattle.prelude.proofs.Bounded.{true-of-allBelow, allBelow-true}
-use Rattle.prelude.proofs.Tests.{and-both, eqb-same}
+use borrow.Author.Tests.{ne-eqb}
+use lib.Dec.{eqb}
+use Rattle.prelude.proofs.Tests.{eqb-same}
 use Rattle.network.specs.Scenario.{truth}
 use Rattle.names.specs.Names.{isLetter}
 use Rattle.names.proofs.Tokens.{letter-bounds}
 use Rattle.dispatch.specs.Said.{place, misnamed, withBit, saidOn}
 use Rattle.dispatch.proofs.Bits.{truth-or, truth-power}
-
--- what holds of each of the 26 letters
-module _ (f : ℕ → Bool) where
-  pub true-of-letters : allBelow 26 (λ i. f (97 + i)) ≡ true → (l : ℕ) → isLetter l ≡ true → f l ≡ true
-  true-of-letters e l a =
-      let h = letter-bounds l a in
-      let is : 97 + (l - 97) ≡ l = omega arith in
-      rw is at (true-of-allBelow (λ i. f (97 + i)) 26 e (l - 97) (omega arith))
-
-  pub letters-true : ((l : ℕ) → isLetter l ≡ true → f l ≡ true) → allBelow 26 (λ i. f (97 + i)) ≡ true
-  letters-true h =
-      allBelow-true (λ i. f (97 + i)) 26 λ i k.
-      let low = le-leb 97 (97 + i) (omega arith) in
-      h (97 + i) (and-both (leb 97 (97 + i)) (leb (97 + i) 122) low (le-leb (97 + i) 122 (omega arith)))
 
 pub place-lt : (l : ℕ) (v : Bool) → isLetter l ≡ true → place l v < misnamed
 place-lt l true e = let h = letter-bounds l e in omega arith

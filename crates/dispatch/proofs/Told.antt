@@ -13,7 +13,7 @@ use lib.Dec.{eqb}
 use lib.ListN.{length, getD, length-map, List·getD-map}
 use Rattle.prelude.specs.Bytes.{distinct}
 use Rattle.prelude.specs.Search.{when, answers}
-use Rattle.prelude.specs.Lists.{In, Each}
+use Rattle.prelude.specs.Lists.{In}
 use Rattle.prelude.proofs.Tests.{clash, true-of-not-false, and-true, and-both, or-true, beq-refl, beq-true, same-tests}
 use Rattle.prelude.proofs.Search.{none-of-firstBelow, when-none, answered, unanswered}
 use Rattle.prelude.proofs.Lists.{each-mono, each-of-every, every-of-each, distinct-of-test, test-of-distinct}
@@ -54,11 +54,11 @@ in-of-says (x ∷ hs) l v e =
     same a b = ap₂ record-of a b
 
 module _ (Γ : Network) where
-  abbrev isDefined : ℕ → Bool
+  abbrev pub isDefined : ℕ → Bool
   isDefined l = answers (placeOf (Γ .signals) (Γ .letters) l)
 
   -- a letter is found among the signals' exactly where it is one of them
-  found-defined : (l : ℕ) → isDefined l ≡ true → Defined Γ l
+  pub found-defined : (l : ℕ) → isDefined l ≡ true → Defined Γ l
   found-defined l e =
       let p = answered (placeOf (Γ .signals) (Γ .letters) l) e in
       let at = place-is (Γ .signals) (Γ .letters) l (p .0) (p .1) in

@@ -1,8 +1,8 @@
 -- What has been heard so far, as the caller lends it: "a list of records, each a letter and its truth" (02, point 1).
 use mathlib.Core.Path.{_≡_}
-use mathlib.Core.Bool.{Bool, true, false, _&&_, _||_, Bool·beq}
+use mathlib.Core.Bool.{Bool, true, false, _&&_, _||_, Bool·beq, cond}
 use mathlib.Core.List.{List, [], _∷_, map}
-use Prim.Native.Nat.{ℕ, _<_}
+use Prim.Native.Nat.{ℕ, zero, suc, _<_}
 use lib.Dec.{eqb}
 use Rattle.prelude.specs.Bytes.{distinct}
 use Rattle.prelude.specs.Lists.{Distinct, Each}
@@ -39,6 +39,16 @@ module _ (Γ : Network) where
   pub record Lettered : Type 0 where
     pub lower : (p : ℕ) → p < Γ .signals → isLetter (letter Γ p) ≡ true
     pub once : (p q : ℕ) → p < Γ .signals → q < Γ .signals → letter Γ p ≡ letter Γ q → p ≡ q
+
+  -- the records of those of the n signals from i on that are known, with their truths, in the order of the signals
+  abbrev pub recordsFrom : (ℕ → Bool) → (ℕ → Bool) → ℕ → ℕ → List Heard
+  recordsFrom known truth i zero = []
+  recordsFrom known truth i (suc n) =
+      let rest = recordsFrom known truth (suc i) n in
+      cond (known i) (record { letter = letter Γ i; truth = truth i } ∷ rest) rest
+
+  abbrev pub recordsOf : (ℕ → Bool) → (ℕ → Bool) → List Heard
+  recordsOf known truth = recordsFrom known truth 0 (Γ .signals)
 
 -- whether the list says that the letter l is v
 abbrev pub says : List Heard → ℕ → Bool → Bool

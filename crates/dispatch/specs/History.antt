@@ -1,15 +1,15 @@
 -- What a case has heard before a minute (004, Definition 7: the scenario history).
 use mathlib.Core.Path.{_≡_}
 use mathlib.Core.Logic.{_↔_}
-use mathlib.Core.Bool.{true, cond}
-use mathlib.Core.List.{List, [], _∷_}
-use Prim.Native.Nat.{ℕ, zero, suc, _<_}
+use mathlib.Core.Bool.{true}
+use mathlib.Core.List.{List}
+use Prim.Native.Nat.{ℕ, _<_}
 use Rattle.prelude.specs.Lists.{In, Distinct}
 use Rattle.network.specs.Build.{letter}
 use Rattle.network.specs.Scenario.{truth}
 use Rattle.network.specs.Strategy.{known}
 use Rattle.network.specs.declared.Network.{Network}
-use Rattle.dispatch.specs.Heard.{lettersOf, noHeard}
+use Rattle.dispatch.specs.Heard.{lettersOf, noHeard, recordsOf}
 use Rattle.dispatch.specs.declared.Heard.{Heard}
 
 module _ (Γ : Network) (σ : List ℕ) (m : ℕ) where
@@ -27,11 +27,6 @@ module _ (Γ : Network) (σ : List ℕ) (m : ℕ) where
     pub once : Distinct (lettersOf hs) 0
     pub exact : (h : Heard) → In h hs noHeard ↔ Hears s h
 
-  -- the list of it in the order of the signals, for the n signals from i on
-  abbrev pub heardFrom : ℕ → ℕ → ℕ → List Heard
-  heardFrom s i zero = []
-  heardFrom s i (suc n) =
-      cond (known Γ σ s i m) (record { letter = letter Γ i; truth = truth s i } ∷ heardFrom s (suc i) n) (heardFrom s (suc i) n)
-
+  -- the list of it in the order of the signals
   abbrev pub historyOf : ℕ → List Heard
-  historyOf s = heardFrom s 0 (Γ .signals)
+  historyOf s = recordsOf Γ (λ p. known Γ σ s p m) (truth s)

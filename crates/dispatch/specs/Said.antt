@@ -5,12 +5,12 @@ use mathlib.Core.List.{List, [], _∷_}
 use Prim.Native.Nat.{ℕ, _+_, _-_, _^_}
 use Prim.Native.Char.{code}
 use lib.Bits.{bitOr}
-use Rattle.prelude.specs.Search.{answers}
-use Rattle.prelude.specs.Bounded.{allBelow}
+use lib.Dec.{eqb}
+use Rattle.network.specs.Build.{letter}
 use Rattle.network.specs.Scenario.{truth}
 use Rattle.network.specs.declared.Network.{Network}
 use Rattle.names.specs.Names.{isLetter}
-use Rattle.names.specs.Defined.{placeOf}
+use Rattle.dispatch.specs.Heard.{recordsOf}
 use Rattle.dispatch.specs.Due.{dueBy}
 use Rattle.dispatch.specs.declared.Heard.{Heard}
 use Rattle.dispatch.specs.declared.Dispatched.{Dispatched}
@@ -48,10 +48,14 @@ abbrev pub saidFrom : ℕ → List Heard → ℕ
 saidFrom x [] = x
 saidFrom x (h ∷ hs) = saidFrom (added x h) hs
 
--- each of the 26 letters that stands is one of the first k
-abbrev pub wellNamedOn : ℕ → List ℕ → ℕ → Bool
-wellNamedOn k letters x =
-    not (truth x misnamed) && allBelow 26 (λ i. not (standsOn x (code "a" + i)) || answers (placeOf k letters (code "a" + i)))
+module _ (Γ : Network) where
+  -- the records that a mask names: one of each signal whose letter stands, true where it is said to be
+  abbrev pub recordsOn : ℕ → List Heard
+  recordsOn x = recordsOf Γ (λ p. standsOn x (letter Γ p)) (λ p. saidOn x (letter Γ p) true)
 
-unfoldable pub dueOn : Network → List ℕ → ℕ → ℕ → Dispatched
-dueOn Γ σ m x = dueBy Γ σ m (wellNamedOn (Γ .signals) (Γ .letters) x) (saidOn x)
+  -- it is their mask: nothing else is in it, as a letter that is undefined, a second truth or a bit of no letter
+  abbrev pub wellNamedOn : ℕ → Bool
+  wellNamedOn x = eqb (saidFrom 0 (recordsOn x)) x
+
+  unfoldable pub dueOn : List ℕ → ℕ → ℕ → Dispatched
+  dueOn σ m x = dueBy Γ σ m (wellNamedOn x) (saidOn x)

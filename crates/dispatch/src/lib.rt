@@ -98,25 +98,23 @@ pub fn said(heard: &[Heard]) -> u64
     said
 }
 
-// Whether each letter that stands is one of the signals'.
-fn well_named(signals: usize, letters: &[u8; Network::SIGNALS], said: u64) -> bool
-    requires { ⌜ signals ≤ L.signals ⌝ }
-    ensures { λ r. ⌜ r ≡ M.wellNamedOn signals (now (letters .entry)) said ⌝ }
+// Whether the mask is that of the records it names: one of each signal whose letter stands.
+fn well_named(network: Network, said: u64) -> bool
+    requires { ⌜ WellFormed network × Lettered network ⌝ }
+    ensures { λ r. ⌜ r ≡ M.wellNamedOn network said ⌝ }
 {
-    if has(said, MISNAMED) {
-        return false;
-    }
-    let mut i = 0;
-    while i < 26 {
-        let letter = b'a' + i;
+    let signals = network.signals;
+    let mut named: u64 = 0;
+    let mut p = 0;
+    while p < signals {
+        let letter = network.letters[p];
         if stands(said, letter) {
-            if !names::lookup::is_defined(signals, letters, letter) {
-                return false;
-            }
+            let truth = has(said, place(letter, true));
+            named = add(named, Heard { letter, truth });
         }
-        i += 1;
+        p += 1;
     }
-    true
+    named == said
 }
 
 // Whether what is said of a letter is its truth where that is known, and nothing where it is not.
@@ -178,8 +176,7 @@ pub fn due(network: Network, table: &[u16], minute: u16, said: u64) -> Dispatche
 {
     let events = network.events;
     let signals = network.signals;
-    let letters = network.letters;
-    if !well_named(signals, &letters, said) {
+    if !well_named(network, said) {
         return Dispatched::Misnamed;
     }
     let scenarios = network::scenario_count(signals);

@@ -25,7 +25,7 @@ well-named-requires c κs = search needs
 returns : tie.Need-returns Inv-loop μ-loop
 returns c =
     let at-named = c .before in
-    let a = at-named .before .before .before .before .args in
+    let a = at-named .before .before .args in
     misnamed-on (a .network) (now (a .table)) (a .minute) (a .said) (sym (at-named .well-named .ensures) ∙ not-true _ (c .if1 .taken))
 
 scenario-count-requires : tie.Need-scenario-count-requires Inv-loop μ-loop
@@ -42,7 +42,7 @@ has-heard-requires c κs = search needs
 due-in-requires : tie.Need-due-in-requires Inv-loop μ-loop
 due-in-requires c κs =
     let at-loop = c .before .before .before in
-    let start = at-loop .before .before .before .before .before .before .before in
+    let start = at-loop .before .before .before .before .before in
     (start .pre .0 .events, row-in (start .args .network) (now (start .args .table)) (start .pre .1) (at-loop .loop .s) (omega arith))
 
 returns-2 : tie.Need-returns-2 Inv-loop μ-loop

@@ -1,70 +1,67 @@
--- `well_named` meets its contract. The invariant: each letter passed is defined where it stands. The measure is what
--- is left of the 26. Assumes nothing.
-use mathlib.Core.Path.{sym, _∙_}
+-- `well_named` meets its contract. The invariant: what is named is the mask of the records of the signals passed. The
+-- measure is what is left of the signals. Assumes nothing.
+use mathlib.Core.Path.{_≡_, sym, _∙_}
 use mathlib.Core.Logic.{⊎-elim}
-use mathlib.Core.Bool.{and-false, or-true}
-use Prim.Native.Nat.{_+_, _-_}
-use native.Mathlib.Omega.{arith}
+use mathlib.Core.Bool.{true}
+use Prim.Native.Nat.{_-_}
 use borrow.Author.Needs.{needs}
-use borrow.Author.Tests.{not-true, not-false}
-use Rattle.prelude.proofs.Bounded.{Passing, passing-start, passing-on, failed-at, passed-all}
-use Rattle.dispatch.proofs.Core.{letter-between, named}
+use Rattle.network.specs.Build.{letter}
+use Rattle.names.specs.Names.{isLetter}
+use Rattle.dispatch.proofs.Core.{place-fits, Naming, naming-start, naming-one, naming-none, naming-end}
 use Rattle.dispatch.proofs.well_named.Statement.{statement}
 use Rattle.dispatch.proofs.well_named.Tie as tie
 
 abbrev Inv-loop : tie.InvT-loop
-Inv-loop k letters said i₀ i = Passing (named k letters said) 26 i
+Inv-loop x Γ k named₀ p₀ named p = Naming Γ x named p
 
 abbrev μ-loop : tie.MeasureT-loop
-μ-loop k letters said i₀ i = 26 - i
+μ-loop x Γ k named₀ p₀ named p = Γ .signals - p
 
-has-requires : tie.Need-has-requires Inv-loop μ-loop
-has-requires c κs = search needs
-
-returns : tie.Need-returns Inv-loop μ-loop
-returns c = rw (← c .before .has .ensures, c .if1 .taken)
+-- the letter of a signal in the loop
+lettered : (c : tie.After-letter Inv-loop μ-loop)
+    → isLetter (letter (c .before .before .before .args .t1) (c .before .before .loop .p)) ≡ true
+lettered c =
+    let in-loop = c .before in
+    in-loop .before .before .pre .1 .lower (in-loop .before .loop .p) (in-loop .loop-test .taken)
 
 loop-holds : tie.Need-loop-holds Inv-loop μ-loop
-loop-holds c = passing-start _ 26
+loop-holds c = naming-start _ _
 
-add-letter : tie.Need-add-letter Inv-loop μ-loop
-add-letter c = search needs
+element-copy-out-letter : tie.Need-element-copy-out-letter Inv-loop μ-loop
+element-copy-out-letter c = search needs
 
 stands-requires : tie.Need-stands-requires Inv-loop μ-loop
-stands-requires c κs = letter-between (97 + c .before .loop .i) (omega arith) (omega arith)
+stands-requires c κs = lettered c
 
-is-defined-requires : tie.Need-is-defined-requires Inv-loop μ-loop
-is-defined-requires c κs = search needs
+place-requires : tie.Need-place-requires Inv-loop μ-loop
+place-requires c κs = lettered (c .before .before)
 
-returns-2 : tie.Need-returns-2 Inv-loop μ-loop
-returns-2 c =
-    let at-stands = c .before .before .before in
-    let in-loop = at-stands .before in
-    let inv = in-loop .before .loop .inv in
-    let undefined = sym (c .before .is-defined .ensures) ∙ not-true _ (c .if3 .taken) in
-    let stood = sym (at-stands .stands .ensures) ∙ c .before .before .if2 .taken in
-    rw (failed-at inv (in-loop .loop-test .taken) (rw (stood, undefined)), and-false)
+has-requires : tie.Need-has-requires Inv-loop μ-loop
+has-requires c κs = rw (c .place .ensures) (place-fits _ true (lettered (c .before .before .before)))
 
-add-i : tie.Need-add-i Inv-loop μ-loop
-add-i c = search needs
+add-requires : tie.Need-add-requires Inv-loop μ-loop
+add-requires c κs = search needs
+
+add-p : tie.Need-add-p Inv-loop μ-loop
+add-p c = search needs
 
 loop-less : tie.Need-loop-less Inv-loop μ-loop
 loop-less c = search needs
 
 loop-again : tie.Need-loop-again Inv-loop μ-loop
 loop-again c =
-    let in-loop = c .before .before in
-    let stands = sym (c .before .stands .ensures) in
-    passing-on (in-loop .before .loop .inv) (in-loop .loop-test .taken)
-    (⊎-elim
-    (λ w. rw (sym (w .1 .ensures) ∙ not-false _ (w .2 .left), or-true))
-    (λ w. rw (stands ∙ w .left))
-    (c .if2 .came))
+    let in-loop = c .before .before .before in
+    let inv = in-loop .before .loop .inv in
+    let stood = sym (c .before .stands .ensures) in
+    ⊎-elim
+    (λ w.
+    rw (w .4, w .3 .ensures, w .2 .ensures, w .1 .ensures)
+    (naming-one inv (in-loop .loop-test .taken) (stood ∙ w .0 .taken)))
+    (λ w. rw (w .1) (naming-none inv (in-loop .loop-test .taken) (stood ∙ w .0 .left)))
+    (c .if1 .came)
 
-returns-3 : tie.Need-returns-3 Inv-loop μ-loop
-returns-3 c =
-    let at-if = c .before .before in
-    rw (← at-if .before .has .ensures, at-if .if1 .left) (sym (passed-all (c .before .loop .inv) (c .loop-test .left)))
+returns : tie.Need-returns Inv-loop μ-loop
+returns c = naming-end (c .before .loop .inv) (c .loop-test .left)
 
 pub well-named-spec : {M : Type 1} → statement M
 well-named-spec =
@@ -72,14 +69,13 @@ well-named-spec =
     (tie.spec
     Inv-loop
     μ-loop
-    has-requires
-    returns
     loop-holds
-    add-letter
+    element-copy-out-letter
     stands-requires
-    is-defined-requires
-    returns-2
-    add-i
+    place-requires
+    has-requires
+    add-requires
+    add-p
     loop-less
     loop-again
-    returns-3)
+    returns)
