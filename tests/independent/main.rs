@@ -572,7 +572,8 @@ fn due_outcome(reading: &Result<Net, Refusal>, table: &[u16], minute: u16, heard
 /// The lists that the program `trials` asks about.
 fn lists(net: &Net) -> Vec<Vec<(u8, bool)>> {
     let a = net.signals.first().map_or(b'p', |signal| signal.letter);
-    let backwards = |truths: &[bool]| net.signals.iter().rev().map(|signal| signal.letter).zip(truths.iter().copied()).collect();
+    let backwards = |truths: &[bool]| net.signals.iter().rev().map(|signal| signal.letter).zip(truths.iter().copied()).collect::<Vec<_>>();
+    let with_all = |more: &[(u8, bool)]| [&backwards(&[true; 4])[..], more].concat();
     vec![
         vec![],
         vec![(a, true)],
@@ -586,6 +587,10 @@ fn lists(net: &Net) -> Vec<Vec<(u8, bool)>> {
         vec![(0, false)],
         vec![(255, true)],
         vec![(b'{', false), (b'`', false)],
+        // asked by masks that no list has, as what they name: all signals true, the first with both truths; and with a bit of no letter
+        with_all(&[(a, true), (a, false)]),
+        with_all(&[(0, true)]),
+        with_all(&[(0, false)]),
     ]
 }
 

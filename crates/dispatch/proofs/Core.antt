@@ -114,12 +114,11 @@ module _ {n : ℕ} {σ : List ℕ} {m s due u : ℕ} (here : Summing n σ m s du
 pub row-in : (Γ : Network) (σ : List ℕ) → length σ ≡ cells Γ → (s : ℕ) → s < scenarios Γ → s * Γ .events + Γ .events ≤ length σ
 row-in Γ σ e s h = omega (arith, e, mul-le-mul-right (Γ .events) h)
 
-pub misnamed-on : (Γ : Network) (σ : List ℕ) (m x : ℕ) → wellNamedOn Γ x ≡ false
-    → Misnamed ≡ dueOn Γ σ m x
+pub misnamed-on : (Γ : Network) (σ : List ℕ) (m x : ℕ) → wellNamedOn Γ x ≡ false → Misnamed ≡ dueOn Γ σ m x
 unfolding dueOn
 misnamed-on Γ σ m x e = rw e
 
--- a loop over the signals has come to p, and `named` is the mask of the records that x names of those below p
+-- a loop over the signals has come to p, and the records that x names of those left make of `named` the mask of all
 pub record Naming (Γ : Network) (x named p : ℕ) : Type 0 where
   pub within : p ≤ Γ .signals
   pub rest : (n : ℕ) → p + n ≡ Γ .signals → saidFrom named (named-from Γ x p n) ≡ saidFrom 0 (recordsOn Γ x)

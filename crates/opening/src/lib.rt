@@ -180,7 +180,7 @@ fn answer_to(dispatched: Dispatched) -> Due
 }
 
 // The events due at the minute, by what a mask says of the signals heard before it. A mask says what a list does
-// where `dispatch::add` made it from 0, record by record; any other has a defined answer too.
+// where `dispatch::add` made it from 0, record by record; any other is misnamed.
 pub fn events_due_on(sheet: &[u8], table: &[u16], minute: u16, said: u64) -> Due
     ensures { λ r. ⌜ r ≡ eventsDueOn (now (sheet .entry)) (now (table .entry)) minute said ⌝ }
 {

@@ -1,6 +1,6 @@
 // Asks the same questions of every solved table: what is due at some minutes, past the horizon too, for some lists of
-// signals heard, among them letters that stand twice or are undefined, and bytes that are no letters. The lists do
-// not depend on what the case has heard, so most are refused; `play` has those that are not.
+// signals heard, among them letters that stand twice or are undefined, and bytes that are no letters; and for masks that
+// no list has. The lists do not depend on what the case has heard, so most are refused; `play` has those that are not.
 use crate::play;
 use crate::say;
 use dispatch::Heard;
@@ -84,6 +84,18 @@ fn said(list: List) -> u64 {
     said
 }
 
+// The masks of the twelve lists; and that of all signals true with what no list adds to it: the first letter with both
+// truths, and a bit of no letter among those that are true, and among those that are false.
+fn mask(network: Network, i: usize) -> u64 {
+    let all = said(nth(network, 3));
+    match i {
+        12 => all | said(nth(network, 1)) | said(nth(network, 2)),
+        13 => all | (1 << 26),
+        14 => all | (1 << 58),
+        _ => said(nth(network, i)),
+    }
+}
+
 fn say_due(due: Due) {
     say::text(b" ");
     match due {
@@ -92,12 +104,12 @@ fn say_due(due: Due) {
     }
 }
 
-// The twelve lists at a minute.
+// The fifteen masks at a minute.
 fn at(sheet: &[u8], network: Network, table: &[u16], minute: u16) {
     say::text(b"asked ");
     say::number(minute as u64);
-    for i in 0..12usize {
-        let said = said(nth(network, i));
+    for i in 0..15usize {
+        let said = mask(network, i);
         say_due(opening::events_due_on(sheet, table, minute, said));
     }
     say::text(b"\n");

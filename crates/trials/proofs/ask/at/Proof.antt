@@ -1,4 +1,4 @@
--- `at` ends and is safe: i stays at most 12, and the measure is what is left of the twelve lists. The invariant also
+-- `at` ends and is safe: i stays at most 15, and the measure is what is left of the fifteen masks. The invariant also
 -- has that the line feed, which is said behind the loop, is one byte. Assumes nothing.
 use mathlib.Core.Path.{_≡_}
 use Prim.Native.Nat.{_-_, _≤_}
@@ -8,10 +8,10 @@ use Rattle.trials.proofs.ask.at.Statement.{statement}
 use Rattle.trials.proofs.ask.at.Tie as tie
 
 abbrev Inv-loop : tie.InvT-loop
-Inv-loop sheet network table minute i₀ t8 i = (i ≤ 12) × (length t8 ≡ 1)
+Inv-loop sheet network table minute i₀ t8 i = (i ≤ 15) × (length t8 ≡ 1)
 
 abbrev μ-loop : tie.MeasureT-loop
-μ-loop sheet network table minute i₀ t8 i = 12 - i
+μ-loop sheet network table minute i₀ t8 i = 15 - i
 
 slice-aggregate-text : tie.Need-slice-aggregate-text Inv-loop μ-loop
 slice-aggregate-text c = search needs
@@ -25,11 +25,8 @@ number-requires c κs = search needs
 loop-holds : tie.Need-loop-holds Inv-loop μ-loop
 loop-holds c = search needs
 
-nth-requires : tie.Need-nth-requires Inv-loop μ-loop
-nth-requires c κs = search needs
-
-said-requires : tie.Need-said-requires Inv-loop μ-loop
-said-requires c κs = search needs
+mask-requires : tie.Need-mask-requires Inv-loop μ-loop
+mask-requires c κs = search needs
 
 events-due-on-requires : tie.Need-events-due-on-requires Inv-loop μ-loop
 events-due-on-requires c κs = search needs
@@ -65,8 +62,7 @@ at-spec =
     text-requires
     number-requires
     loop-holds
-    nth-requires
-    said-requires
+    mask-requires
     events-due-on-requires
     say-due-requires
     add-i
