@@ -9,11 +9,8 @@ mod small;
 
 ghost use Rattle.io.specs.Counts.{Counts};
 use network::Network;
-use opening::Judgement;
 use opening::Summary;
 use opening::Written;
-use refusal::Cause;
-use refusal::Refusal;
 
 // Reads a file of data/ into buf; one that can't be opened counts as empty.
 fn read_file(path: &[u8], buf: &mut [u8]) -> usize
@@ -78,30 +75,19 @@ fn solve(sheet: &[u8]) {
     }
 }
 
-// An odd count of bytes is no table of any length; the sheet's own refusal comes first.
-fn half_minute(sheet: &[u8]) -> Judgement {
-    let summary = opening::read_sheet(sheet);
-    match summary {
-        Summary::Refused(refusal) => Judgement::Refused(refusal),
-        Summary::Accepted(_) => Judgement::Refused(Refusal {
-            cause: Cause::WrongTableLength,
-            line: 0,
-        }),
+// The verdict on a table. Half a minute behind it can be told to the call of the C bench alone, which takes bytes.
+fn judge(sheet: &[u8], bytes: &[u8], table: &[u16]) {
+    if bytes.len() % 2 == 1 {
+        say::packed(opening::bench::opening_judge(sheet, bytes));
+        return;
     }
+    say::judgement(opening::judge_table(sheet, table));
 }
 
-fn judge(sheet: &[u8], table: &[u16], odd: bool) -> Judgement {
-    if odd {
-        return half_minute(sheet);
-    }
-    opening::judge_table(sheet, table)
-}
-
-// The verdict on the first n minutes, their listing and what is due first; odd where half a minute stands behind them.
-fn judge_front(sheet: &[u8], table: &[u16], n: usize, odd: bool) {
+// The verdict on the first n minutes, which are those of the bytes, their listing and what is due first.
+fn judge_front(sheet: &[u8], bytes: &[u8], table: &[u16], n: usize) {
     if n <= table.len() {
-        let judgement = judge(sheet, &table[..n], odd);
-        say::judgement(judgement);
+        judge(sheet, bytes, &table[..n]);
         list_front(sheet, table, n);
         ask::first(sheet, &table[..n]);
     }
@@ -113,7 +99,7 @@ fn handed_in(sheet: &[u8], bytes: &[u8]) {
     let n = bytes.len() / 2;
     if n <= 512 {
         pairs::unpack(bytes, &mut table);
-        judge_front(sheet, &table, n, bytes.len() % 2 == 1);
+        judge_front(sheet, bytes, &table, n);
     }
 }
 

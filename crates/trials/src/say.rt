@@ -87,3 +87,13 @@ pub fn judgement(judgement: Judgement) {
         Judgement::Judged(found) => verdict(found),
     }
 }
+
+// The C judge's answer where it is to be a refusal: the number is its lowest byte, and the line all that is above,
+// since the bytes behind a refusal's line are 0. A verdict shows as refusal 0.
+pub fn packed(answer: u64) {
+    text(b"judged refused ");
+    number(answer % 256);
+    text(b" line ");
+    number(answer / 256);
+    text(b"\n");
+}

@@ -12,9 +12,6 @@ slice-aggregate-judge c = sym (length-take-le _ _ (omega arith))
 judge-requires : tie.Need-judge-requires
 judge-requires c κs = search needs
 
-judgement-requires : tie.Need-judgement-requires
-judgement-requires c κs = search needs
-
 list-front-requires : tie.Need-list-front-requires
 list-front-requires c κs = search needs
 
@@ -36,7 +33,6 @@ judge-front-spec =
     (tie.spec
     slice-aggregate-judge
     judge-requires
-    judgement-requires
     list-front-requires
     slice-aggregate-first
     first-requires
