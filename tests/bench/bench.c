@@ -72,7 +72,8 @@ static size_t pairs(uint8_t *bytes, const uint16_t *minutes, size_t count)
 
 /* ---------------------------------------------------------------- The two calls */
 
-/* Solves with a table of so many bytes. Wanted: a refusal with its line, or with number 0 these minutes. */
+/* Solves with a table of so many bytes. Wanted: a refusal with its line, or with number 0 these minutes; the whole
+ * answer is compared. */
 static void solve(const char *about, const char *sheet, size_t sheet_len, size_t table_len, unsigned number, unsigned line,
                   const uint16_t *minutes, size_t count)
 {
@@ -92,6 +93,7 @@ static void solve(const char *about, const char *sheet, size_t sheet_len, size_t
     expect(about, "the number", opening_number(answer), number);
     expect(about, "the line", opening_line(answer), line);
     expect(about, "the count of minutes", opening_minutes(answer), number == 0 ? count : 0);
+    expect(about, "the number in the unused bytes", answer >> 40, 0);
     expect_memory(about, "table", &table, &wanted);
     expect_memory(about, "sheet", &paper, &paper_before);
 }
@@ -188,6 +190,31 @@ static void readers(void)
     expect("readers", "opening_first", opening_first(answer), 0x55);
     expect("readers", "opening_second", opening_second(answer), 0x66);
     expect("readers", "opening_third", opening_third(answer), 0x77);
+}
+
+/* Each of them takes all the bits of its bytes and no other. */
+static void readers_bit_by_bit(void)
+{
+    static const struct {
+        const char *name;
+        unsigned (*read)(uint64_t);
+        unsigned byte, bytes;
+    } reader[] = {
+        {"opening_number", opening_number, 0, 1},
+        {"opening_line", opening_line, 1, 2},
+        {"opening_minutes", opening_minutes, 3, 2},
+        {"opening_word", opening_word, 3, 1},
+        {"opening_first", opening_first, 4, 1},
+        {"opening_second", opening_second, 5, 1},
+        {"opening_third", opening_third, 6, 1},
+    };
+    for (size_t i = 0; i < sizeof reader / sizeof reader[0]; i++) {
+        for (unsigned bit = 0; bit < 64; bit++) {
+            const unsigned first = 8 * reader[i].byte, behind = first + 8 * reader[i].bytes;
+            const unsigned wanted = first <= bit && bit < behind ? 1u << (bit - first) : 0;
+            expect("readers, bit by bit", reader[i].name, reader[i].read((uint64_t)1 << bit), wanted);
+        }
+    }
 }
 
 static void solver_lengths(void)
@@ -339,6 +366,7 @@ static void solve_then_judge(const char *sheet)
     const uint8_t *bytes = (const uint8_t *)sheet;
     uint64_t solved = opening_solve(bytes, strlen(sheet), table, sizeof table);
     expect("solve, then judge", "the number", opening_number(solved), 0);
+    expect("solve, then judge", "the number in the unused bytes", solved >> 40, 0);
     uint64_t judged = opening_judge(bytes, strlen(sheet), table, 2 * opening_minutes(solved));
     expect("solve, then judge", "the judge's answer", judged, 0);
     calls += 2;
@@ -347,6 +375,7 @@ static void solve_then_judge(const char *sheet)
 int main(void)
 {
     readers();
+    readers_bit_by_bit();
     solver_lengths();
     solver_trials();
     solver_without_table();

@@ -1,19 +1,19 @@
 //! Wrong programs, to see that the comparison notices them: those of document 01's last section, and some like them; and programs that
-//! print house forms (02, point 2). Only in builds with `--cfg standalone`.
+//! print tables (01, The printed listing) or house forms (02, point 2).
 
 use crate::library::own::{self, minutes_of, refused, refused_call, verdict, write};
 use crate::library::Library;
 use crate::model::{self, truth, Kind, Net, Refusal, Rule, Verdict};
 
 const fn solver(solve: fn(&[u8], &mut [u8]) -> u64) -> Library {
-    Library { solve, judge: own::judge }
+    Library { solve, ..own::LIBRARY }
 }
 
 const fn judge(judge: fn(&[u8], &[u8]) -> u64) -> Library {
-    Library { solve: own::solve, judge }
+    Library { judge, ..own::LIBRARY }
 }
 
-pub const FAULTS: [(&str, Library); 43] = [
+pub const FAULTS: [(&str, Library); 46] = [
     ("13-at-once", solver(|sheet, table| with_solver(sheet, table, |_| None))),
     ("refuses-all", Library { solve: |_, _| refused_call(13), judge: |_, _| refused_call(11) }),
     ("minute-0-throughout", solver(|sheet, table| with_solver(sheet, table, |net| model::solve(net).map(|good| vec![0; good.len()])))),
@@ -32,6 +32,8 @@ pub const FAULTS: [(&str, Library); 43] = [
     ("13-before-12", solver(|sheet, table| if solves_to_none(sheet) { refused_call(13) } else { own::solve(sheet, table) })),
     ("high-byte-first", solver(high_byte_first)),
     ("half-pair-counts", solver(half_pair_counts)),
+    ("rounds-with-a-table", solver(|sheet, table| with_rounds(own::solve(sheet, table), 0))),
+    ("rounds-with-13", solver(|sheet, table| with_rounds(own::solve(sheet, table), 13))),
     ("passes-all", judge(|sheet, table| with_judge(sheet, table, |_, _| Verdict::Pass))),
     ("case-0-only", judge(|sheet, table| with_judge(sheet, table, case_0_only))),
     ("one-signal-judge", judge(|sheet, table| with_judge(sheet, table, |net, table| judge_with(net, table, ONE_SIGNAL)))),
@@ -43,6 +45,7 @@ pub const FAULTS: [(&str, Library); 43] = [
     ("horizon-is-late", judge(|sheet, table| with_judge(sheet, table, horizon_is_late))),
     ("minutes-are-signed", judge(|sheet, table| with_judge(sheet, table, minutes_are_signed))),
     ("rules-from-1", judge(|sheet, table| with_judge(sheet, table, rules_from_1))),
+    ("last-byte-not-0", judge(|sheet, table| own::judge(sheet, table) | 1 << 56)),
     ("rule-before-case", judge(|sheet, table| with_judge(sheet, table, rule_before_case))),
     ("longer-table-judged", judge(longer_table_judged)),
     ("odd-byte-ignored", judge(|sheet, table| own::judge(sheet, &table[..table.len() & !1]))),
@@ -203,6 +206,11 @@ fn half_pair_counts(sheet: &[u8], table: &mut [u8]) -> u64 {
     answer
 }
 
+/// A round counted in the bytes that are kept for it, where the answer has this number.
+fn with_rounds(answer: u64, number: u64) -> u64 {
+    if answer & 0xff == number { answer | 1 << 40 } else { answer }
+}
+
 // ---------------------------------------------------------------- Wrong judges
 
 fn with_judge(sheet: &[u8], table: &[u8], judge: fn(&Net, &[u16]) -> Verdict) -> u64 {
@@ -349,12 +357,95 @@ fn replaced(text: &[u8], old: &[u8], new: &[u8]) -> Vec<u8> {
     result
 }
 
+// ---------------------------------------------------------------- Wrong listings
+
+/// A program that prints something of a sheet, or its refusal.
+pub type Printer = fn(&[u8]) -> Result<Vec<u8>, Refusal>;
+
+pub const TABLE_FAULTS: [(&str, Printer); 18] = [
+    ("line-before", |sheet| refused_with(sheet, |refusal| refusal.line = refusal.line.saturating_sub(1))),
+    ("line-lost", |sheet| refused_with(sheet, |refusal| refusal.line = 0)),
+    ("12-for-13", |sheet| refused_with(sheet, |refusal| if refusal.number == 13 { refusal.number = 12 })),
+    ("13-with-a-line", |sheet| refused_with(sheet, |refusal| if refusal.number == 13 { refusal.line = 1 })),
+    ("13-not-printed", |sheet| match model::table(sheet) {
+        Err(Refusal { number: 13, .. }) => Ok(vec![]),
+        outcome => outcome,
+    }),
+    ("refusal-without-feed", |sheet| model::table(sheet).or_else(|refusal| Ok(without_feed(refusal)))),
+    ("4096-bytes-read", |sheet| model::table(&sheet[..sheet.len().min(4096)])),
+    ("cases-exchanged", |sheet| listed_with(sheet, cases_exchanged)),
+    ("truths-exchanged", |sheet| listed_with(sheet, |rows| relabel(rows, truths_exchanged))),
+    ("signals-reversed", |sheet| listed_with(sheet, |rows| relabel(rows, |label| label.chars().rev().collect()))),
+    ("dash-lost", |sheet| listed_with(sheet, |rows| relabel(rows, |label| label.replace('-', "")))),
+    ("header-lost", |sheet| listed_with(sheet, |rows| drop(rows.remove(0)))),
+    ("last-case-lost", |sheet| listed_with(sheet, |rows| drop(rows.pop()))),
+    ("start-left-out", |sheet| listed_with(sheet, |rows| rows.iter_mut().for_each(|row| drop(row.remove(1))))),
+    ("last-minute-later", |sheet| listed_with(sheet, last_minute_later)),
+    ("two-digits-at-least", |sheet| listed_with(sheet, two_digits_at_least)),
+    ("1700-bytes-at-most", |sheet| model::table(sheet).map(|text| text[..text.len().min(1700)].to_vec())),
+    ("last-feed-lost", |sheet| model::table(sheet).map(|text| text[..text.len() - 1].to_vec())),
+];
+
+/// The same without a slip, so that it is the slip that is noticed.
+pub fn table_by_fields(sheet: &[u8]) -> Result<Vec<u8>, Refusal> {
+    listed_with(sheet, |_| {})
+}
+
+/// The header and a line for each case, each cut into its fields.
+type Rows = Vec<Vec<String>>;
+
+/// A right listing with its lines changed.
+fn listed_with(sheet: &[u8], change: fn(&mut Rows)) -> Result<Vec<u8>, Refusal> {
+    let text = String::from_utf8(model::table(sheet)?).expect("a listing is ASCII");
+    let mut rows = text.lines().map(|line| line.split(',').map(String::from).collect()).collect();
+    change(&mut rows);
+    Ok(rows.iter().map(|row| row.join(",") + "\n").collect::<String>().into_bytes())
+}
+
+/// A right answer with its refusal changed.
+fn refused_with(sheet: &[u8], change: fn(&mut Refusal)) -> Result<Vec<u8>, Refusal> {
+    model::table(sheet).map_err(|mut refusal| {
+        change(&mut refusal);
+        refusal
+    })
+}
+
+fn without_feed(refusal: Refusal) -> Vec<u8> {
+    format!("refused {} line {}", refusal.number, refusal.line).into_bytes()
+}
+
+/// The minutes of cases 0 and 1, and not their letters.
+fn cases_exchanged(rows: &mut Rows) {
+    if let [_, first, second, ..] = &mut rows[..] {
+        first[1..].swap_with_slice(&mut second[1..]);
+    }
+}
+
+fn relabel(rows: &mut Rows, change: fn(&str) -> String) {
+    rows[1..].iter_mut().for_each(|row| row[0] = change(&row[0]));
+}
+
+fn truths_exchanged(label: &str) -> String {
+    let other = |letter: char| match letter {
+        'T' => 'F',
+        'F' => 'T',
+        dash => dash,
+    };
+    label.chars().map(other).collect()
+}
+
+fn last_minute_later(rows: &mut Rows) {
+    let last = rows.last_mut().and_then(|row| row.last_mut()).expect("a minute");
+    *last = (last.parse::<u32>().expect("a minute") + 1).to_string();
+}
+
+fn two_digits_at_least(rows: &mut Rows) {
+    rows[1..].iter_mut().flat_map(|row| &mut row[1..]).for_each(|minute| *minute = format!("{minute:0>2}"));
+}
+
 // ---------------------------------------------------------------- Wrong house forms
 
-/// A program that prints the house form of a sheet, or its refusal.
-pub type House = fn(&[u8]) -> Result<Vec<u8>, Refusal>;
-
-pub const HOUSE_FAULTS: [(&str, House); 35] = [
+pub const HOUSE_FAULTS: [(&str, Printer); 35] = [
     ("greatest-limit-kept", |sheet| house_with(sheet, Slip::GreatestLimit)),
     ("first-limit-kept", |sheet| house_with(sheet, Slip::FirstLimit)),
     ("last-limit-kept", |sheet| house_with(sheet, Slip::LastLimit)),

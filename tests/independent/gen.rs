@@ -1,8 +1,8 @@
 //! Sheets and tables to try, made from a seed and nothing else.
 //!
 //! `sheet` makes valid and damaged sheets of all sizes, `tiny_sheet` those that the search of `model.rs` can finish, and `table`
-//! the bytes of a table for a sheet that was accepted. `house_sheet` makes sheets whose house forms are worth a look, and `retyped`
-//! types the procedure of an accepted sheet another way.
+//! the bytes of a table for a sheet that was accepted. `table_sheet` has the longest listings among its sheets; `house_sheet` makes
+//! sheets whose house forms are worth a look, and `retyped` types the procedure of an accepted sheet another way.
 
 use crate::model::{self, Kind, Net, Verdict};
 use std::collections::BTreeSet;
@@ -322,6 +322,23 @@ fn valid(rng: &mut Rng) -> Paper {
 pub fn sheet(rng: &mut Rng) -> Vec<u8> {
     let paper = valid(rng);
     if rng.chance(55) { paper.bytes() } else { damaged(rng, paper) }
+}
+
+/// The same, or at times a sheet with the longest listing that there is.
+pub fn table_sheet(rng: &mut Rng) -> Vec<u8> {
+    if rng.chance(95) { sheet(rng) } else { broad(rng).bytes() }
+}
+
+/// 16 events with names of 8 bytes, 4 signals, and minutes of five digits everywhere but at the start.
+fn broad(rng: &mut Rng) -> Draft {
+    let mut draft = bare(rng, &Size { events: 16, signals: 4, rules: 30 }, 10_080);
+    draft.events = long_names(rng, 16);
+    for to in 1..16 {
+        for (least, label) in [(10_000, vec![]), (10_040, label(rng, 4))] {
+            draft.rules.push(DraftRule { kind: "min", from: 0, to, limit: least + rng.between(0, 40), label });
+        }
+    }
+    draft
 }
 
 /// A valid sheet so small that all its tables can be tried.

@@ -1,5 +1,5 @@
 //! The libraries under test: the C functions of `libopening.a` and of `libtally.a`, or, in a build with `--cfg standalone`, the model itself
-//! and a solver of our own that passes over rounds.
+//! and a solver of our own that passes over rounds. Every build has those two: the wrong programs are made of them.
 
 /// The two calls, "with byte slices and numbers".
 #[derive(Clone, Copy)]
@@ -64,7 +64,6 @@ mod linked {
 }
 
 /// The same calls made of the model, packed as ARCHITECTURE.md says under "C interface", and of `leaps.rs`.
-#[cfg(standalone)]
 pub mod own {
     use super::{Library, Tally};
     use crate::model::{self, Refusal, Verdict};

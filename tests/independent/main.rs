@@ -1,72 +1,88 @@
-//! The comparison of `libopening.a` and `libtally.a`, and of a program that prints house forms, with the model of documents 01 and 02.
+//! The comparison of `libopening.a` and `libtally.a`, and of programs that print tables or house forms, with the model
+//! of documents 01 and 02.
 //!
 //! compare [SEED [COUNT]]                  generated sheets and tables, every answer and every lent byte compared
-//! compare house PROGRAM [SEED [COUNT]]    generated sheets, what the program prints for each compared
+//! compare table PROGRAM [SEED [COUNT]]    generated sheets, what a program that prints tables prints for each compared
+//! compare house PROGRAM [SEED [COUNT]]    the same for a program that prints house forms
 //! compare count [SEED [COUNT]]            generated sheets of many rounds, the count of rounds and the table compared
 //! compare count-files FILE..              the same for given sheets, with a line for each
 //! compare expected DIR                    the answers that the papers ask for the trial files DIR/001.csv, 002.csv, ..
 //! compare selftest [SEED [COUNT]]         the model's solvers against each other, and forms against sheets, on tiny sheets
 //!
-//! In standalone builds also:
 //! compare faults [SEED [COUNT]]           that the comparison notices each wrong program of faults.rs
+//! compare table-faults [SEED [COUNT]]     that `table` notices each wrong program of faults.rs that prints tables
 //! compare house-faults [SEED [COUNT]]     that `house` notices each wrong program of faults.rs that prints house forms
-//! compare house-standin [FAULT]           the model as such a program, or one of the wrong ones
 //! compare count-faults [SEED [COUNT]]     that `count` notices each wrong program of leaps.rs
+//! compare table-standin [FAULT]           the model as a program that prints tables, or one of the wrong ones
+//! compare house-standin [FAULT]           the same for house forms
 //!
 //! Build: rustc --edition 2021 -O -o compare main.rs -L native=DIR   (DIR has libopening.a and libtally.a)
 //!    or: rustc --edition 2021 -O -o compare main.rs --cfg standalone
 
-#[cfg(standalone)]
 mod faults;
 mod gen;
 mod house;
-#[cfg(standalone)]
 mod leaps;
 mod library;
 mod long;
 mod model;
+mod program;
 mod rounds;
+mod table;
 mod tally;
 
+use faults::{Printer, FAULTS, HOUSE_FAULTS, TABLE_FAULTS};
 use gen::Rng;
-use library::Library;
+use house::HOUSE;
+use leaps::COUNT_FAULTS;
+use library::{own, Library};
 use model::{Net, Refusal, Verdict};
+use program::Mode;
 use std::collections::BTreeMap;
-#[cfg(standalone)]
-use std::io::Read;
-use std::io::Write;
+use std::io::{Read, Write};
+use std::ops::Range;
 use std::process::exit;
+use table::TABLE;
 
 const SEED: u64 = 1;
 const COUNT: u64 = 20_000;
+const FAULT_COUNT: u64 = 4_000;
 const TINY_COUNT: u64 = 5_000;
-const HOUSE_COUNT: u64 = 2_000;
+const PROGRAM_COUNT: u64 = 2_000;
 const LONG_COUNT: u64 = 400;
+const LONG_FAULT_COUNT: u64 = 100;
 /// So many rounds are few.
 const FEW_ROUNDS: u32 = 300;
 
-const USAGE: &str = "usage: compare [SEED [COUNT]] | house PROGRAM [SEED [COUNT]] | count [SEED [COUNT]] | count-files FILE.. | \
-    expected DIR | selftest [SEED [COUNT]]";
+const USAGE: &str = "usage: compare [SEED [COUNT]] | table PROGRAM [SEED [COUNT]] | house PROGRAM [SEED [COUNT]] | \
+    count [SEED [COUNT]] | count-files FILE.. | expected DIR | selftest [SEED [COUNT]] | \
+    faults [SEED [COUNT]] | table-faults [SEED [COUNT]] | house-faults [SEED [COUNT]] | count-faults [SEED [COUNT]] | \
+    table-standin [FAULT] | house-standin [FAULT]";
 
 fn main() {
     let arguments: Vec<String> = std::env::args().skip(1).collect();
     let words: Vec<&str> = arguments.iter().map(String::as_str).collect();
     match words[..] {
-        ["house", program, ref numbers @ ..] => house::compare(program, number(numbers, 0, SEED), number(numbers, 1, HOUSE_COUNT)),
+        ["table", program, ref numbers @ ..] => program::compare(&TABLE, program, seeds(numbers, PROGRAM_COUNT)),
+        ["house", program, ref numbers @ ..] => program::compare(&HOUSE, program, seeds(numbers, PROGRAM_COUNT)),
         ["count", ref numbers @ ..] => tally::compare(number(numbers, 0, SEED), number(numbers, 1, LONG_COUNT)),
         ["count-files", ref paths @ ..] if !paths.is_empty() => tally::compare_files(paths),
         ["expected", directory] => print(&expected(directory)),
         ["selftest", ref numbers @ ..] => selftest(number(numbers, 0, SEED), number(numbers, 1, TINY_COUNT)),
-        #[cfg(standalone)]
-        ["faults", ref numbers @ ..] => notice_faults(number(numbers, 0, SEED), number(numbers, 1, COUNT)),
-        #[cfg(standalone)]
-        ["house-faults", ref numbers @ ..] => notice_house_faults(number(numbers, 0, SEED), number(numbers, 1, HOUSE_COUNT)),
-        #[cfg(standalone)]
-        ["house-standin"] => house_standin(model::house),
-        #[cfg(standalone)]
-        ["house-standin", name] => house_standin(house_fault(name)),
-        #[cfg(standalone)]
-        ["count-faults", ref numbers @ ..] => notice_count_faults(number(numbers, 0, SEED), number(numbers, 1, LONG_COUNT)),
+        ["faults", ref numbers @ ..] => notice_faults(seeds(numbers, FAULT_COUNT)),
+        ["table-faults", ref numbers @ ..] => {
+            notice_printers(&TABLE, faults::table_by_fields, &TABLE_FAULTS, seeds(numbers, PROGRAM_COUNT))
+        }
+        ["house-faults", ref numbers @ ..] => {
+            notice_printers(&HOUSE, faults::house_by_sorting, &HOUSE_FAULTS, seeds(numbers, PROGRAM_COUNT))
+        }
+        ["count-faults", ref numbers @ ..] => {
+            notice_count_faults(number(numbers, 0, SEED), number(numbers, 1, LONG_FAULT_COUNT))
+        }
+        ["table-standin"] => standin(model::table),
+        ["table-standin", name] => standin(fault_named(&TABLE_FAULTS, name)),
+        ["house-standin"] => standin(model::house),
+        ["house-standin", name] => standin(fault_named(&HOUSE_FAULTS, name)),
         ref numbers => compare(number(numbers, 0, SEED), number(numbers, 1, COUNT)),
     }
 }
@@ -77,6 +93,11 @@ fn number(words: &[&str], place: usize, otherwise: u64) -> u64 {
         Some(Ok(number)) if words.len() <= 2 => number,
         Some(_) => fail(2, USAGE),
     }
+}
+
+fn seeds(words: &[&str], count: u64) -> Range<u64> {
+    let first = number(words, 0, SEED);
+    first..first + number(words, 1, count)
 }
 
 fn fail(status: i32, words: &str) -> ! {
@@ -241,11 +262,11 @@ fn solver_lengths(rng: &mut Rng, reading: &Result<Net, Refusal>) -> Vec<usize> {
     }
 }
 
-/// One call of the solver. Its bytes from the sixth on count rounds, of which document 01 says nothing.
+/// One call of the solver. Its bytes from the sixth on are kept for a count of rounds, and 0 until there is one.
 fn compare_solver(library: &Library, case: &Case, table: Lent, counts: &mut Counts) -> Result<(), String> {
     let outcome = solver_outcome(case, table.length);
     let (mut sheet, mut asked, mut lent) = (case.sheet.clone(), table.clone(), table.clone());
-    let answer = (library.solve)(sheet.slice_mut(), lent.slice_mut()) & 0xff_ffff_ffff;
+    let answer = (library.solve)(sheet.slice_mut(), lent.slice_mut());
     let right = match outcome {
         Err(refusal) => refusal_answer(refusal),
         Ok(minutes) => {
@@ -393,79 +414,62 @@ fn selftest_house(sheet: &[u8], net: &Net, seed: u64) -> Result<(), String> {
     Ok(())
 }
 
-/// Each wrong program is noticed within so many cases.
-#[cfg(standalone)]
-fn notice_faults(seed: u64, cases: u64) {
-    let mut missed = 0;
-    for (name, library) in &faults::FAULTS {
-        let noticed = (seed..seed + cases).position(|seed| compare_one(library, seed, &mut Counts::new()).is_err());
-        match noticed {
-            Some(place) => println!("{:>8}  {name}", place + 1),
-            None => println!("  missed  {name}"),
-        }
-        missed += u32::from(noticed.is_none());
+/// Its place among the sheets, from 1, and its words.
+type Difference = (u64, String);
+
+/// That each of some wrong programs is noticed, and the right one that they are made from is not.
+fn notice<T>(mode: &str, right: &T, faults: &[(&str, T)], compared: impl Fn(&T) -> Result<(), Difference>) {
+    if let Err((_, words)) = compared(right) {
+        fail(1, &format!("{mode}, without a fault: {words}"));
     }
-    println!("{} wrong programs, {missed} missed", faults::FAULTS.len());
+    let mut missed = 0;
+    for (name, fault) in faults {
+        match compared(fault) {
+            Err((place, _)) => println!("{place:>8}  {name}"),
+            Ok(()) => {
+                println!("  missed  {name}");
+                missed += 1;
+            }
+        }
+    }
+    println!("{mode}: {} wrong programs, {missed} missed", faults.len());
     exit(if missed == 0 { 0 } else { 1 });
 }
 
-/// Each wrong program that prints house forms is noticed within so many sheets, and the right one that they are made from is right.
-#[cfg(standalone)]
-fn notice_house_faults(seed: u64, sheets: u64) {
-    let first_difference = |house: faults::House| {
-        let program = |sheet: &[u8]| house::printed(house(sheet));
-        (seed..seed + sheets).position(|seed| house::compare_one(&program, seed, &mut Counts::new()).is_err())
-    };
-    if let Some(place) = first_difference(faults::house_by_sorting) {
-        fail(1, &format!("a form by sorting differs from the model's: house-faults {} 1", seed + place as u64));
-    }
-    let mut missed = 0;
-    for (name, fault) in &faults::HOUSE_FAULTS {
-        let noticed = first_difference(*fault);
-        match noticed {
-            Some(place) => println!("{:>8}  {name}", place + 1),
-            None => println!("  missed  {name}"),
-        }
-        missed += u32::from(noticed.is_none());
-    }
-    println!("{} wrong programs, {missed} missed", faults::HOUSE_FAULTS.len());
-    exit(if missed == 0 { 0 } else { 1 });
+/// The first difference among the sheets of some seeds.
+fn all_compared(seeds: Range<u64>, compare_one: impl Fn(u64) -> Result<(), String>) -> Result<(), Difference> {
+    (1..).zip(seeds).try_for_each(|(place, seed)| compare_one(seed).map_err(|words| (place, words)))
 }
 
-/// Each wrong program that passes over rounds is noticed within so many sheets, and the right one that they are made from is right.
-#[cfg(standalone)]
+fn notice_faults(seeds: Range<u64>) {
+    notice("faults", &own::LIBRARY, &FAULTS, |library| {
+        all_compared(seeds.clone(), |seed| compare_one(library, seed, &mut Counts::new()))
+    });
+}
+
+fn notice_printers(mode: &Mode, right: Printer, faults: &[(&str, Printer)], seeds: Range<u64>) {
+    notice(&format!("{}-faults", mode.word), &right, faults, |printer| {
+        let program = |sheet: &[u8]| program::printed(printer(sheet));
+        all_compared(seeds.clone(), |seed| (mode.compare_one)(&program, seed, &mut Counts::new()))
+    });
+}
+
 fn notice_count_faults(seed: u64, sheets: u64) {
-    match tally::compare_sheets(&library::TALLY, seed, sheets) {
-        Ok(seen) => println!("without a fault: {}", seen.words()),
-        Err((_, words)) => fail(1, &words),
-    }
-    let mut missed = 0;
-    for (name, fault) in &leaps::COUNT_FAULTS {
-        let noticed = tally::compare_sheets(fault, seed, sheets).err();
-        match &noticed {
-            Some((place, _)) => println!("{place:>8}  {name}"),
-            None => println!("  missed  {name}"),
-        }
-        missed += u32::from(noticed.is_none());
-    }
-    println!("{} wrong programs, {missed} missed", leaps::COUNT_FAULTS.len());
-    exit(if missed == 0 { 0 } else { 1 });
+    notice("count-faults", &own::TALLY, &COUNT_FAULTS, |tally| tally::compare_sheets(tally, seed, sheets).map(drop));
 }
 
-#[cfg(standalone)]
-fn house_fault(name: &str) -> faults::House {
-    match faults::HOUSE_FAULTS.iter().find(|fault| fault.0 == name) {
+fn fault_named(faults: &[(&str, Printer)], name: &str) -> Printer {
+    match faults.iter().find(|fault| fault.0 == name) {
         Some(fault) => fault.1,
         None => fail(2, "this is no fault of faults.rs"),
     }
 }
 
-/// Prints the form of the sheet on standard input.
-#[cfg(standalone)]
-fn house_standin(house: faults::House) {
+/// Prints what a program prints of the sheet on standard input.
+fn standin(printer: Printer) {
     let mut sheet = vec![];
     std::io::stdin().read_to_end(&mut sheet).unwrap_or_else(|error| fail(2, &error.to_string()));
-    print(&house::printed(house(&sheet)));
+    print(&program::printed(printer(&sheet)));
 }
 
 // ---------------------------------------------------------------- expected

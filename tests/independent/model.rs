@@ -678,6 +678,13 @@ fn case_line(net: &Net, table: &[u16], case: usize) -> String {
     line
 }
 
+/// What the program `table` prints of a sheet that is not refused: "the solver's listing".
+pub fn table(sheet: &[u8]) -> Result<Vec<u8>, Refusal> {
+    let net = read(sheet)?;
+    let least = solve(&net).ok_or(Refusal { number: 13, line: 0 })?;
+    Ok(listing(sheet, &net, &least))
+}
+
 // ---------------------------------------------------------------- What is due this minute
 
 /// Document 02, point 1, for a table that passes: the events due at a minute, bit u for event u, for those who have heard exactly this list;

@@ -1,4 +1,4 @@
-//! The model as a `libopening.a`, and with `leaps.rs` as a `libtally.a`, to try `main.rs` (linked) and `../c/bench.c` before the real
+//! The model as a `libopening.a`, and with `leaps.rs` as a `libtally.a`, to try `main.rs` (linked) and `../bench/bench.c` before the real
 //! libraries exist:
 //! rustc --edition 2021 -O -C panic=abort --cfg standalone --crate-type staticlib -o DIR/libopening.a standin.rs
 //! cp DIR/libopening.a DIR/libtally.a
