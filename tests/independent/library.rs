@@ -63,7 +63,7 @@ mod linked {
     }
 }
 
-/// The same calls made of the model, packed as ARCHITECTURE.md says under "C interface", and of `leaps.rs`.
+/// The same calls made of the model, packed as include/opening.h says, and of `leaps.rs`.
 pub mod own {
     use super::{Library, Tally};
     use crate::model::{self, Refusal, Verdict};
@@ -72,13 +72,13 @@ pub mod own {
     pub const LIBRARY: Library = Library { solve, judge };
     pub const TALLY: Tally = Tally { leaping: leaps::leaping, plain, turns: leaps::turns };
 
-    /// "Its bytes, lowest first: refusal number; line (two bytes)"; then five bytes that each call fills in its own way.
+    /// The bytes, lowest first: refusal number; line (two bytes); then five bytes that each call fills in its own way.
     pub fn pack(number: u8, line: usize, rest: [u8; 5]) -> u64 {
         let line = (line as u16).to_le_bytes();
         u64::from_le_bytes([number, line[0], line[1], rest[0], rest[1], rest[2], rest[3], rest[4]])
     }
 
-    /// Readings: "On a refusal an answer's other numbers are 0."
+    /// opening.h: "On a refusal all bytes from 3 on are 0."
     pub fn refused(refusal: Refusal) -> u64 {
         pack(refusal.number, refusal.line, [0; 5])
     }
