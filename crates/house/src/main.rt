@@ -1,6 +1,6 @@
 // Reads a sheet on standard input and prints it in its house form, or `refused N line L`.
+use calls::Written;
 use libc::STDIN_FILENO;
-use opening::Written;
 
 // No form is longer than a sheet may be.
 fn print_house(sheet: &[u8]) {

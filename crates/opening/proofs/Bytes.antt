@@ -1,67 +1,32 @@
--- The bench's calls are the public ones on minutes. Assumes nothing.
+-- The bench's solver is the public one on minutes: a refusal leaves the bytes, and a table is written as pairs. Assumes
+-- nothing.
 use mathlib.Core.Path.{_≡_, refl, sym, _∙_, ap}
-use mathlib.Core.Logic.{inl, inr}
 use mathlib.Core.List.{List, _++_}
-use Prim.Native.Nat.{ℕ, _+_, _*_, _/_, _%_, _≤_, _<_}
-use native.Mathlib.Nat.{mul-le-mul}
+use Prim.Native.Nat.{ℕ, _*_, _/_, _≤_, _<_}
 use native.Mathlib.Omega.{arith}
-use borrow.Author.Tests.{eqb-false, ne-eqb}
-use lib.Dec.{eqb}
 use lib.ListN.{length, take, drop, length-append}
-use lib.Pow.{pow-mono}
 use lib.Seq.{take-at}
-use Rattle.prelude.proofs.Tests.{either}
 use Rattle.pairs.specs.Pairs.{minutesOf, bytesOf}
 use Rattle.pairs.proofs.Packing.{length-minutesOf}
-use Rattle.refusal.specs.declared.Cause.the-variants.{WrongTableLength, BufferTooShort, Inconsistent}
+use Rattle.refusal.specs.declared.Cause.the-variants.{BufferTooShort, Inconsistent}
 use Rattle.refusal.specs.declared.Refusal.{Refusal}
 use Rattle.fixpoint.specs.Run.{Run, End, Rests, Passes, Spent}
 use Rattle.network.specs.Build.{cells}
 use Rattle.network.specs.WellFormed.{WellFormed}
 use Rattle.network.specs.declared.Network.{Network}
 use Rattle.sheet.specs.Reading.{read}
-use Rattle.sheet.specs.declared.Outcome.{Outcome}
-use Rattle.sheet.specs.declared.Outcome.the-variants.{Accepted, Refused}
+use Rattle.sheet.specs.declared.Outcome.the-variants.{Accepted}
 use Rattle.sheet.specs.declared.Reading.{Reading}
-use Rattle.checker.specs.Verdict.{verdict}
 use Rattle.solver.specs.Solve.{solve}
 use Rattle.solver.specs.Solved.{solvedOf, tableAfter, SolvedIs}
 use Rattle.solver.specs.declared.Solved.{Solved}
 use Rattle.solver.specs.declared.Solved.the-variants.{Found, Inconsistent as None}
 use Rattle.solver.proofs.Least.{solve-least}
-use Rattle.opening.specs.Calls.{withoutLine, judgement, Left, Leaves, solving}
-use Rattle.opening.specs.Bench.{benchJudgementFor, benchJudgement, pairsAfter, benchSolving}
-use Rattle.opening.specs.declared.Judgement.the-variants as J
-use Rattle.opening.specs.declared.Written.the-variants as W
-use Rattle.opening.proofs.Calls.{found-not-none, well-formed, judged-wrong, judged-as, solving-short, solving-found, solving-none}
-
--- a network has at most 256 cells
-pub cells-few : {Γ : Network} → WellFormed Γ → cells Γ ≤ 256
-cells-few {Γ} w = omega (arith, mul-le-mul (w .events) (pow-mono {i = Γ .signals} {j = 4} (w .signals)))
-
-module _ (sheet : List ℕ) (g : Reading) (e : g ≡ read sheet) where
-  pub bench-of : (o : Outcome) → g .outcome ≡ o → (b : List ℕ) → benchJudgementFor sheet o b ≡ benchJudgement sheet b
-  bench-of o p b = rw (← p, e)
-
-  module _ (a : g .outcome ≡ Accepted) (b : List ℕ) where
-    -- an even count of bytes is judged as minutes
-    even : (length b % 2 ≡ 1 → ⊥) → judgement sheet (minutesOf b) ≡ benchJudgement sheet b
-    even n = rw (ne-eqb (length b % 2) 1 n, benchJudgementFor) at (bench-of Accepted a b)
-
-    pub bench-wrong : (length b ≡ 2 * cells (g .network) → ⊥) → J.Refused (withoutLine WrongTableLength) ≡ benchJudgement sheet b
-    bench-wrong n =
-        elim (either (eqb (length b % 2) 1)) [
-          | inl p ↦ rw (p, benchJudgementFor) at (bench-of Accepted a b)
-          | inr p ↦
-              let odd = eqb-false (length b % 2) 1 p in
-              judged-wrong sheet g e a (minutesOf b) (λ q. n (omega (arith, length-minutesOf b, ne-odd odd))) ∙ even odd
-        ]
-      where
-        ne-odd : (length b % 2 ≡ 1 → ⊥) → length b % 2 ≡ 0
-        ne-odd h = omega arith
-
-    pub bench-judged : length b ≡ 2 * cells (g .network) → J.Judged (verdict (g .network) (minutesOf b)) ≡ benchJudgement sheet b
-    bench-judged n = judged-as sheet g e a (minutesOf b) (omega (arith, length-minutesOf b)) ∙ even (λ q. omega arith)
+use Rattle.calls.specs.Calls.{withoutLine, Left, Leaves, solving}
+use Rattle.calls.specs.Bench.{pairsAfter, benchSolving}
+use Rattle.calls.specs.declared.Written.the-variants as W
+use Rattle.calls.proofs.Calls.{well-formed}
+use Rattle.opening.proofs.Leaves.{found-not-none, solving-short-left, solving-found, solving-none}
 
 -- a refusal of the solver leaves the bytes, and a table is written as pairs
 module _ (sheet b : List ℕ) where
@@ -109,7 +74,7 @@ module _ (sheet : List ℕ) (g : Reading) (e : g ≡ read sheet) (a : g .outcome
   as-minutes m x s is = record { answer = is .answer; table = refl }
 
   pub bench-short : length b / 2 < cells (g .network) → Leaves (benchSolving sheet b) (W.Refused (withoutLine BufferTooShort)) b
-  bench-short h = bench-kept sheet b _ _ (solving-short sheet g e a (minutesOf b) (rw (length-minutesOf b) h))
+  bench-short h = bench-kept sheet b _ _ (solving-short-left sheet g e a (minutesOf b) (rw (length-minutesOf b) h))
 
   pub bench-none : (m x : List ℕ) (s : Solved) (n : ℕ) → cells (g .network) ≤ length b / 2 → SolvedIs (g .network) m x s → s ≡ None n
       → Leaves (benchSolving sheet b) (W.Refused (withoutLine Inconsistent)) b

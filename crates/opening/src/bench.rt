@@ -1,10 +1,10 @@
 // The calls of the workshop bench, which is written in C: byte slices and numbers only. A table travels as two bytes
 // a minute, low byte first, and an answer is one number, whose bytes include/opening.h explains.
 ghost use mathlib.Core.Path.{_≡_};
-ghost use Rattle.opening.specs.Calls.{Leaves};
-ghost use Rattle.opening.specs.Bench as B;
-use crate::Judgement;
-use crate::Written;
+ghost use Rattle.calls.specs.Calls.{Leaves};
+ghost use Rattle.calls.specs.Bench as B;
+use calls::Judgement;
+use calls::Written;
 use checker::Breach;
 use checker::Verdict;
 use network::Network;

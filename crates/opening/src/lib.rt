@@ -1,8 +1,13 @@
 // The public calls. None asks anything of its caller: whatever the bytes and the lengths are, the answer is a defined
 // one, and a refusal leaves the lent memory as it was.
 ghost use mathlib.Core.Path.{_≡_};
-ghost use Rattle.opening.specs.Calls.{withoutLine, summary, judgement, solving, listed, housed, Leaves, handedOut};
-ghost use Rattle.opening.specs.Play.{eventsDue, eventsDueOn, answerTo};
+ghost use Rattle.calls.specs.Calls.{withoutLine, summary, judgement, solving, listed, housed, Leaves, handedOut};
+ghost use Rattle.calls.specs.Play.{eventsDue, eventsDueOn, answerTo};
+use calls::Counts;
+use calls::Due;
+use calls::Judgement;
+use calls::Summary;
+use calls::Written;
 use checker::Verdict;
 use dispatch::Dispatched;
 use dispatch::Heard;
@@ -21,37 +26,6 @@ pub const TABLE_MINUTES: usize = Network::CELLS;
 pub const LISTING_BYTES: usize = 2048;
 
 pub const SHEET_BYTES: usize = sheet::LONGEST;
-
-pub struct Counts {
-    pub horizon: u16,
-    pub events: usize,
-    pub signals: usize,
-    pub rules: usize,
-}
-
-// What read_sheet answers.
-pub enum Summary {
-    Accepted(Counts),
-    Refused(Refusal),
-}
-
-// What judge_table answers.
-pub enum Judgement {
-    Judged(Verdict),
-    Refused(Refusal),
-}
-
-// What solve_sheet, write_listing and write_house answer: how many minutes or bytes were written.
-pub enum Written {
-    Count(usize),
-    Refused(Refusal),
-}
-
-// What events_due answers: the events due, bit u for event u.
-pub enum Due {
-    Events(u16),
-    Refused(Refusal),
-}
 
 // A refusal that concerns no line of the sheet.
 fn without_line(cause: Cause) -> Refusal

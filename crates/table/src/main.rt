@@ -1,6 +1,6 @@
 // Reads a sheet on standard input and prints the listing of its least good table, or `refused N line L`.
+use calls::Written;
 use libc::STDIN_FILENO;
-use opening::Written;
 
 // No listing is longer than the page.
 fn print_listing(sheet: &[u8], table: &[u16]) {

@@ -3,9 +3,9 @@
 // no list has. The lists do not depend on what the case has heard, so most are refused; `play` has those that are not.
 use crate::play;
 use crate::say;
+use calls::Due;
 use dispatch::Heard;
 use network::Network;
-use opening::Due;
 
 // Up to four letters; bit i of truths is the truth of the letter at i.
 struct List {

@@ -1,7 +1,7 @@
 // The house form of a sheet: printed, or said to be the same bytes as the last form before it; then whether the form
 // is its own form, and what is answered where the lent buffer is one byte too short for it.
 use crate::say;
-use opening::Written;
+use calls::Written;
 
 // Whether the first n bytes of the page are the form.
 fn is_front(page: &[u8], n: usize, form: &[u8]) -> bool {

@@ -8,9 +8,9 @@ mod say;
 mod small;
 
 ghost use Rattle.io.specs.Counts.{Counts};
+use calls::Summary;
+use calls::Written;
 use network::Network;
-use opening::Summary;
-use opening::Written;
 
 // Reads a file of data/ into buf; one that can't be opened counts as empty.
 fn read_file(path: &[u8], buf: &mut [u8]) -> usize

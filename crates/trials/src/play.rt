@@ -2,9 +2,9 @@
 // each event came. What has been heard is kept here: a signal's event that is due tells its truth from the next
 // minute on.
 use crate::say;
+use calls::Due;
 use dispatch::Heard;
 use network::Network;
-use opening::Due;
 
 // What stands where an event has not come, and where it has come twice: minutes that no good table has.
 pub const NOT_YET: u16 = 65535;

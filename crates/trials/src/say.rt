@@ -1,9 +1,9 @@
 // What the program prints. A write that fails is left at that: the output then differs from what is expected.
+use calls::Judgement;
+use calls::Summary;
 use checker::Breach;
 use checker::Verdict;
 use libc::STDOUT_FILENO;
-use opening::Judgement;
-use opening::Summary;
 use refusal::Refusal;
 
 pub fn text(s: &[u8]) {

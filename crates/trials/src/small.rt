@@ -1,7 +1,7 @@
 // The solver against the exhaustive search, on sheets that are small enough for it.
 use crate::say;
+use calls::Written;
 use exhaust::Tried;
-use opening::Written;
 use refusal::Refusal;
 use sheet::Outcome;
 

@@ -51,11 +51,11 @@ use Rattle.dispatch.proofs.said as said
 use Rattle.dispatch.proofs.said.Symbol as said-def
 use Rattle.dispatch.proofs.said.Symbol.{name as #dispatch·said}
 use Rattle.dispatch.proofs.said.Met as said-thm
-use Rattle.opening.specs.Play.{eventsDue, eventsDueOn}
-use Rattle.opening.specs.declared.Due.{Due}
-use Rattle.opening.proofs.Play.{events-due-said}
-use Rattle.opening.proofs.Due as D
-use Rattle.opening.proofs.Due.Laws as D′
+use Rattle.calls.specs.Play.{eventsDue, eventsDueOn}
+use Rattle.calls.specs.declared.Due.{Due}
+use Rattle.calls.proofs.Play.{events-due-said}
+use Rattle.calls.proofs.Due as D
+use Rattle.calls.proofs.Due.Laws as D′
 use Rattle.opening.proofs.events_due_on as due-on
 use Rattle.opening.proofs.events_due_on.Symbol as due-on-def
 use Rattle.opening.proofs.events_due_on.Symbol.{name as #opening·events-due-on}

@@ -5,10 +5,10 @@ use denote.Ref.{now}
 use borrow.Author.Needs.{needs}
 use Rattle.sheet.specs.declared.Outcome.the-variants.{Refused}
 use Rattle.checker.specs.declared.Verdict.the-variants.{Pass, Breach as Breached}
-use Rattle.opening.specs.Play.{answerTo}
-use Rattle.opening.specs.declared.Due.the-variants as D
-use Rattle.opening.proofs.Calls.{well-formed}
-use Rattle.opening.proofs.Play.{due-refused, due-lettered, due-wrong, due-judged}
+use Rattle.calls.specs.Play.{answerTo}
+use Rattle.calls.specs.declared.Due.the-variants as D
+use Rattle.calls.proofs.Calls.{well-formed}
+use Rattle.calls.proofs.Play.{due-refused, due-lettered, due-wrong, due-judged}
 use Rattle.opening.proofs.events_due_on.Statement.{statement}
 use Rattle.opening.proofs.events_due_on.Tie as tie
 

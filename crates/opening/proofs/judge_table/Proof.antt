@@ -1,9 +1,9 @@
 -- `opening::judge_table` meets its contract: the outcome of the reading, then the table's length, then the checker's
 -- verdict. Assumes nothing.
 use mathlib.Core.Path.{sym, _∙_, ap}
-use Rattle.opening.specs.declared.Judgement.the-variants as J
+use Rattle.calls.specs.declared.Judgement.the-variants as J
 use denote.Ref.{now}
-use Rattle.opening.proofs.Calls.{well-formed, judgement-of, judged-wrong, judged-as}
+use Rattle.calls.proofs.Calls.{well-formed, judgement-of, judged-wrong, judged-as}
 use Rattle.sheet.specs.declared.Outcome.the-variants.{Refused}
 use borrow.Author.Needs.{needs}
 use Rattle.opening.proofs.judge_table.Statement.{statement}

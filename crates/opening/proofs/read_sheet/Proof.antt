@@ -1,6 +1,6 @@
 -- `opening::read_sheet` meets its contract: the answer goes by the outcome of the reading. Assumes nothing.
 use denote.Ref.{now}
-use Rattle.opening.proofs.Calls.{summary-of}
+use Rattle.calls.proofs.Calls.{summary-of}
 use Rattle.sheet.specs.declared.Outcome.the-variants.{Accepted, Refused}
 use borrow.Author.Needs.{needs}
 use Rattle.opening.proofs.read_sheet.Statement.{statement}

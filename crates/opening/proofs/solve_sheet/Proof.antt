@@ -2,7 +2,8 @@
 -- answer. Assumes nothing.
 use denote.Ref.{now}
 use native.Mathlib.Omega.{arith}
-use Rattle.opening.proofs.Calls.{well-formed, solving-refused, solving-short, solving-found, solving-none}
+use Rattle.calls.proofs.Calls.{well-formed}
+use Rattle.opening.proofs.Leaves.{solving-refused, solving-short-left, solving-found, solving-none}
 use borrow.Author.Needs.{needs}
 use Rattle.opening.proofs.solve_sheet.Statement.{statement}
 use Rattle.opening.proofs.solve_sheet.Tie as tie
@@ -33,7 +34,7 @@ returns c =
     let enum-told = c .before .before .before .enum-told in
     let cell-count = c .before .before .cell-count in
     rw (c .without-line .ensures)
-    (solving-short (now (args .sheet)) (read .result) (read .ensures) (enum-told .given .1) (now (args .table)) (omega (arith, cell-count .ensures)))
+    (solving-short-left (now (args .sheet)) (read .result) (read .ensures) (enum-told .given .1) (now (args .table)) (omega (arith, cell-count .ensures)))
 
 solve-requires : tie.Need-solve-requires
 solve-requires c κs =

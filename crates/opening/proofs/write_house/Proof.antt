@@ -3,8 +3,8 @@
 use denote.Ref.{now}
 use mathlib.Core.Path.{sym, _∙_}
 use borrow.Author.Tests.{not-true, not-false}
-use Rattle.opening.proofs.Calls.{well-formed}
-use Rattle.opening.proofs.House.{house-refused, house-many-left, house-written}
+use Rattle.calls.proofs.Calls.{well-formed}
+use Rattle.opening.proofs.Leaves.{house-refused, house-many-left, house-written}
 use borrow.Author.Needs.{needs}
 use Rattle.opening.proofs.write_house.Statement.{statement}
 use Rattle.opening.proofs.write_house.Tie as tie

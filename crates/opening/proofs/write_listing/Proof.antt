@@ -2,7 +2,8 @@
 -- writer did. Assumes nothing.
 use denote.Ref.{now}
 use mathlib.Core.Path.{sym, _∙_}
-use Rattle.opening.proofs.Calls.{well-formed, listing-refused, listing-wrong, listing-written}
+use Rattle.calls.proofs.Calls.{well-formed}
+use Rattle.opening.proofs.Leaves.{listing-refused, listing-wrong-left, listing-written}
 use borrow.Author.Needs.{needs}
 use Rattle.opening.proofs.write_listing.Statement.{statement}
 use Rattle.opening.proofs.write_listing.Tie as tie
@@ -36,7 +37,7 @@ returns c =
     let if1 = c .before .if1 in
     let cell-count = c .before .before .cell-count in
     rw (without-line .ensures)
-    (listing-wrong (now (args .sheet)) (read .result) (read .ensures) (enum-told .given .1) (now (args .table)) (now (args .out))
+    (listing-wrong-left (now (args .sheet)) (read .result) (read .ensures) (enum-told .given .1) (now (args .out)) (now (args .table))
     (λ z. if1 .taken (z ∙ sym (cell-count .ensures))))
 
 write-requires : tie.Need-write-requires
@@ -57,7 +58,7 @@ returns-2 c =
     let args = c .before .before .before .before .before .before .before .before .args in
     let read = c .before .before .before .before .read in
     let outcome = c .before .outcome in
-    listing-refused (now (args .sheet)) (read .result) (read .ensures) (outcome .given .0 .0) (outcome .given .1) (now (args .table)) (now (args .out))
+    listing-refused (now (args .sheet)) (read .result) (read .ensures) (outcome .given .0 .0) (outcome .given .1) (now (args .out)) (now (args .table))
 
 same-length : tie.Need-same-length
 same-length c = search needs
@@ -72,7 +73,7 @@ returns-3 c =
     let cell-count = c .before .before .before .before .before .before .cell-count in
     let write = c .before .before .before .write in
     rw (handed-out .ensures)
-    (listing-written (now (args .sheet)) (read .result) (read .ensures) (enum-told .given .1) (now (args .table)) (now (args .out))
+    (listing-written (now (args .sheet)) (read .result) (read .ensures) (enum-told .given .1) (now (args .out)) (now (args .table))
     (if1 .left ∙ cell-count .ensures) (write .last .1 .1 .1 .0) (write .result) (write .ensures))
 
 pub write-listing-spec : {M : Type 1} → statement M

@@ -8,9 +8,9 @@ use native.Mathlib.Omega.{arith}
 use Prim.Native.Nat.{ℕ, _*_}
 use mathlib.Core.Path.{sym, _∙_, ap}
 use Rattle.sheet.specs.declared.Outcome.the-variants.{Refused}
-use Rattle.opening.specs.declared.Judgement.the-variants as J
-use Rattle.opening.proofs.Calls.{well-formed}
-use Rattle.opening.proofs.Bytes.{cells-few, bench-of, bench-wrong, bench-judged}
+use Rattle.calls.specs.declared.Judgement.the-variants as J
+use Rattle.calls.proofs.Calls.{well-formed}
+use Rattle.calls.proofs.Bytes.{cells-few, bench-of, bench-wrong, bench-judged}
 use borrow.Author.Needs.{needs}
 use Rattle.opening.proofs.bench.judge_bytes.Statement.{statement}
 use Rattle.opening.proofs.bench.judge_bytes.Tie as tie

@@ -6,10 +6,10 @@ use denote.Ref.{now}
 use borrow.Author.Needs.{needs}
 use Rattle.checker.specs.declared.Breach.{Breach}
 use Rattle.checker.specs.declared.Verdict.the-variants.{Breach as Breached}
-use Rattle.opening.specs.Bench.{packed, judgementValues, breachValues, benchJudgement}
-use Rattle.opening.specs.declared.Judgement.{Judgement}
-use Rattle.opening.specs.declared.Judgement.the-variants as J
-use Rattle.opening.proofs.Small.{Small, bench-judgement-small}
+use Rattle.calls.specs.Bench.{packed, judgementValues, breachValues, benchJudgement}
+use Rattle.calls.specs.declared.Judgement.{Judgement}
+use Rattle.calls.specs.declared.Judgement.the-variants as J
+use Rattle.calls.proofs.Small.{Small, bench-judgement-small}
 use Rattle.opening.proofs.bench.opening_judge.Statement.{statement}
 use Rattle.opening.proofs.bench.opening_judge.Tie as tie
 

@@ -5,10 +5,10 @@ use Prim.Native.Nat.{ℕ, _*_, _≤_}
 use mathlib.Core.Path.{_≡_, sym, _∙_, ap}
 use Rattle.pairs.specs.Pairs.{minutesOf}
 use Rattle.refusal.specs.declared.Refusal.{Refusal}
-use Rattle.opening.specs.Bench.{refused, packed, packedWritten}
-use Rattle.opening.specs.declared.Written.{Written}
-use Rattle.opening.specs.declared.Written.the-variants as W
-use Rattle.opening.proofs.Small.{count-few}
+use Rattle.calls.specs.Bench.{refused, packed, packedWritten}
+use Rattle.calls.specs.declared.Written.{Written}
+use Rattle.calls.specs.declared.Written.the-variants as W
+use Rattle.calls.proofs.Small.{count-few}
 use borrow.Author.Needs.{needs}
 use Rattle.opening.proofs.bench.opening_solve.Statement.{statement}
 use Rattle.opening.proofs.bench.opening_solve.Tie as tie

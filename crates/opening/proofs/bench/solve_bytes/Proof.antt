@@ -5,8 +5,10 @@ use denote.Ref.{now}
 use native.Mathlib.Omega.{arith}
 use mathlib.Core.Path.{_≡_, sym}
 use lib.ListN.{length, take}
-use Rattle.opening.proofs.Calls.{well-formed, solving-refused}
-use Rattle.opening.proofs.Bytes.{cells-few, bench-kept, bench-short, bench-none, bench-solved, solved-sized}
+use Rattle.calls.proofs.Calls.{well-formed}
+use Rattle.calls.proofs.Bytes.{cells-few}
+use Rattle.opening.proofs.Leaves.{solving-refused}
+use Rattle.opening.proofs.Bytes.{bench-kept, bench-short, bench-none, bench-solved, solved-sized}
 use Rattle.pairs.specs.Pairs.{minutesOf}
 use borrow.Author.Needs.{needs}
 use Rattle.opening.proofs.bench.solve_bytes.Statement.{statement}

@@ -7,6 +7,8 @@ use mathlib.Core.List.{List, _++_}
 use Prim.Native.Nat.{ℕ, _*_, _/_, _≤_}
 use lib.ListN.{length, drop}
 use Rattle.pairs.specs.Pairs.{minutesOf, bytesOf}
+use Rattle.refusal.specs.Refusal.{numberOf}
+use Rattle.refusal.specs.declared.Cause.{Cause}
 use Rattle.refusal.specs.declared.Refusal.{Refusal}
 use Rattle.fixpoint.specs.Run.{Rests}
 use Rattle.network.specs.Build.{cells}
@@ -15,7 +17,9 @@ use Rattle.network.specs.Least.{Least}
 use Rattle.network.specs.Least as L
 use Rattle.network.specs.declared.Network.{Network}
 use Rattle.sheet.specs.Reading.{read}
-use Rattle.sheet.specs.Fault.{Fault}
+use Rattle.sheet.specs.Place.{tests}
+use Rattle.sheet.specs.Order.{Fails}
+use Rattle.sheet.specs.Fault.{FirstFault, Fault}
 use Rattle.sheet.specs.declared.Outcome.the-variants.{Accepted, Refused}
 use Rattle.layout.specs.Layout.{Layout}
 use Rattle.layout.specs.Contains.{Contains}
@@ -25,29 +29,28 @@ use Rattle.checker.specs.declared.Breach.{Breach}
 use Rattle.checker.specs.declared.Verdict.the-variants.{Pass, Breach as Breached}
 use Rattle.rounds.specs.Hyperarcs.{Dynamic, Hyperarcs}
 use Rattle.solver.specs.Solve.{solve}
-use Rattle.opening.specs.Values.{done, turnedAway, refusedAs}
-use Rattle.opening.specs.Calls.{countsOf, summary, noCounts, summaryValues, judgement, writtenValues, Left, solving, listed}
-use Rattle.opening.specs.Bench.{benchJudgement, benchSolving, passed, breachValues, judgementValues, packed, packedWritten}
-use Rattle.opening.specs.Header.{JudgeHolds, SolverHolds}
-use Rattle.opening.specs.Answers.{Reads, Keeps}
-use Rattle.opening.specs.Numbers.{Numbers}
+use Rattle.calls.specs.Values.{done, refusedAs}
+use Rattle.calls.specs.Calls.{countsOf, summary, summaryValues, judgement, writtenValues, Left, solving}
+use Rattle.calls.specs.Bench.{benchJudgement, benchSolving, passed, breachValues, judgementValues, packed, packedWritten}
+use Rattle.calls.specs.Header.{JudgeHolds, SolverHolds}
+use Rattle.calls.specs.Answers.{Reads}
+use Rattle.calls.specs.Numbers.{Numbers}
 
 pub record Demands : Type 0 where
-  -- demand 1: every call has one of its defined answers, by its contract; which numbers and lines these are; "a refusal
-  -- leaves each lent buffer unaltered"
+  -- demand 1: every call has one of its defined answers, by its contract; which numbers and lines these are, and where
+  -- each comes; "a refusal leaves each lent buffer unaltered"
   pub numbers : Numbers
-  pub solving-keeps : (sheet m : List ℕ) → Keeps (solving sheet m) m
-  pub listing-keeps : (sheet t m : List ℕ) → Keeps (listed sheet t m) m
-  pub bench-keeps : (sheet b : List ℕ) → Keeps (benchSolving sheet b) b
-  -- of the reader's call: the counts of an accepted sheet, or the number and the line of its refusal
+  -- of the reader's call: the counts of an accepted sheet
   pub counted : (sheet : List ℕ) (Γ : Network) → Reads sheet Γ → summaryValues (summary sheet) ≡ done (countsOf Γ)
-  pub turned-away : (sheet : List ℕ) (r : Refusal) → Fault sheet r → summaryValues (summary sheet) ≡ turnedAway noCounts r
   -- demand 2: "A sheet is accepted when it keeps every rule of its layout, otherwise refused"
   pub accepted : (sheet : List ℕ) → (read sheet .outcome ≡ Accepted) ↔ Layout sheet
   -- its network holds what it contains: ends, limits and labels of the rules as they are written
   pub contains : (sheet : List ℕ) (Γ : Network) → Reads sheet Γ → (l : Layout sheet) → Contains sheet Γ (l .contents)
   -- and it is refused with its first line at fault, on which the first test that fails decides
   pub at-fault : (sheet : List ℕ) (r : Refusal) → (read sheet .outcome ≡ Refused r) ↔ Fault sheet r
+  -- "on one line the lowest number does"
+  pub lowest : (sheet : List ℕ) (r : Refusal) (f : FirstFault sheet r) (c : Cause) → Fails (tests sheet (f .above)) c
+      → numberOf (r .cause) ≤ numberOf c
   -- "The judge passes a table for an accepted sheet exactly when the three points of a good table hold"
   pub judged : (sheet σ : List ℕ) (Γ : Network) → Reads sheet Γ → length σ ≡ cells Γ → (verdict Γ σ ≡ Pass) ↔ Solution Γ σ
   -- and it names a breach exactly where that is the first in document 01's order

@@ -5,19 +5,19 @@ use mathlib.Core.List.{List}
 use Prim.Native.Nat.{ℕ, _≤_, _<_}
 use native.Mathlib.Omega.{arith}
 use Rattle.pairs.specs.Pairs.{minutesOf}
-use Rattle.opening.specs.Values.{Values}
-use Rattle.opening.specs.Calls.{writtenValues, Left}
-use Rattle.opening.specs.Bench.{benchJudgement, benchSolving, Said, judgementValues, refused, packed, packedCount, packedWritten}
-use Rattle.opening.specs.Answers.{OneOf, Answers}
-use Rattle.opening.specs.Numbers.{judgesBytes, solvesBytes, Numbers}
-use Rattle.opening.specs.Header.{JudgeHolds, SolverHolds}
-use Rattle.opening.specs.declared.Judgement.{Judgement}
-use Rattle.opening.specs.declared.Judgement.the-variants as J
-use Rattle.opening.specs.declared.Written.{Written}
-use Rattle.opening.specs.declared.Written.the-variants as W
-use Rattle.opening.proofs.Small.{Small, bench-judgement-small, count-few}
-use Rattle.opening.proofs.Answers.{line-short}
-use Rattle.opening.proofs.Numbers.{numbers}
+use Rattle.calls.specs.Values.{Values}
+use Rattle.calls.specs.Calls.{writtenValues, Left}
+use Rattle.calls.specs.Bench.{benchJudgement, benchSolving, Said, nothingSaid, judgementValues, refused, packed, packedCount, packedWritten}
+use Rattle.calls.specs.Answers.{OneOf, Answers, Writes}
+use Rattle.calls.specs.Numbers.{judgesBytes, solvesBytes, Numbers}
+use Rattle.calls.specs.Header.{JudgeHolds, SolverHolds}
+use Rattle.calls.specs.declared.Judgement.{Judgement}
+use Rattle.calls.specs.declared.Judgement.the-variants as J
+use Rattle.calls.specs.declared.Written.{Written}
+use Rattle.calls.specs.declared.Written.the-variants as W
+use Rattle.calls.proofs.Small.{Small, bench-judgement-small, count-few}
+use Rattle.calls.proofs.Answers.{line-short}
+use Rattle.calls.proofs.Numbers.{numbers}
 
 pub judge-holds : (v : Values Said) → Small v → JudgeHolds (packed v) v
 judge-holds v s = record {
@@ -53,9 +53,9 @@ module _ (sheet b : List ℕ) where
   judge-small : (j : Judgement) → benchJudgement sheet b ≡ j → Small (judgementValues j)
   judge-small (J.Judged v) e = bench-judgement-small sheet b v e
   judge-small (J.Refused r) e =
-      let a : Answers sheet (judgesBytes b) (refused r) = rw e at (numbers .bench-judge sheet b) in
+      let a : Answers sheet (judgesBytes b) nothingSaid (refused r) = rw e at (numbers .bench-judge sheet b) in
       let n = judge-number (a .numbers) in
-      let l = line-short sheet (judgesBytes b) (refused r) a in
+      let l = line-short sheet (judgesBytes b) (refused r) refl a in
       omega (arith, n, l)
 
   pub header-judge : let v = judgementValues (benchJudgement sheet b) in JudgeHolds (packed v) v
@@ -68,6 +68,6 @@ module _ (sheet b : List ℕ) where
   pub header-solver : let w = benchSolving sheet b .answer in SolverHolds (packedWritten w) (writtenValues w)
   header-solver =
       let v = writtenValues (benchSolving sheet b .answer) in
-      let a = numbers .bench-solver sheet b in
-      solver-holds v (solver-number (a .numbers)) (omega (arith, line-short sheet (solvesBytes b) v a))
+      let a = numbers .bench-solver sheet b .answers in
+      solver-holds v (solver-number (a .numbers)) (omega (arith, line-short sheet (solvesBytes b) v refl a))
       (count-small (benchSolving sheet b .answer) refl)

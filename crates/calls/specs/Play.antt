@@ -12,12 +12,12 @@ use Rattle.dispatch.specs.Said.{dueOn}
 use Rattle.dispatch.specs.declared.Heard.{Heard}
 use Rattle.dispatch.specs.declared.Dispatched.{Dispatched}
 use Rattle.dispatch.specs.declared.Dispatched.the-variants as P
-use Rattle.opening.specs.Calls.{withoutLine, judgement}
-use Rattle.opening.specs.Values.{Values, done, turnedAway}
-use Rattle.opening.specs.declared.Judgement.{Judgement}
-use Rattle.opening.specs.declared.Judgement.the-variants as J
-use Rattle.opening.specs.declared.Due.{Due}
-use Rattle.opening.specs.declared.Due.the-variants as D
+use Rattle.calls.specs.Calls.{withoutLine, judgement}
+use Rattle.calls.specs.Values.{Values, done, turnedAway}
+use Rattle.calls.specs.declared.Judgement.{Judgement}
+use Rattle.calls.specs.declared.Judgement.the-variants as J
+use Rattle.calls.specs.declared.Due.{Due}
+use Rattle.calls.specs.declared.Due.the-variants as D
 
 -- what the player says of the list: 15 and 16 have line 0
 abbrev pub answerTo : Dispatched → Due

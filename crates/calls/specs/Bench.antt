@@ -17,12 +17,12 @@ use Rattle.checker.specs.declared.Breach.{Breach}
 use Rattle.checker.specs.declared.Breach.the-variants.{Late, Rule, Unheard}
 use Rattle.checker.specs.declared.Verdict.{Verdict}
 use Rattle.checker.specs.declared.Verdict.the-variants.{Pass, Breach as Breached}
-use Rattle.opening.specs.Calls.{withoutLine, judgement, writtenValues, Left, solving}
-use Rattle.opening.specs.Values.{Values, done, turnedAway}
-use Rattle.opening.specs.declared.Judgement.{Judgement}
-use Rattle.opening.specs.declared.Judgement.the-variants as J
-use Rattle.opening.specs.declared.Written.{Written}
-use Rattle.opening.specs.declared.Written.the-variants as W
+use Rattle.calls.specs.Calls.{withoutLine, judgement, writtenValues, Left, solving}
+use Rattle.calls.specs.Values.{Values, done, turnedAway}
+use Rattle.calls.specs.declared.Judgement.{Judgement}
+use Rattle.calls.specs.declared.Judgement.the-variants as J
+use Rattle.calls.specs.declared.Written.{Written}
+use Rattle.calls.specs.declared.Written.the-variants as W
 
 -- judging bytes
 abbrev pub benchJudgementFor : List ℕ → Outcome → List ℕ → Judgement
@@ -57,8 +57,11 @@ pub record Said : Type 0 where
 abbrev pub said : ℕ → ℕ → ℕ → ℕ → Said
 said w a b c = record { word = w; first = a; second = b; third = c }
 
+abbrev pub nothingSaid : Said
+nothingSaid = said 0 0 0 0
+
 abbrev pub refused : Refusal → Values Said
-refused r = turnedAway (said 0 0 0 0) r
+refused r = turnedAway nothingSaid r
 
 abbrev pub judged : ℕ → ℕ → ℕ → ℕ → Values Said
 judged w a b c = done (said w a b c)

@@ -26,14 +26,14 @@ use Rattle.solver.specs.Solve.{solve}
 use Rattle.listing.specs.Listing.{listing}
 use Rattle.tighten.specs.Tightest.{remainingOf}
 use Rattle.canonical.specs.House.{houseText}
-use Rattle.opening.specs.Values.{Values, done, turnedAway}
-use Rattle.opening.specs.declared.Counts.{Counts}
-use Rattle.opening.specs.declared.Summary.{Summary}
-use Rattle.opening.specs.declared.Summary.the-variants as S
-use Rattle.opening.specs.declared.Judgement.{Judgement}
-use Rattle.opening.specs.declared.Judgement.the-variants as J
-use Rattle.opening.specs.declared.Written.{Written}
-use Rattle.opening.specs.declared.Written.the-variants as W
+use Rattle.calls.specs.Values.{Values, done, turnedAway}
+use Rattle.calls.specs.declared.Counts.{Counts}
+use Rattle.calls.specs.declared.Summary.{Summary}
+use Rattle.calls.specs.declared.Summary.the-variants as S
+use Rattle.calls.specs.declared.Judgement.{Judgement}
+use Rattle.calls.specs.declared.Judgement.the-variants as J
+use Rattle.calls.specs.declared.Written.{Written}
+use Rattle.calls.specs.declared.Written.the-variants as W
 
 -- the line is 0 for refusals 11 to 13, and for those of document 02 that name none
 abbrev pub withoutLine : Cause → Refusal

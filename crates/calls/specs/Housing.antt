@@ -2,26 +2,21 @@
 use mathlib.Core.Path.{_≡_}
 use mathlib.Core.Logic.{_↔_}
 use mathlib.Core.List.{List, _++_}
-use Prim.Native.Nat.{ℕ, _≤_, _<_}
+use Prim.Native.Nat.{ℕ, _≤_}
 use lib.ListN.{length, drop}
-use Rattle.refusal.specs.declared.Refusal.{Refusal}
 use Rattle.network.specs.Limits as L
 use Rattle.network.specs.Solution.{Solution}
 use Rattle.network.specs.Least.{Least, Inconsistent}
 use Rattle.network.specs.declared.Constraint.{Constraint}
 use Rattle.network.specs.declared.Network.{Network}
-use Rattle.sheet.specs.Reading.{read}
-use Rattle.sheet.specs.declared.Outcome.the-variants as O
-use Rattle.sheet.specs.declared.Reading.{Reading}
 use Rattle.tighten.specs.Upper.{rowsOf}
 use Rattle.tighten.specs.Remaining.{Remaining}
 use Rattle.tighten.specs.Tightest.{remainingOf}
 use Rattle.canonical.specs.House.{houseText}
 use Rattle.canonical.specs.Same.{Same}
-use Rattle.opening.specs.Values.{Values, done, refusedAs}
-use Rattle.opening.specs.Calls.{writtenValues, Left, housed}
-use Rattle.opening.specs.Answers.{Reads, Keeps}
-use Rattle.opening.specs.declared.Written.the-variants as W
+use Rattle.calls.specs.Values.{Values, done}
+use Rattle.calls.specs.Calls.{writtenValues, Left, housed}
+use Rattle.calls.specs.Answers.{Reads}
 
 -- the sheet's network is Γ, no more rows remain of it than a sheet may have, and f is its form
 pub record Form (sheet : List ℕ) (Γ : Network) (f : List ℕ) : Type 0 where
@@ -39,14 +34,9 @@ pub record SameTables (Γ Δ : Network) : Type 0 where
   pub least : (σ : List ℕ) → Least Γ σ ↔ Least Δ σ
   pub none : Inconsistent Γ ↔ Inconsistent Δ
 
+-- where it refuses stands in `Numbers`
 pub record Housing : Type 0 where
-  -- a refusal alters nothing: "Lent tables and byte buffers keep all their contents"; the sheet's own comes first
-  pub keeps : (sheet m : List ℕ) → Keeps (housed sheet m) m
-  pub refused : (sheet m : List ℕ) (r : Refusal) → read sheet .outcome ≡ O.Refused r → housed sheet m .answer ≡ W.Refused r
-  -- 17 exactly where "more than 64 rows would be left"; then 12 exactly where the buffer is too short
-  pub too-many : (sheet m : List ℕ) (Γ : Network) → Reads sheet Γ → (answer sheet m ≡ refusedAs 17) ↔ (L.rules < length (remainingOf Γ))
-  pub too-short : (sheet m f : List ℕ) (Γ : Network) → Form sheet Γ f → (answer sheet m ≡ refusedAs 12) ↔ (length m < length f)
-  -- otherwise the form is written, and everything behind it is unaltered
+  -- where there is room the form is written, and everything behind it is unaltered
   pub written : (sheet m f : List ℕ) (Γ : Network) → Form sheet Γ f → length f ≤ length m
       → (answer sheet m ≡ done (length f)) × (housed sheet m .memory ≡ f ++ drop (length f) m)
   -- the rows in it are those that remain of the sheet's, in document 02's words, and no other list is

@@ -10,6 +10,7 @@ use lib.ListN.{length, take, drop, replicate, length-replicate}
 use lib.Seq.{take-at}
 use Rattle.refusal.specs.Refusal.{numberOf}
 use Rattle.refusal.specs.declared.Refusal.{Refusal}
+use Rattle.refusal.proofs.Numbered.{numbered}
 use Rattle.network.specs.Limits as L
 use Rattle.network.specs.Build.{scenarios, cells}
 use Rattle.network.specs.Strategy.{time}
@@ -26,19 +27,17 @@ use Rattle.listing.proofs.Short.{listing-short}
 use Rattle.tighten.specs.Tightest.{remainingOf}
 use Rattle.canonical.specs.House.{houseText}
 use Rattle.canonical.proofs.Again.{form-short}
-use Rattle.opening.specs.Values.{Values, turnedAway, refusedAs}
-use Rattle.opening.specs.Calls.{Left, written, solving, listed, housed}
-use Rattle.opening.specs.Table.{refusedText, orRefused, listingOn, tableOn, formOn}
-use Rattle.opening.specs.Answers.{Reads}
-use Rattle.opening.specs.Housing.{Form}
-use Rattle.opening.specs.Printing.{Printing}
-use Rattle.opening.specs.declared.Written.{Written}
-use Rattle.opening.specs.declared.Written.the-variants as W
-use Rattle.opening.proofs.Calls.{written-room, listing-right}
-use Rattle.opening.proofs.Bytes.{cells-few}
-use Rattle.opening.proofs.Promises.{refuses, solves}
-use Rattle.opening.proofs.House.{house-many, house-few}
-use Rattle.opening.proofs.InNumbers.{numbered}
+use Rattle.calls.specs.Values.{Values, turnedAway, refusedAs}
+use Rattle.calls.specs.Calls.{Left, written, solving, listed, housed}
+use Rattle.calls.specs.Table.{refusedText, orRefused, listingOn, tableOn, formOn}
+use Rattle.calls.specs.Answers.{Reads}
+use Rattle.calls.specs.Housing.{Form}
+use Rattle.calls.specs.Printing.{Printing}
+use Rattle.calls.specs.declared.Written.{Written}
+use Rattle.calls.specs.declared.Written.the-variants as W
+use Rattle.calls.proofs.Calls.{written-room, listing-right, house-many, house-few}
+use Rattle.calls.proofs.Bytes.{cells-few}
+use Rattle.calls.proofs.Solving.{solves-least, refuses-none}
 
 -- a call that wrote n, and one that refused
 wrote-on : (l : Left) (n : ℕ) (next : List ℕ → List ℕ) → l .answer ≡ W.Count n → orRefused l next ≡ next (take n (l .memory))
@@ -77,7 +76,7 @@ module _ (sheet : List ℕ) (a : read sheet .outcome ≡ Accepted) where
   table-on : (σ m page : List ℕ) → Least net σ → 256 ≤ length m → 2048 ≤ length page → tableOn m page sheet ≡ listing sheet net σ
   table-on σ m page least h k =
       let room : cells net ≤ length m = omega (arith, cells-few (formed .0)) in
-      let s = solves sheet a m room (λ i. i .none σ (least .solves)) in
+      let s = solves-least sheet a m room (λ i. i .none σ (least .solves)) in
       let same : s .0 ≡ σ = least-unique (s .1) least in
       let front : take (cells net) (solving sheet m .memory) ≡ s .0 =
       ap (λ (x : List ℕ). take (cells net) x) (s .3) ∙ take-at (s .0) (drop (cells net) m) (cells net) (s .1 .solves .sized) in
@@ -87,7 +86,7 @@ module _ (sheet : List ℕ) (a : read sheet .outcome ≡ Accepted) where
 
   none-on : (m page : List ℕ) → Inconsistent net → 256 ≤ length m → tableOn m page sheet ≡ refusedText (refusedAs 13)
   none-on m page i h =
-      refused-on (solving sheet m) _ (listingOn page sheet) (refuses sheet a m (omega (arith, cells-few (formed .0))) .1 i)
+      refused-on (solving sheet m) _ (listingOn page sheet) (refuses-none sheet a m (omega (arith, cells-few (formed .0))) i)
 
   many-on : (page : List ℕ) → L.rules < length (remainingOf net) → formOn page sheet ≡ refusedText (refusedAs 17)
   many-on page h =

@@ -22,12 +22,12 @@ use Rattle.dispatch.specs.Heard.{Lettered}
 use Rattle.dispatch.specs.Said.{saidFrom, dueOn}
 use Rattle.dispatch.specs.declared.Heard.{Heard}
 use Rattle.dispatch.proofs.Mask.{due-said}
-use Rattle.opening.specs.Calls.{withoutLine, judgement}
-use Rattle.opening.specs.Play.{playedFor, eventsDue, eventsDueOn}
-use Rattle.opening.specs.declared.Judgement.{Judgement}
-use Rattle.opening.specs.declared.Judgement.the-variants as J
-use Rattle.opening.specs.declared.Due.the-variants as D
-use Rattle.opening.proofs.Calls.{judgement-of, judged-wrong, judged-as}
+use Rattle.calls.specs.Calls.{withoutLine, judgement}
+use Rattle.calls.specs.Play.{playedFor, eventsDue, eventsDueOn}
+use Rattle.calls.specs.declared.Judgement.{Judgement}
+use Rattle.calls.specs.declared.Judgement.the-variants as J
+use Rattle.calls.specs.declared.Due.the-variants as D
+use Rattle.calls.proofs.Calls.{judgement-of, judged-wrong, judged-as}
 
 pub lettered : (sheet : List ℕ) → read sheet .outcome ≡ Accepted → Lettered (read sheet .network)
 lettered sheet a =
@@ -55,6 +55,17 @@ events-due-said sheet t m hs = by-outcome (read sheet .outcome) refl
     by-outcome : (o : Outcome) → read sheet .outcome ≡ o → eventsDueOn sheet t m (saidFrom 0 hs) ≡ eventsDue sheet t m hs
     by-outcome Accepted a = ap (playedFor (judgement sheet t)) (due-said (read sheet .network) t m hs (lettered sheet a))
     by-outcome (Refused r) a = rw a
+
+-- a sheet's own refusal comes first
+pub events-refused-on : (sheet t : List ℕ) (m x : ℕ) (r : Refusal) → read sheet .outcome ≡ Refused r
+    → eventsDueOn sheet t m x ≡ D.Refused r
+unfolding eventsDueOn
+events-refused-on sheet t m x r e = rw e
+
+pub events-refused : (sheet t : List ℕ) (m : ℕ) (hs : List Heard) (r : Refusal) → read sheet .outcome ≡ Refused r
+    → eventsDue sheet t m hs ≡ D.Refused r
+unfolding eventsDue
+events-refused sheet t m hs r e = rw e
 
 -- the call on a mask goes by the outcome of the reading, the table's length and the verdict
 module _ (sheet : List ℕ) (g : Reading) (e : g ≡ read sheet) (t : List ℕ) (m x : ℕ) where

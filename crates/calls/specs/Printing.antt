@@ -10,10 +10,10 @@ use Rattle.network.specs.declared.Network.{Network}
 use Rattle.sheet.specs.Fault.{Fault}
 use Rattle.listing.specs.Listing.{listing}
 use Rattle.tighten.specs.Tightest.{remainingOf}
-use Rattle.opening.specs.Values.{turnedAway, refusedAs}
-use Rattle.opening.specs.Table.{refusedText, tableText, formText}
-use Rattle.opening.specs.Answers.{Reads}
-use Rattle.opening.specs.Housing.{Form}
+use Rattle.calls.specs.Values.{turnedAway, refusedAs}
+use Rattle.calls.specs.Table.{refusedText, tableText, formText}
+use Rattle.calls.specs.Answers.{Reads}
+use Rattle.calls.specs.Housing.{Form}
 
 pub record Printing : Type 0 where
   -- "or `refused N line L` with the number and the line": the sheet's own refusal, then 13 and 17

@@ -9,8 +9,8 @@ use lib.ListN.{take, replicate}
 use Rattle.prelude.specs.Bytes.{ascii}
 use Rattle.text.specs.Lines.{lineFeed}
 use Rattle.text.specs.Decimal.{decimal}
-use Rattle.opening.specs.Values.{Values}
-use Rattle.opening.specs.Calls.{writtenValues, Left, solving, listed, housed}
+use Rattle.calls.specs.Values.{Values}
+use Rattle.calls.specs.Calls.{writtenValues, Left, solving, listed, housed}
 
 abbrev pub refusedText : Values ℕ → List ℕ
 refusedText v = ascii "refused " ++ decimal (v .number) ++ ascii " line " ++ decimal (v .line) ++ lineFeed ∷ []

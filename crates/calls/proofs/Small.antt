@@ -28,13 +28,13 @@ use Rattle.checker.specs.declared.Verdict.the-variants.{Pass, Breach as Breache
 use Rattle.checker.proofs.Judged.{breach-first}
 use Rattle.solver.specs.Solve.{solve}
 use Rattle.solver.proofs.Least.{solve-least}
-use Rattle.opening.specs.Calls.{withoutLine, judgementFor, judgement, Left, kept, solvedFor, solvingFor, solving}
-use Rattle.opening.specs.Values.{Values}
-use Rattle.opening.specs.Bench.{benchJudgementFor, benchJudgement, Said, verdictValues, breachValues}
-use Rattle.opening.specs.declared.Judgement.{Judgement}
-use Rattle.opening.specs.declared.Judgement.the-variants as J
-use Rattle.opening.specs.declared.Written.the-variants as W
-use Rattle.opening.proofs.Bytes.{cells-few}
+use Rattle.calls.specs.Calls.{withoutLine, judgementFor, judgement, Left, kept, solvedFor, solvingFor, solving}
+use Rattle.calls.specs.Values.{Values}
+use Rattle.calls.specs.Bench.{benchJudgementFor, benchJudgement, Said, verdictValues, breachValues}
+use Rattle.calls.specs.declared.Judgement.{Judgement}
+use Rattle.calls.specs.declared.Judgement.the-variants as J
+use Rattle.calls.specs.declared.Written.the-variants as W
+use Rattle.calls.proofs.Bytes.{cells-few}
 
 -- each value of an answer fits its bytes
 pub record Small (v : Values Said) : Type 0 where

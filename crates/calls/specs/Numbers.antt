@@ -11,16 +11,15 @@ use Rattle.network.specs.Least.{Inconsistent}
 use Rattle.network.specs.declared.Network.{Network}
 use Rattle.dispatch.specs.Heard.{WellNamed}
 use Rattle.dispatch.specs.History.{History}
-use Rattle.dispatch.specs.Said.{dueOn}
+use Rattle.dispatch.specs.Said.{saidFrom}
 use Rattle.dispatch.specs.declared.Heard.{Heard}
-use Rattle.dispatch.specs.declared.Dispatched.the-variants.{Misnamed, NeverHeard}
 use Rattle.listing.specs.Listing.{listing}
 use Rattle.tighten.specs.Tightest.{remainingOf}
 use Rattle.canonical.specs.House.{houseText}
-use Rattle.opening.specs.Calls.{summary, summaryValues, judgement, writtenValues, Left, solving, listed, housed}
-use Rattle.opening.specs.Bench.{judgementValues, benchJudgement, benchSolving}
-use Rattle.opening.specs.Play.{eventsDue, eventsDueOn, dueValues}
-use Rattle.opening.specs.Answers.{Own, Answers}
+use Rattle.calls.specs.Calls.{summary, noCounts, summaryValues, judgement, solving, listed, housed}
+use Rattle.calls.specs.Bench.{nothingSaid, judgementValues, benchJudgement, benchSolving}
+use Rattle.calls.specs.Play.{eventsDue, eventsDueOn, dueValues}
+use Rattle.calls.specs.Answers.{Own, Answers, Writes}
 
 -- "A table handed in has not exactly n × 2^k numbers"
 abbrev pub wrongLength : List ℕ → Own
@@ -52,22 +51,22 @@ houses sheet m =
 
 -- "the table does not pass the judge; a letter in the list is undefined or stands twice; no case has heard exactly this
 -- list"
-abbrev pub plays : List ℕ → ℕ → List Heard → List Own
-plays t m hs =
+abbrev pub playing : List ℕ → (Network → Type 0) → (Network → Type 0) → List Own
+playing t misnamed unheard =
     wrongLength t
     ∷ record { number = 14; cause = λ Γ. Solution Γ t → ⊥ }
-    ∷ record { number = 15; cause = λ Γ. WellNamed Γ hs → ⊥ }
-    ∷ record { number = 16; cause = λ Γ. (s : ℕ) → s < scenarios Γ → History Γ t m hs s → ⊥ }
+    ∷ record { number = 15; cause = misnamed }
+    ∷ record { number = 16; cause = unheard }
     ∷ []
 
--- the same by a mask: what the player says of it
+abbrev pub plays : List ℕ → ℕ → List Heard → List Own
+plays t m hs = playing t (λ Γ. WellNamed Γ hs → ⊥) (λ Γ. (s : ℕ) → s < scenarios Γ → History Γ t m hs s → ⊥)
+
+-- the same of a mask: the list is any that has this mask
 abbrev pub playsOn : List ℕ → ℕ → ℕ → List Own
 playsOn t m x =
-    wrongLength t
-    ∷ record { number = 14; cause = λ Γ. Solution Γ t → ⊥ }
-    ∷ record { number = 15; cause = λ Γ. dueOn Γ t m x ≡ Misnamed }
-    ∷ record { number = 16; cause = λ Γ. dueOn Γ t m x ≡ NeverHeard }
-    ∷ []
+    playing t (λ Γ. (hs : List Heard) → saidFrom 0 hs ≡ x → WellNamed Γ hs → ⊥)
+    (λ Γ. (hs : List Heard) → saidFrom 0 hs ≡ x → (s : ℕ) → s < scenarios Γ → History Γ t m hs s → ⊥)
 
 -- "For the judge an odd number of bytes is refusal 11; the solver counts the whole pairs it is lent"
 abbrev pub judgesBytes : List ℕ → List Own
@@ -77,12 +76,12 @@ abbrev pub solvesBytes : List ℕ → List Own
 solvesBytes b = tooShort (length b / 2) cells ∷ noTable ∷ []
 
 pub record Numbers : Type 0 where
-  pub reader : (sheet : List ℕ) → Answers sheet [] (summaryValues (summary sheet))
-  pub judge : (sheet t : List ℕ) → Answers sheet (judges t) (judgementValues (judgement sheet t))
-  pub solver : (sheet m : List ℕ) → Answers sheet (solves m) (writtenValues (solving sheet m .answer))
-  pub lister : (sheet t m : List ℕ) → Answers sheet (lists sheet t m) (writtenValues (listed sheet t m .answer))
-  pub bench-judge : (sheet b : List ℕ) → Answers sheet (judgesBytes b) (judgementValues (benchJudgement sheet b))
-  pub bench-solver : (sheet b : List ℕ) → Answers sheet (solvesBytes b) (writtenValues (benchSolving sheet b .answer))
-  pub player : (sheet t : List ℕ) (m : ℕ) (hs : List Heard) → Answers sheet (plays t m hs) (dueValues (eventsDue sheet t m hs))
-  pub player-on : (sheet t : List ℕ) (m x : ℕ) → Answers sheet (playsOn t m x) (dueValues (eventsDueOn sheet t m x))
-  pub housing : (sheet m : List ℕ) → Answers sheet (houses sheet m) (writtenValues (housed sheet m .answer))
+  pub reader : (sheet : List ℕ) → Answers sheet [] noCounts (summaryValues (summary sheet))
+  pub judge : (sheet t : List ℕ) → Answers sheet (judges t) nothingSaid (judgementValues (judgement sheet t))
+  pub solver : (sheet m : List ℕ) → Writes sheet (solves m) (solving sheet m) m
+  pub lister : (sheet t m : List ℕ) → Writes sheet (lists sheet t m) (listed sheet t m) m
+  pub house-writer : (sheet m : List ℕ) → Writes sheet (houses sheet m) (housed sheet m) m
+  pub player : (sheet t : List ℕ) (m : ℕ) (hs : List Heard) → Answers sheet (plays t m hs) 0 (dueValues (eventsDue sheet t m hs))
+  pub player-on : (sheet t : List ℕ) (m x : ℕ) → Answers sheet (playsOn t m x) 0 (dueValues (eventsDueOn sheet t m x))
+  pub bench-judge : (sheet b : List ℕ) → Answers sheet (judgesBytes b) nothingSaid (judgementValues (benchJudgement sheet b))
+  pub bench-solver : (sheet b : List ℕ) → Writes sheet (solvesBytes b) (benchSolving sheet b) b

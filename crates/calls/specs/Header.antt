@@ -2,8 +2,8 @@
 -- that they give back the values that went in (01, The judge's verdict: the workshop bench).
 use mathlib.Core.Path.{_≡_}
 use Prim.Native.Nat.{ℕ, _/_, _%_, _^_}
-use Rattle.opening.specs.Values.{Values}
-use Rattle.opening.specs.Bench.{Said}
+use Rattle.calls.specs.Values.{Values}
+use Rattle.calls.specs.Bench.{Said}
 
 -- `answer >> s`, and its n lowest bits
 abbrev pub shifted : ℕ → ℕ → ℕ

@@ -5,23 +5,17 @@ use mathlib.Core.Bool.{true}
 use mathlib.Core.List.{List}
 use Prim.Native.Nat.{ℕ, _+_, _^_, _≤_, _<_}
 use lib.Dec.{eqb}
-use lib.ListN.{length}
-use Rattle.refusal.specs.declared.Refusal.{Refusal}
-use Rattle.network.specs.Build.{observation, scenarios, cells}
+use Rattle.network.specs.Build.{observation, scenarios}
 use Rattle.network.specs.Scenario.{truth}
 use Rattle.network.specs.Strategy.{time, reaction, known}
 use Rattle.network.specs.Solution.{Indistinct, Solution}
 use Rattle.network.specs.declared.Network.{Network}
-use Rattle.sheet.specs.Reading.{read}
-use Rattle.sheet.specs.declared.Outcome.the-variants as O
-use Rattle.sheet.specs.declared.Reading.{Reading}
-use Rattle.dispatch.specs.Heard.{WellNamed}
 use Rattle.dispatch.specs.History.{History, historyOf}
+use Rattle.dispatch.specs.Said.{saidFrom}
 use Rattle.dispatch.specs.declared.Heard.{Heard}
-use Rattle.opening.specs.Answers.{Reads}
-use Rattle.opening.specs.Values.{Values, refusedAs}
-use Rattle.opening.specs.Play.{eventsDue, dueValues}
-use Rattle.opening.specs.declared.Due.the-variants.{Refused}
+use Rattle.calls.specs.Answers.{Reads}
+use Rattle.calls.specs.Values.{Values}
+use Rattle.calls.specs.Play.{eventsDue, eventsDueOn, dueValues}
 
 -- the answer is the row of the case s at the minute m: of each event, whether it is due; and no bit behind the events
 pub record RowAt (Γ : Network) (t : List ℕ) (m s : ℕ) (v : Values ℕ) : Type 0 where
@@ -54,17 +48,9 @@ module _ (sheet t : List ℕ) where
     pub unheard : (m s r : ℕ) → s < scenarios Γ → r < scenarios Γ → Indistinct Γ t s r m
         → ((hs : List Heard) → History Γ t m hs s ↔ History Γ t m hs r)
         × (eventsDue sheet t m (historyOf Γ t m s) ≡ eventsDue sheet t m (historyOf Γ t m r))
-    -- 15 and 16, each exactly where document 02 says
-    pub misnamed : (m : ℕ) (hs : List Heard) → (answer m hs ≡ refusedAs 15) ↔ (WellNamed Γ hs → ⊥)
-    pub never-heard : (m : ℕ) (hs : List Heard)
-        → (answer m hs ≡ refusedAs 16) ↔ (WellNamed Γ hs × ((s : ℕ) → s < scenarios Γ → History Γ t m hs s → ⊥))
 
+-- where it refuses stands in `Numbers`
 pub record Playing : Type 0 where
   pub plays : (sheet t : List ℕ) (Γ : Network) → Reads sheet Γ → Solution Γ t → Plays sheet t Γ
-  -- the sheet's own refusal, then 11 and 14, each exactly where documents 01 and 02 say
-  pub refused : (sheet t : List ℕ) (m : ℕ) (hs : List Heard) (r : Refusal) → read sheet .outcome ≡ O.Refused r
-      → eventsDue sheet t m hs ≡ Refused r
-  pub wrong : (sheet t : List ℕ) (Γ : Network) (m : ℕ) (hs : List Heard) → Reads sheet Γ
-      → (answer sheet t m hs ≡ refusedAs 11) ↔ (length t ≡ cells Γ → ⊥)
-  pub fails : (sheet t : List ℕ) (Γ : Network) (m : ℕ) (hs : List Heard) → Reads sheet Γ → length t ≡ cells Γ
-      → (answer sheet t m hs ≡ refusedAs 14) ↔ (Solution Γ t → ⊥)
+  -- the mask of a list says what the list does
+  pub by-mask : (sheet t : List ℕ) (m : ℕ) (hs : List Heard) → eventsDueOn sheet t m (saidFrom 0 hs) ≡ eventsDue sheet t m hs

@@ -1,30 +1,28 @@
 -- The demands hold: each is cited from where it is proved. Assumes nothing.
 use Rattle.network.specs.declared.Network.{Network}
-use Rattle.sheet.proofs.Fault.{refused-iff}
+use Rattle.sheet.proofs.Fault.{refused-iff, fault-lowest}
 use Rattle.layout.proofs.Accepted.{accepted-iff, network-contains}
 use Rattle.checker.proofs.Judged.{judged}
 use Rattle.checker.proofs.First.{breach-iff}
 use Rattle.solver.specs.Solve.{solve}
 use Rattle.rounds.proofs.Hyperarcs.{hyperarcs-agree}
 use Rattle.solver.proofs.Least.{solve-least, solve-none}
-use Rattle.opening.specs.Answers.{Reads}
-use Rattle.opening.specs.Demands.{Demands}
-use Rattle.opening.proofs.Promises.{reads-well-formed, solving-keeps, listing-keeps, bench-keeps}
-use Rattle.opening.proofs.InNumbers.{passes, breaches, refuses-13, solves-done, bench-passes, bench-breaches, bench-refuses-13, bench-solves}
-use Rattle.opening.proofs.Header.{header-judge, header-solver}
-use Rattle.opening.proofs.Numbers.{numbers}
+use Rattle.calls.specs.Answers.{Reads}
+use Rattle.calls.specs.Demands.{Demands}
+use Rattle.calls.proofs.Calls.{reads-well-formed}
+use Rattle.calls.proofs.Judging.{passes, breaches, bench-passes, bench-breaches}
+use Rattle.calls.proofs.Solving.{refuses-13, solves-done, bench-refuses-13, bench-solves}
+use Rattle.calls.proofs.Header.{header-judge, header-solver}
+use Rattle.calls.proofs.Numbers.{numbers}
 
 pub demands : Demands
 demands = record {
   numbers = numbers;
-  solving-keeps = solving-keeps;
-  listing-keeps = listing-keeps;
-  bench-keeps = bench-keeps;
   counted = λ sheet Γ r. rw (← r .network, r .accepted);
-  turned-away = λ sheet r f. rw (refused-iff sheet r .1 f);
   accepted = accepted-iff;
   contains = λ sheet Γ r l. rw (← r .network) (network-contains sheet l);
   at-fault = refused-iff;
+  lowest = fault-lowest;
   judged = λ sheet σ Γ r l. judged Γ σ l;
   breach-first = λ sheet σ Γ b r. breach-iff Γ σ b;
   agree = λ sheet σ Γ r. hyperarcs-agree Γ σ (reads-well-formed r);

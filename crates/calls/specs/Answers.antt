@@ -4,37 +4,26 @@ use mathlib.Core.Path.{_≡_}
 use mathlib.Core.Logic.{_⊎_, _↔_}
 use mathlib.Core.List.{List, [], _∷_}
 use Prim.Native.Nat.{ℕ, _≤_}
-use Rattle.refusal.specs.Refusal.{numberOf}
 use Rattle.refusal.specs.declared.Refusal.{Refusal}
 use Rattle.network.specs.declared.Network.{Network}
 use Rattle.sheet.specs.Reading.{read}
 use Rattle.sheet.specs.Fault.{Fault}
 use Rattle.sheet.specs.declared.Outcome.the-variants.{Accepted}
 use Rattle.sheet.specs.declared.Reading.{Reading}
-use Rattle.opening.specs.Values.{Values}
-use Rattle.opening.specs.Calls.{Left}
-use Rattle.opening.specs.declared.Written.the-variants as W
+use Rattle.calls.specs.Values.{Values, turnedAway}
+use Rattle.calls.specs.Calls.{writtenValues, Left}
 
 -- the sheet keeps every rule of its layout, and its network is Γ
 pub record Reads (sheet : List ℕ) (Γ : Network) : Type 0 where
   pub accepted : read sheet .outcome ≡ Accepted
   pub network : read sheet .network ≡ Γ
 
--- a call that refuses leaves the lent memory as it was
-pub record Keeps (l : Left) (m : List ℕ) : Type 0 where
-  pub kept : (x : Refusal) → l .answer ≡ W.Refused x → l .memory ≡ m
-
 -- a refusal of a call's own: its number, and its cause, said of the sheet's network
 pub record Own : Type 1 where
   pub number : ℕ
   pub cause : Network → Type 0
 
--- n is the number of the first whose cause holds, or 0 where none does
-abbrev pub Decided : List Own → Network → ℕ → Type 0
-Decided [] Γ n = n ≡ 0
-Decided (o ∷ os) Γ n = (o .cause Γ × (n ≡ o .number)) ⊎ ((o .cause Γ → ⊥) × Decided os Γ n)
-
--- so each number comes exactly where its cause holds, once no cause before it does
+-- each number comes exactly where its cause holds, once no cause before it does; 0 where none holds
 abbrev pub Exactly : List Own → Network → ℕ → Type 0
 Exactly [] Γ n = n ≡ 0
 Exactly (o ∷ os) Γ n = ((n ≡ o .number) ↔ o .cause Γ) × ((o .cause Γ → ⊥) → Exactly os Γ n)
@@ -44,15 +33,20 @@ abbrev pub OneOf : List Own → ℕ → Type 0
 OneOf [] n = ⊥
 OneOf (o ∷ os) n = (n ≡ o .number) ⊎ OneOf os n
 
--- of the values that a call with these refusals answers for the sheet
-pub record Answers (sheet : List ℕ) (own : List Own) {A : Type 0} (v : Values A) : Type 0 where
+-- of the values that a call with these refusals answers for the sheet, where `nothing` is what a refusal tells
+pub record Answers (sheet : List ℕ) (own : List Own) {A : Type 0} (nothing : A) (v : Values A) : Type 0 where
   -- 0, a number from 1 to 10, or one of the call's own
   pub numbers : (v .number ≤ 10) ⊎ OneOf own (v .number)
   -- a line from 1 on for 2 to 10; "Lines are 0 for refusals 1 and 11 to 13", and for those of document 02 that name
   -- none
   pub lines : (1 ≤ v .line) ↔ ((2 ≤ v .number) × (v .number ≤ 10))
   -- the fault of a sheet is the answer of every call
-  pub at-fault : (r : Refusal) → Fault sheet r → (v .number ≡ numberOf (r .cause)) × (v .line ≡ r .line)
-  -- of a sheet with none, the call's own refusals decide, with line 0
-  pub decided : (Γ : Network) → Reads sheet Γ → Decided own Γ (v .number) × (v .line ≡ 0)
+  pub at-fault : (r : Refusal) → Fault sheet r → v ≡ turnedAway nothing r
+  -- of a sheet with none, the call's own refusals decide
   pub exactly : (Γ : Network) → Reads sheet Γ → Exactly own Γ (v .number)
+  pub refusal-empty : (v .number ≡ 0 → ⊥) → v .value ≡ nothing
+
+-- of a call that writes into the memory m: it answers so, and "a refusal leaves each lent buffer unaltered"
+pub record Writes (sheet : List ℕ) (own : List Own) (l : Left) (m : List ℕ) : Type 0 where
+  pub answers : Answers sheet own 0 (writtenValues (l .answer))
+  pub keeps : (writtenValues (l .answer) .number ≡ 0 → ⊥) → l .memory ≡ m

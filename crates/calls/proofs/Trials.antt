@@ -22,8 +22,8 @@ use Rattle.solver.specs.Solve.{solve}
 use Rattle.dispatch.specs.Due.{due}
 use Rattle.dispatch.specs.declared.Heard.{Heard}
 use Rattle.listing.specs.Listing.{listing}
-use Rattle.opening.specs.Play.{eventsDue, dueValues}
-use Rattle.opening.specs.Table.{tableText}
+use Rattle.calls.specs.Play.{eventsDue, dueValues}
+use Rattle.calls.specs.Table.{tableText}
 
 -- lines of text, each with its line feed
 abbrev lines : List String → List ℕ

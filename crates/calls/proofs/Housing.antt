@@ -1,0 +1,89 @@
+-- What holds of the house form: where the rows fit it is written, by the call's definition; the rest is cited from the
+-- crates that prove it. Assumes nothing.
+use mathlib.Core.Path.{_≡_, refl, sym, _∙_, ap}
+use mathlib.Core.Logic.{_↔_}
+use mathlib.Core.Bool.{true}
+use mathlib.Core.List.{List, _++_}
+use Prim.Native.Nat.{ℕ, _≤_}
+use borrow.Author.Tests.{le-leb}
+use lib.Dec.{leb}
+use lib.ListN.{length, drop}
+use Rattle.network.specs.Limits as L
+use Rattle.network.specs.declared.Network.{Network}
+use Rattle.network.proofs.Least.{same-least, same-inconsistent}
+use Rattle.sheet.specs.Reading.{read}
+use Rattle.sheet.specs.declared.Outcome.the-variants.{Accepted}
+use Rattle.sheet.specs.declared.Reading.{Reading}
+use Rattle.tighten.specs.Tightest.{remainingOf}
+use Rattle.tighten.proofs.Regular.{rows-regular}
+use Rattle.tighten.proofs.Remains.{remaining-is, remaining-unique}
+use Rattle.canonical.specs.House.{houseText}
+use Rattle.canonical.specs.Same.{Same}
+use Rattle.canonical.proofs.Again.{form-accepted, form-again, form-few, form-tables}
+use Rattle.canonical.proofs.Forms.{forms-equal}
+use Rattle.calls.specs.Values.{Values, done}
+use Rattle.calls.specs.Calls.{writtenValues, Left, written, housed}
+use Rattle.calls.specs.Answers.{Reads}
+use Rattle.calls.specs.Housing.{Form, answer, SameTables, Housing}
+use Rattle.calls.specs.declared.Written.the-variants as W
+use Rattle.calls.proofs.Calls.{written-room, house-few, reads-well-formed}
+
+all-written : (sheet m f : List ℕ) (Γ : Network) → Form sheet Γ f → length f ≤ length m
+    → (answer sheet m ≡ done (length f)) × (housed sheet m .memory ≡ f ++ drop (length f) m)
+all-written sheet m f Γ form l =
+    let fits : leb (length (remainingOf Γ)) L.rules ≡ true → written (houseText sheet Γ) m ≡ housed sheet m =
+    rw (← form .reads .network) (house-few sheet (read sheet) refl (form .reads .accepted) m) in
+    let few = fits (le-leb (length (remainingOf Γ)) L.rules (form .few)) in
+    let left : housed sheet m ≡ record { answer = W.Count (length f); memory = f ++ drop (length f) m } =
+    sym few ∙ ap (λ (t : List ℕ). written t m) (sym (form .form)) ∙ written-room f m l in
+    (ap (λ (k : Left). writtenValues (k .answer)) left, ap (λ (k : Left). k .memory) left)
+
+-- a form by its sheet alone: the network and the bytes are told by it
+by-sheet {ℓ} : (P : List ℕ → Network → List ℕ → Type ℓ)
+    → ((sheet : List ℕ) → read sheet .outcome ≡ Accepted → length (remainingOf (read sheet .network)) ≤ L.rules
+    → P sheet (read sheet .network) (houseText sheet (read sheet .network)))
+    → (sheet f : List ℕ) (Γ : Network) → Form sheet Γ f → P sheet Γ f
+by-sheet P h sheet f Γ form =
+    let n = form .reads .network in
+    rw (form .form, ← n) (h sheet (form .reads .accepted) (rw (← n) at (form .few)))
+
+again : (sheet f : List ℕ) (Γ : Network) → Form sheet Γ f → (Δ : Network) × Form f Δ f
+again =
+    by-sheet (λ sheet Γ f. (Δ : Network) × Form f Δ f)
+    (λ sheet a few. (
+      _,
+      record {
+        reads = record { accepted = form-accepted sheet a few; network = refl };
+        few = form-few sheet a few;
+        form = sym (form-again sheet a few);
+      },
+    ))
+
+second-pass : (sheet f m : List ℕ) (Γ : Network) → Form sheet Γ f → length f ≤ length m
+    → (answer f m ≡ done (length f)) × (housed f m .memory ≡ f ++ drop (length f) m)
+second-pass sheet f m Γ form l = let own = again sheet f Γ form in all-written f m f (own .0) (own .1) l
+
+tables : (sheet f : List ℕ) (Γ Δ : Network) → Form sheet Γ f → Reads f Δ → SameTables Γ Δ
+tables sheet f Γ Δ form reads =
+    by-sheet (λ sheet Γ f. (Δ : Network) → read f .network ≡ Δ → SameTables Γ Δ)
+    (λ sheet a few Δ n. rw (← n) (let good = form-tables sheet a few in record { good = good; least = same-least good; none = same-inconsistent good }))
+    sheet f Γ form Δ (reads .network)
+
+equal : (sheet other f g : List ℕ) (Γ Δ : Network) → Form sheet Γ f → Form other Δ g → (f ≡ g) ↔ Same sheet Γ other Δ
+equal sheet other f g Γ Δ form form′ =
+    by-sheet (λ sheet Γ f. (f ≡ g) ↔ Same sheet Γ other Δ)
+    (λ sheet a few.
+    by-sheet (λ other Δ g. (houseText sheet (read sheet .network) ≡ g) ↔ Same sheet (read sheet .network) other Δ)
+    (λ other b few′. forms-equal sheet a few other b few′) other g Δ form′)
+    sheet f Γ form
+
+pub housing : Housing
+housing = record {
+  written = all-written;
+  rows = λ sheet Γ reads. remaining-is (rows-regular Γ (reads-well-formed reads));
+  rows-alone = λ sheet Γ rs reads is. remaining-unique (rows-regular Γ (reads-well-formed reads)) is;
+  again = again;
+  second-pass = second-pass;
+  tables = tables;
+  equal = equal;
+}
