@@ -5,11 +5,9 @@ use mathlib.Core.Bool.{true, false}
 use mathlib.Core.List.{List, _++_}
 use Prim.Native.Nat.{ℕ, _≤_, _<_}
 use borrow.Author.Tests.{le-leb, lt-leb, eq-eqb, ne-eqb}
-use lib.Dec.{leb}
 use lib.ListN.{length, drop}
 use Rattle.refusal.specs.declared.Cause.the-variants.{WrongTableLength, BufferTooShort, TooManyRows}
 use Rattle.fixpoint.specs.Run.{Run}
-use Rattle.network.specs.Limits as L
 use Rattle.network.specs.Build.{cells}
 use Rattle.network.specs.WellFormed.{WellFormed, Named}
 use Rattle.network.specs.declared.Network.{Network}
@@ -24,7 +22,7 @@ use Rattle.listing.specs.Listing.{listing}
 use Rattle.tighten.specs.Tightest.{remainingOf}
 use Rattle.canonical.specs.House.{houseText}
 use Rattle.calls.specs.Calls.{withoutLine, summaryFor, summary, judgementFor, judgement, Left, kept, written}
-use Rattle.calls.specs.Calls.{solvedFor, solvingFor, solving, listingFor, listed, houseFor, housed}
+use Rattle.calls.specs.Calls.{solvedFor, solvingFor, solving, listingFor, listed, fit, houseFor, housed}
 use Rattle.calls.specs.Answers.{Reads}
 use Rattle.calls.specs.declared.Judgement.the-variants as J
 use Rattle.calls.specs.declared.Written.the-variants as W
@@ -80,11 +78,11 @@ module _ (sheet : List ℕ) (g : Reading) (e : g ≡ read sheet) where
     listing-right t m sized = rw (eq-eqb (length t) (cells (g .network)) sized, listingFor) at (listed-of Accepted a t m)
 
     -- the rows that remain fit a sheet, or they do not
-    pub house-many : (m : List ℕ) → leb (length (remainingOf (g .network))) L.rules ≡ false
+    pub house-many : (m : List ℕ) → fit (remainingOf (g .network)) ≡ false
         → kept (W.Refused (withoutLine TooManyRows)) m ≡ housed sheet m
     house-many m h = rw (h, houseFor) at (house-of Accepted a m)
 
-    pub house-few : (m : List ℕ) → leb (length (remainingOf (g .network))) L.rules ≡ true
+    pub house-few : (m : List ℕ) → fit (remainingOf (g .network)) ≡ true
         → written (houseText sheet (g .network)) m ≡ housed sheet m
     house-few m h = rw (h, houseFor) at (house-of Accepted a m)
 

@@ -5,8 +5,6 @@ use mathlib.Core.Logic.{_↔_}
 use mathlib.Core.Bool.{true}
 use mathlib.Core.List.{List, _++_}
 use Prim.Native.Nat.{ℕ, _≤_}
-use borrow.Author.Tests.{le-leb}
-use lib.Dec.{leb}
 use lib.ListN.{length, drop}
 use Rattle.network.specs.Limits as L
 use Rattle.network.specs.declared.Network.{Network}
@@ -22,18 +20,19 @@ use Rattle.canonical.specs.Same.{Same}
 use Rattle.canonical.proofs.Again.{form-accepted, form-again, form-few, form-tables}
 use Rattle.canonical.proofs.Forms.{forms-equal}
 use Rattle.calls.specs.Values.{Values, done}
-use Rattle.calls.specs.Calls.{writtenValues, Left, written, housed}
+use Rattle.calls.specs.Calls.{writtenValues, Left, written, fit, housed}
 use Rattle.calls.specs.Answers.{Reads}
 use Rattle.calls.specs.Housing.{Form, answer, SameTables, Housing}
 use Rattle.calls.specs.declared.Written.the-variants as W
 use Rattle.calls.proofs.Calls.{written-room, house-few, reads-well-formed}
+use Rattle.calls.proofs.Fit.{few-fit}
 
 all-written : (sheet m f : List ℕ) (Γ : Network) → Form sheet Γ f → length f ≤ length m
     → (answer sheet m ≡ done (length f)) × (housed sheet m .memory ≡ f ++ drop (length f) m)
 all-written sheet m f Γ form l =
-    let fits : leb (length (remainingOf Γ)) L.rules ≡ true → written (houseText sheet Γ) m ≡ housed sheet m =
+    let fits : fit (remainingOf Γ) ≡ true → written (houseText sheet Γ) m ≡ housed sheet m =
     rw (← form .reads .network) (house-few sheet (read sheet) refl (form .reads .accepted) m) in
-    let few = fits (le-leb (length (remainingOf Γ)) L.rules (form .few)) in
+    let few = fits (few-fit (remainingOf Γ) (form .few)) in
     let left : housed sheet m ≡ record { answer = W.Count (length f); memory = f ++ drop (length f) m } =
     sym few ∙ ap (λ (t : List ℕ). written t m) (sym (form .form)) ∙ written-room f m l in
     (ap (λ (k : Left). writtenValues (k .answer)) left, ap (λ (k : Left). k .memory) left)

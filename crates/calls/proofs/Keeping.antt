@@ -9,7 +9,6 @@ use Rattle.pairs.specs.Pairs.{minutesOf}
 use Rattle.refusal.specs.declared.Cause.the-variants.{WrongTableLength, BufferTooShort, Inconsistent, TooManyRows}
 use Rattle.refusal.specs.declared.Refusal.{Refusal}
 use Rattle.fixpoint.specs.Run.{Run, End, Rests, Passes, Spent}
-use Rattle.network.specs.Limits as L
 use Rattle.network.specs.Build.{cells}
 use Rattle.network.specs.declared.Network.{Network}
 use Rattle.sheet.specs.Reading.{read}
@@ -21,7 +20,7 @@ use Rattle.listing.specs.Listing.{listing}
 use Rattle.tighten.specs.Tightest.{remainingOf}
 use Rattle.canonical.specs.House.{houseText}
 use Rattle.calls.specs.Values.{Values}
-use Rattle.calls.specs.Calls.{withoutLine, writtenValues, Left, kept, written, solvedFor, solvingFor, solving, listingFor, listed, houseFor, housed}
+use Rattle.calls.specs.Calls.{withoutLine, writtenValues, Left, kept, written, solvedFor, solvingFor, solving, listingFor, listed, fit, houseFor, housed}
 use Rattle.calls.specs.Bench.{pairsAfter, benchSolving}
 use Rattle.calls.specs.declared.Written.{Written}
 use Rattle.calls.specs.declared.Written.the-variants as W
@@ -73,7 +72,7 @@ module _ (sheet m : List ℕ) where
     where
       by-outcome : (o : Outcome) → Keeps m (houseFor sheet net o m)
       by-outcome Accepted =
-          either-keeps m (leb (length (remainingOf net)) L.rules) (written (houseText sheet net) m) (kept (W.Refused (withoutLine TooManyRows)) m)
+          either-keeps m (fit (remainingOf net)) (written (houseText sheet net) m) (kept (W.Refused (withoutLine TooManyRows)) m)
           (written-keeps (houseText sheet net) m) (kept-keeps (W.Refused (withoutLine TooManyRows)) m)
       by-outcome (Refused r) = kept-keeps (W.Refused r) m
 

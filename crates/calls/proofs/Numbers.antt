@@ -5,14 +5,12 @@ use mathlib.Core.Bool.{true}
 use mathlib.Core.List.{List, [], _∷_}
 use Prim.Native.Nat.{ℕ, _*_, _≤_, _<_}
 use native.Mathlib.Omega.{arith}
-use borrow.Author.Tests.{leb-true, leb-false, lt-leb}
-use lib.Dec.{leb}
+use borrow.Author.Tests.{lt-leb}
 use lib.ListN.{length}
 use Rattle.prelude.proofs.Tests.{either, eq-or-ne, lt-or-ge}
 use Rattle.pairs.specs.Pairs.{minutesOf}
 use Rattle.pairs.proofs.Packing.{length-minutesOf}
 use Rattle.refusal.specs.declared.Refusal.{Refusal}
-use Rattle.network.specs.Limits as L
 use Rattle.network.specs.Build.{cells}
 use Rattle.network.specs.declared.Network.{Network}
 use Rattle.sheet.specs.Reading.{read}
@@ -22,12 +20,13 @@ use Rattle.listing.specs.Listing.{listing}
 use Rattle.tighten.specs.Tightest.{remainingOf}
 use Rattle.canonical.specs.House.{houseText}
 use Rattle.calls.specs.Values.{Values, done, turnedAway, refusedAs}
-use Rattle.calls.specs.Calls.{summary, noCounts, summaryValues, judgement, writtenValues, Left, written, solving, listed, housed}
+use Rattle.calls.specs.Calls.{summary, noCounts, summaryValues, judgement, writtenValues, Left, written, solving, listed, fit, housed}
 use Rattle.calls.specs.Bench.{nothingSaid, judgementValues, benchJudgement, benchSolving}
 use Rattle.calls.specs.Play.{eventsDue, eventsDueOn, dueValues}
 use Rattle.calls.specs.Answers.{Own, Writes}
 use Rattle.calls.specs.Numbers.{tooShort, judges, solves, lists, houses, plays, playsOn, judgesBytes, solvesBytes, Numbers}
 use Rattle.calls.proofs.Calls.{written-room, listing-wrong, listing-right, house-many, house-few}
+use Rattle.calls.proofs.Fit.{fit-few, not-fit-many}
 use Rattle.calls.proofs.Settled.{areOwn, Settles, settles-as}
 use Rattle.calls.proofs.Answers.{answers-by}
 use Rattle.calls.proofs.Keeping.{solving-keeps, listing-keeps, house-keeps, bench-keeps}
@@ -70,15 +69,15 @@ module _ (sheet : List ℕ) (a : read sheet .outcome ≡ Accepted) where
 
   house-settles : (m : List ℕ) → Settles 0 (houses sheet m) net (answer-of (housed sheet m))
   house-settles m =
-      elim (either (leb (length (remainingOf net)) L.rules)) [
+      elim (either (fit (remainingOf net))) [
         | inl e ↦
             settles-as 0 (houses sheet m) net (sym (ap answer-of (house-few sheet (read sheet) refl a m e)))
             (inr (
-              λ n. omega (arith, n, leb-true (length (remainingOf net)) L.rules e),
+              λ n. omega (arith, n, fit-few (remainingOf net) e),
               text-settles (houseText sheet net) m (λ Γ. length (houseText sheet Γ)) net refl,
             ))
         | inr e ↦
-            inl (leb-false (length (remainingOf net)) L.rules e, sym (ap answer-of (house-many sheet (read sheet) refl a m e)))
+            inl (not-fit-many (remainingOf net) e, sym (ap answer-of (house-many sheet (read sheet) refl a m e)))
       ]
 
 -- a call that writes: its answer, and what it keeps

@@ -5,7 +5,7 @@ use mathlib.Core.Bool.{Bool, true, false}
 use mathlib.Core.List.{List, _++_}
 use Prim.Native.Nat.{ℕ, _≤_, _<_}
 use native.Mathlib.Omega.{arith}
-use borrow.Author.Tests.{lt-leb, le-leb, ne-eqb}
+use borrow.Author.Tests.{ne-eqb}
 use lib.ListN.{length, take, drop, replicate, length-replicate}
 use lib.Seq.{take-at}
 use Rattle.refusal.specs.Refusal.{numberOf}
@@ -37,6 +37,7 @@ use Rattle.calls.specs.declared.Written.{Written}
 use Rattle.calls.specs.declared.Written.the-variants as W
 use Rattle.calls.proofs.Calls.{written-room, listing-right, house-many, house-few}
 use Rattle.calls.proofs.Bytes.{cells-few}
+use Rattle.calls.proofs.Fit.{few-fit, many-do-not}
 use Rattle.calls.proofs.Solving.{solves-least, refuses-none}
 
 -- a call that wrote n, and one that refused
@@ -91,12 +92,12 @@ module _ (sheet : List ℕ) (a : read sheet .outcome ≡ Accepted) where
   many-on : (page : List ℕ) → L.rules < length (remainingOf net) → formOn page sheet ≡ refusedText (refusedAs 17)
   many-on page h =
       refused-on (housed sheet page) _ (λ t. t)
-      (sym (ap (λ (l : Left). l .answer) (house-many sheet (read sheet) refl a page (lt-leb (length (remainingOf net)) L.rules h))))
+      (sym (ap (λ (l : Left). l .answer) (house-many sheet (read sheet) refl a page (many-do-not (remainingOf net) h))))
 
   form-on : (page : List ℕ) → length (remainingOf net) ≤ L.rules → 4096 ≤ length page → formOn page sheet ≡ houseText sheet net
   form-on page few h =
       text-on (housed sheet page) (houseText sheet net) page
-      (house-few sheet (read sheet) refl a page (le-leb (length (remainingOf net)) L.rules few))
+      (house-few sheet (read sheet) refl a page (few-fit (remainingOf net) few))
       (omega (arith, form-short sheet a few))
 
 abbrev minutes : List ℕ

@@ -2,7 +2,7 @@
 -- The judge's verdict and The printed listing; 02, point 2). A refusal of the sheet itself comes first; then 17, 11,
 -- 12 and 13, whose line is 0.
 use mathlib.Core.Path.{_≡_}
-use mathlib.Core.Bool.{true, false}
+use mathlib.Core.Bool.{Bool, true, false}
 use mathlib.Core.List.{List, _++_}
 use Prim.Native.Nat.{ℕ}
 use lib.Dec.{eqb, leb}
@@ -16,6 +16,7 @@ use Rattle.refusal.specs.declared.Cause.the-variants.{WrongTableLength, BufferT
 use Rattle.fixpoint.specs.Run.{Run, End, Rests, Passes, Spent}
 use Rattle.network.specs.Limits as L
 use Rattle.network.specs.Build.{cells}
+use Rattle.network.specs.declared.Constraint.{Constraint}
 use Rattle.network.specs.declared.Network.{Network}
 use Rattle.sheet.specs.Reading.{read}
 use Rattle.sheet.specs.declared.Outcome.{Outcome}
@@ -133,9 +134,12 @@ abbrev pub listed : List ℕ → List ℕ → List ℕ → Left
 listed sheet t m = listingFor sheet (read sheet .network) (read sheet .outcome) t m
 
 -- writing the house form: "17, more than 64 rows would be left" (02, point 2), before 12
+abbrev pub fit : List Constraint → Bool
+fit rows = leb (length rows) L.rules
+
 abbrev pub houseFor : List ℕ → Network → Outcome → List ℕ → Left
 houseFor sheet Γ Accepted m =
-    elim (leb (length (remainingOf Γ)) L.rules) [
+    elim (fit (remainingOf Γ)) [
       | true ↦ written (houseText sheet Γ) m
       | false ↦ kept (W.Refused (withoutLine TooManyRows)) m
     ]

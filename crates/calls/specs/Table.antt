@@ -9,6 +9,8 @@ use lib.ListN.{take, replicate}
 use Rattle.prelude.specs.Bytes.{ascii}
 use Rattle.text.specs.Lines.{lineFeed}
 use Rattle.text.specs.Decimal.{decimal}
+use Rattle.network.specs.Limits as L
+use Rattle.sheet.specs.Reading.{longest}
 use Rattle.calls.specs.Values.{Values}
 use Rattle.calls.specs.Calls.{writtenValues, Left, solving, listed, housed}
 
@@ -34,7 +36,7 @@ formOn page sheet = orRefused (housed sheet page) (λ text. text)
 
 -- as the programs lend them
 abbrev pub tableText : List ℕ → List ℕ
-tableText sheet = tableOn (replicate 256 0) (replicate 2048 0) sheet
+tableText sheet = tableOn (replicate L.cells 0) (replicate 2048 0) sheet
 
 abbrev pub formText : List ℕ → List ℕ
-formText sheet = formOn (replicate 4096 0) sheet
+formText sheet = formOn (replicate longest 0) sheet

@@ -1,4 +1,5 @@
--- Point 3 and the hyperarcs agree, for any reaction times of at least 1 (004, Lemma 1 and Definition 16).
+-- Point 3 and the hyperarcs agree (004, Lemma 1 and Definition 16). The reaction is `network`'s, one minute; the
+-- argument uses of it only that it is at least 1.
 --
 -- From point 3 to the hyperarcs: either something that differs is known in s at the time of u, and its hyperarc asks
 -- no more than that, or nothing is, and the two times are equal. Back: let nothing that differs be known in s at the
