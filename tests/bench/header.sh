@@ -1,11 +1,11 @@
 #!/usr/bin/env bash
-# The functions of include/opening.h against crates/opening/specs/Header.antt, which says by hand what each shifts out of
+# The functions of include/opening.h against crates/calls/specs/Header.antt, which says by hand what each shifts out of
 # an answer: the same names, each with the same shift and width. Prints one line and exits with 0, or says what differs
 # and exits with 1.
 set -u
 cd "$(dirname "$0")/../.." || exit 2
 header=include/opening.h
-specification=crates/opening/specs/Header.antt
+specification=crates/calls/specs/Header.antt
 
 fail() {
   echo "header: $1"

@@ -21,9 +21,9 @@ use Rattle.solver.specs.Solve.{solve}
 use Rattle.listing.specs.Listing.{listing}
 use Rattle.tighten.specs.Tightest.{remainingOf}
 use Rattle.canonical.specs.House.{houseText}
-use Rattle.calls.specs.Calls.{withoutLine, summaryFor, summary, judgementFor, judgement, Left, kept, written}
+use Rattle.calls.specs.Calls.{withoutLine, summaryFor, summary, judgementFor, judgement, writtenValues, Left, kept, written}
 use Rattle.calls.specs.Calls.{solvedFor, solvingFor, solving, listingFor, listed, fit, houseFor, housed}
-use Rattle.calls.specs.Answers.{Reads}
+use Rattle.calls.specs.Answers.{Reads, Wrote}
 use Rattle.calls.specs.declared.Judgement.the-variants as J
 use Rattle.calls.specs.declared.Written.the-variants as W
 
@@ -31,6 +31,11 @@ use Rattle.calls.specs.declared.Written.the-variants as W
 pub written-room : (text m : List ℕ) → length text ≤ length m
     → written text m ≡ record { answer = W.Count (length text); memory = text ++ drop (length text) m }
 written-room text m h = rw (le-leb (length text) (length m) h, written)
+
+pub wrote-text : {l : Left} (text m : List ℕ) → written text m ≡ l → length text ≤ length m → Wrote text m l
+wrote-text text m e h =
+    let w = sym e ∙ written-room text m h in
+    record { answer = ap (λ (k : Left). writtenValues (k .answer)) w; memory = ap (λ (k : Left). k .memory) w }
 
 module _ (sheet : List ℕ) (g : Reading) (e : g ≡ read sheet) where
   pub well-formed : g .outcome ≡ Accepted → WellFormed (g .network) × Named sheet (g .network)

@@ -1,5 +1,7 @@
 -- The demands hold: each is cited from where it is proved. Assumes nothing.
+use mathlib.Core.Path.{refl}
 use Rattle.network.specs.declared.Network.{Network}
+use Rattle.sheet.specs.Reading.{read}
 use Rattle.sheet.proofs.Fault.{refused-iff, fault-lowest}
 use Rattle.layout.proofs.Accepted.{accepted-iff, network-contains}
 use Rattle.checker.proofs.Judged.{judged}
@@ -9,7 +11,7 @@ use Rattle.rounds.proofs.Hyperarcs.{hyperarcs-agree}
 use Rattle.solver.proofs.Least.{solve-least, solve-none}
 use Rattle.calls.specs.Answers.{Reads}
 use Rattle.calls.specs.Demands.{Demands}
-use Rattle.calls.proofs.Calls.{reads-well-formed}
+use Rattle.calls.proofs.Calls.{wrote-text, listing-right, reads-well-formed}
 use Rattle.calls.proofs.Judging.{passes, breaches, bench-passes, bench-breaches}
 use Rattle.calls.proofs.Solving.{refuses-13, solves-done, bench-refuses-13, bench-solves}
 use Rattle.calls.proofs.Header.{header-judge, header-solver}
@@ -35,6 +37,8 @@ demands = record {
   breaches = λ sheet t Γ b r. rw (← r .network) (breaches sheet (r .accepted) t b);
   refused = λ sheet m Γ r. rw (← r .network) (λ h. refuses-13 sheet (r .accepted) m h);
   solved = λ sheet m Γ r. rw (← r .network) (λ h. solves-done sheet (r .accepted) m h);
+  lists = λ sheet t m Γ r. rw (← r .network)
+      (λ sized room. wrote-text _ m (listing-right sheet (read sheet) refl (r .accepted) t m sized) room);
   bench-passes = λ sheet b Γ r. rw (← r .network) (bench-passes sheet (r .accepted) b);
   bench-breaches = λ sheet b Γ x r. rw (← r .network) (bench-breaches sheet (r .accepted) b x);
   bench-refused = λ sheet b Γ r. rw (← r .network) (bench-refuses-13 sheet (r .accepted) b);

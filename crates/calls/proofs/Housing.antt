@@ -3,9 +3,9 @@
 use mathlib.Core.Path.{_≡_, refl, sym, _∙_, ap}
 use mathlib.Core.Logic.{_↔_}
 use mathlib.Core.Bool.{true}
-use mathlib.Core.List.{List, _++_}
+use mathlib.Core.List.{List}
 use Prim.Native.Nat.{ℕ, _≤_}
-use lib.ListN.{length, drop}
+use lib.ListN.{length}
 use Rattle.network.specs.Limits as L
 use Rattle.network.specs.declared.Network.{Network}
 use Rattle.network.proofs.Least.{same-least, same-inconsistent}
@@ -19,23 +19,17 @@ use Rattle.canonical.specs.House.{houseText}
 use Rattle.canonical.specs.Same.{Same}
 use Rattle.canonical.proofs.Again.{form-accepted, form-again, form-few, form-tables}
 use Rattle.canonical.proofs.Forms.{forms-equal}
-use Rattle.calls.specs.Values.{Values, done}
-use Rattle.calls.specs.Calls.{writtenValues, Left, written, fit, housed}
-use Rattle.calls.specs.Answers.{Reads}
-use Rattle.calls.specs.Housing.{Form, answer, SameTables, Housing}
-use Rattle.calls.specs.declared.Written.the-variants as W
-use Rattle.calls.proofs.Calls.{written-room, house-few, reads-well-formed}
+use Rattle.calls.specs.Calls.{written, fit, housed}
+use Rattle.calls.specs.Answers.{Reads, Wrote}
+use Rattle.calls.specs.Housing.{Form, SameTables, Housing}
+use Rattle.calls.proofs.Calls.{wrote-text, house-few, reads-well-formed}
 use Rattle.calls.proofs.Fit.{few-fit}
 
-all-written : (sheet m f : List ℕ) (Γ : Network) → Form sheet Γ f → length f ≤ length m
-    → (answer sheet m ≡ done (length f)) × (housed sheet m .memory ≡ f ++ drop (length f) m)
+all-written : (sheet m f : List ℕ) (Γ : Network) → Form sheet Γ f → length f ≤ length m → Wrote f m (housed sheet m)
 all-written sheet m f Γ form l =
     let fits : fit (remainingOf Γ) ≡ true → written (houseText sheet Γ) m ≡ housed sheet m =
     rw (← form .reads .network) (house-few sheet (read sheet) refl (form .reads .accepted) m) in
-    let few = fits (few-fit (remainingOf Γ) (form .few)) in
-    let left : housed sheet m ≡ record { answer = W.Count (length f); memory = f ++ drop (length f) m } =
-    sym few ∙ ap (λ (t : List ℕ). written t m) (sym (form .form)) ∙ written-room f m l in
-    (ap (λ (k : Left). writtenValues (k .answer)) left, ap (λ (k : Left). k .memory) left)
+    wrote-text f m (ap (λ (t : List ℕ). written t m) (form .form) ∙ fits (few-fit (remainingOf Γ) (form .few))) l
 
 -- a form by its sheet alone: the network and the bytes are told by it
 by-sheet {ℓ} : (P : List ℕ → Network → List ℕ → Type ℓ)
@@ -59,7 +53,7 @@ again =
     ))
 
 second-pass : (sheet f m : List ℕ) (Γ : Network) → Form sheet Γ f → length f ≤ length m
-    → (answer f m ≡ done (length f)) × (housed f m .memory ≡ f ++ drop (length f) m)
+    → Wrote f m (housed f m)
 second-pass sheet f m Γ form l = let own = again sheet f Γ form in all-written f m f (own .0) (own .1) l
 
 tables : (sheet f : List ℕ) (Γ Δ : Network) → Form sheet Γ f → Reads f Δ → SameTables Γ Δ

@@ -11,8 +11,6 @@ use lib.ListN.{length}
 use Rattle.prelude.proofs.Tests.{eq-or-ne}
 use Rattle.pairs.specs.Pairs.{minutesOf}
 use Rattle.pairs.proofs.Packing.{length-minutesOf}
-use Rattle.refusal.specs.Refusal.{numberOf}
-use Rattle.refusal.specs.declared.Cause.{Cause}
 use Rattle.refusal.specs.declared.Cause.the-variants as C
 use Rattle.network.specs.Build.{cells}
 use Rattle.network.specs.Solution.{Solution}

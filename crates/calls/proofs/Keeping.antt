@@ -1,5 +1,5 @@
 -- What a call that refuses leaves in lent memory: what was there. Assumes nothing.
-use mathlib.Core.Path.{_≡_, refl, ap}
+use mathlib.Core.Path.{_≡_, refl}
 use mathlib.Core.Bool.{Bool, true, false}
 use mathlib.Core.List.{List, _++_}
 use Prim.Native.Nat.{ℕ}
@@ -7,7 +7,6 @@ use lib.Dec.{eqb, leb}
 use lib.ListN.{length, drop}
 use Rattle.pairs.specs.Pairs.{minutesOf}
 use Rattle.refusal.specs.declared.Cause.the-variants.{WrongTableLength, BufferTooShort, Inconsistent, TooManyRows}
-use Rattle.refusal.specs.declared.Refusal.{Refusal}
 use Rattle.fixpoint.specs.Run.{Run, End, Rests, Passes, Spent}
 use Rattle.network.specs.Build.{cells}
 use Rattle.network.specs.declared.Network.{Network}

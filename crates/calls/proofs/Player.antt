@@ -2,8 +2,7 @@
 -- Assumes nothing.
 use mathlib.Core.Path.{_≡_, refl, sym, _∙_, ap}
 use mathlib.Core.Logic.{inl, inr}
-use mathlib.Core.Bool.{Bool, true, false}
-use mathlib.Core.List.{List, [], _∷_}
+use mathlib.Core.List.{List}
 use Prim.Native.Nat.{ℕ, _<_}
 use native.Mathlib.Omega.{arith}
 use lib.ListN.{length}
@@ -29,7 +28,6 @@ use Rattle.dispatch.proofs.Mask.{due-said, due-on-misnamed}
 use Rattle.calls.specs.Values.{Values}
 use Rattle.calls.specs.Calls.{judgement}
 use Rattle.calls.specs.Play.{answerTo, playedFor, eventsDue, eventsDueOn, dueValues}
-use Rattle.calls.specs.Answers.{Own}
 use Rattle.calls.specs.Numbers.{playing, plays, playsOn}
 use Rattle.calls.specs.declared.Judgement.{Judgement}
 use Rattle.calls.specs.declared.Judgement.the-variants as J

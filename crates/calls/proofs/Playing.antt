@@ -32,7 +32,7 @@ use Rattle.dispatch.proofs.Answers.{due-history}
 use Rattle.dispatch.proofs.HistoryOf.{history-of}
 use Rattle.calls.specs.Answers.{Reads}
 use Rattle.calls.specs.Values.{Values}
-use Rattle.calls.specs.Play.{answerTo, playedFor, eventsDue, dueValues}
+use Rattle.calls.specs.Play.{answerTo, playedFor, eventsDue}
 use Rattle.calls.specs.Playing.{RowAt, answer, Plays, Playing}
 use Rattle.calls.specs.declared.Due.the-variants as D
 use Rattle.calls.specs.declared.Judgement.{Judgement}

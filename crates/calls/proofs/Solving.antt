@@ -1,7 +1,7 @@
 -- The solver's answer: with room it has written the least good table, or there is none and it refuses. Assumes nothing.
 use mathlib.Core.Path.{_≡_, refl, sym, _∙_, ap}
 use mathlib.Core.Logic.{_⊎_, inl, inr, _↔_}
-use mathlib.Core.List.{List, [], _∷_, _++_}
+use mathlib.Core.List.{List, _++_}
 use Prim.Native.Nat.{ℕ, _*_, _/_, _≤_}
 use native.Mathlib.Omega.{arith}
 use lib.ListN.{length, take, drop}
@@ -9,7 +9,7 @@ use lib.Seq.{take-at}
 use Rattle.prelude.proofs.Tests.{lt-or-ge}
 use Rattle.pairs.specs.Pairs.{minutesOf, bytesOf}
 use Rattle.pairs.proofs.Packing.{length-minutesOf}
-use Rattle.refusal.specs.declared.Cause.the-variants.{BufferTooShort, Inconsistent}
+use Rattle.refusal.specs.declared.Cause.the-variants.{Inconsistent}
 use Rattle.fixpoint.specs.Run.{Run, End, Rests, Passes, Spent}
 use Rattle.network.specs.Build.{cells}
 use Rattle.network.specs.Solution.{Solution}

@@ -2,15 +2,16 @@
 -- sheet's own refusal comes first, then those of the call, each where its cause holds and none before it does.
 use mathlib.Core.Path.{_≡_}
 use mathlib.Core.Logic.{_⊎_, _↔_}
-use mathlib.Core.List.{List, [], _∷_}
+use mathlib.Core.List.{List, [], _∷_, _++_}
 use Prim.Native.Nat.{ℕ, _≤_}
+use lib.ListN.{length, drop}
 use Rattle.refusal.specs.declared.Refusal.{Refusal}
 use Rattle.network.specs.declared.Network.{Network}
 use Rattle.sheet.specs.Reading.{read}
 use Rattle.sheet.specs.Fault.{Fault}
 use Rattle.sheet.specs.declared.Outcome.the-variants.{Accepted}
 use Rattle.sheet.specs.declared.Reading.{Reading}
-use Rattle.calls.specs.Values.{Values, turnedAway}
+use Rattle.calls.specs.Values.{Values, done, turnedAway}
 use Rattle.calls.specs.Calls.{writtenValues, Left}
 
 -- the sheet keeps every rule of its layout, and its network is Γ
@@ -50,3 +51,8 @@ pub record Answers (sheet : List ℕ) (own : List Own) {A : Type 0} (nothing : A
 pub record Writes (sheet : List ℕ) (own : List Own) (l : Left) (m : List ℕ) : Type 0 where
   pub answers : Answers sheet own 0 (writtenValues (l .answer))
   pub keeps : (writtenValues (l .answer) .number ≡ 0 → ⊥) → l .memory ≡ m
+
+-- it has written this text: "the written part has exactly its stated contents and everything behind it is unaltered"
+pub record Wrote (text m : List ℕ) (l : Left) : Type 0 where
+  pub answer : writtenValues (l .answer) ≡ done (length text)
+  pub memory : l .memory ≡ text ++ drop (length text) m

@@ -29,11 +29,12 @@ use Rattle.checker.specs.declared.Breach.{Breach}
 use Rattle.checker.specs.declared.Verdict.the-variants.{Pass, Breach as Breached}
 use Rattle.rounds.specs.Hyperarcs.{Dynamic, Hyperarcs}
 use Rattle.solver.specs.Solve.{solve}
+use Rattle.listing.specs.Listing.{listing}
 use Rattle.calls.specs.Values.{done, refusedAs}
-use Rattle.calls.specs.Calls.{countsOf, summary, summaryValues, judgement, writtenValues, Left, solving}
+use Rattle.calls.specs.Calls.{countsOf, summary, summaryValues, judgement, writtenValues, Left, solving, listed}
 use Rattle.calls.specs.Bench.{benchJudgement, benchSolving, passed, breachValues, judgementValues, packed, packedWritten}
 use Rattle.calls.specs.Header.{JudgeHolds, SolverHolds}
-use Rattle.calls.specs.Answers.{Reads}
+use Rattle.calls.specs.Answers.{Reads, Wrote}
 use Rattle.calls.specs.Numbers.{Numbers}
 
 pub record Demands : Type 0 where
@@ -75,6 +76,9 @@ pub record Demands : Type 0 where
   -- leaves everything behind it unaltered"
   pub solved : (sheet m : List ℕ) (Γ : Network) → Reads sheet Γ → cells Γ ≤ length m → (L.Inconsistent Γ → ⊥)
       → (σ : List ℕ) × Least Γ σ × (writtenValues (solving sheet m .answer) ≡ done (cells Γ)) × (solving sheet m .memory ≡ σ ++ drop (cells Γ) m)
+  -- of the listing's call, where there is room: the listing, and everything behind it unaltered
+  pub lists : (sheet t m : List ℕ) (Γ : Network) → Reads sheet Γ → length t ≡ cells Γ → length (listing sheet Γ t) ≤ length m
+      → Wrote (listing sheet Γ t) m (listed sheet t m)
   -- of the bench's calls: demands 2 and 3 on the minutes of the bytes
   pub bench-passes : (sheet b : List ℕ) (Γ : Network) → Reads sheet Γ
       → (judgementValues (benchJudgement sheet b) ≡ passed) ↔ ((length b ≡ 2 * cells Γ) × Solution Γ (minutesOf b))

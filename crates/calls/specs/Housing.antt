@@ -1,9 +1,9 @@
 -- What holds of the call that writes a sheet in its house form (02, point 2), for every sheet and lent buffer.
 use mathlib.Core.Path.{_≡_}
 use mathlib.Core.Logic.{_↔_}
-use mathlib.Core.List.{List, _++_}
+use mathlib.Core.List.{List}
 use Prim.Native.Nat.{ℕ, _≤_}
-use lib.ListN.{length, drop}
+use lib.ListN.{length}
 use Rattle.network.specs.Limits as L
 use Rattle.network.specs.Solution.{Solution}
 use Rattle.network.specs.Least.{Least, Inconsistent}
@@ -14,19 +14,14 @@ use Rattle.tighten.specs.Remaining.{Remaining}
 use Rattle.tighten.specs.Tightest.{remainingOf}
 use Rattle.canonical.specs.House.{houseText}
 use Rattle.canonical.specs.Same.{Same}
-use Rattle.calls.specs.Values.{Values, done}
-use Rattle.calls.specs.Calls.{writtenValues, Left, housed}
-use Rattle.calls.specs.Answers.{Reads}
+use Rattle.calls.specs.Calls.{housed}
+use Rattle.calls.specs.Answers.{Reads, Wrote}
 
 -- the sheet's network is Γ, no more rows remain of it than a sheet may have, and f is its form
 pub record Form (sheet : List ℕ) (Γ : Network) (f : List ℕ) : Type 0 where
   pub reads : Reads sheet Γ
   pub few : length (remainingOf Γ) ≤ L.rules
   pub form : f ≡ houseText sheet Γ
-
--- the answer's values, in a lent buffer m
-abbrev pub answer : List ℕ → List ℕ → Values ℕ
-answer sheet m = writtenValues (housed sheet m .answer)
 
 -- two networks have the same good tables: the same least one, or none
 pub record SameTables (Γ Δ : Network) : Type 0 where
@@ -38,7 +33,7 @@ pub record SameTables (Γ Δ : Network) : Type 0 where
 pub record Housing : Type 0 where
   -- where there is room the form is written, and everything behind it is unaltered
   pub written : (sheet m f : List ℕ) (Γ : Network) → Form sheet Γ f → length f ≤ length m
-      → (answer sheet m ≡ done (length f)) × (housed sheet m .memory ≡ f ++ drop (length f) m)
+      → Wrote f m (housed sheet m)
   -- the rows in it are those that remain of the sheet's, in document 02's words, and no other list is
   pub rows : (sheet : List ℕ) (Γ : Network) → Reads sheet Γ → Remaining (rowsOf Γ) (remainingOf Γ)
   pub rows-alone : (sheet : List ℕ) (Γ : Network) (rs : List Constraint) → Reads sheet Γ → Remaining (rowsOf Γ) rs → rs ≡ remainingOf Γ
@@ -46,7 +41,7 @@ pub record Housing : Type 0 where
   pub again : (sheet f : List ℕ) (Γ : Network) → Form sheet Γ f → (Δ : Network) × Form f Δ f
   -- "a second pass changes no byte": the call on the form writes the form
   pub second-pass : (sheet f m : List ℕ) (Γ : Network) → Form sheet Γ f → length f ≤ length m
-      → (answer f m ≡ done (length f)) × (housed f m .memory ≡ f ++ drop (length f) m)
+      → Wrote f m (housed f m)
   -- "The form reads back to the same good tables"
   pub tables : (sheet f : List ℕ) (Γ Δ : Network) → Form sheet Γ f → Reads f Δ → SameTables Γ Δ
   -- "Two sheets give equal bytes if and only if their horizons, event lists, signal lists and remaining rows are equal"
