@@ -1,6 +1,7 @@
 -- The halves of a constraint, each listed as one bound.
 use mathlib.Core.List.{List}
 use Prim.Native.Nat.{ℕ, _≤_, _<_}
+use Rattle.network.specs.Limits as L
 use Rattle.network.specs.WellFormed.{InLimits}
 use Rattle.network.specs.declared.Constraint.{Constraint}
 use Rattle.rows.specs.declared.Frame.{Frame}
@@ -8,8 +9,8 @@ use Rattle.bounds.specs.Listed.{Small, Added, upperWeight, lowerWeight}
 
 -- a constraint that can be listed
 pub record Listable (frame : Frame) (c : Constraint) : Type 0 where
-  pub scenarios-few : frame .scenarios ≤ 16
-  pub events-few : frame .events ≤ 16
+  pub scenarios-few : frame .scenarios ≤ L.cases
+  pub events-few : frame .events ≤ L.events
   pub from : c .from < frame .events
   pub to : c .to < frame .events
   pub bound : InLimits (c .bound)

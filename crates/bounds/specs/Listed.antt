@@ -23,6 +23,16 @@ upperWeight (negsuc w) = L.horizon + suc w
 abbrev pub lowerWeight : ℤ → ℕ
 lowerWeight w = upperWeight (negℤ w)
 
+-- at most two bounds of each rule for a scenario, three numbers for each bound, and the greatest weight
+abbrev pub most : ℕ
+most = 2 * L.rules
+
+abbrev pub room : ℕ
+room = L.cases * most * 3
+
+abbrev pub heaviest : ℕ
+heaviest = 2 * L.horizon
+
 -- what a bound asks of event u at the times of row, and 10,080
 abbrev pub asking : ℕ → ℕ → ℕ → List ℕ → ℕ → ℕ
 asking target source weight row u = cond (eqb target u) (getD row source 0 + weight) 0
@@ -41,7 +51,7 @@ module _ (lists : List ℕ) where
 abbrev pub listed : List ℕ → List ℕ → ℕ → List ℕ → ℕ → ℕ
 listed counts lists s row u =
     maxBelow (getD counts s 0)
-    (λ j. asking (target lists (s * 128 + j)) (source lists (s * 128 + j)) (weight lists (s * 128 + j)) row u)
+    (λ j. asking (target lists (s * most + j)) (source lists (s * most + j)) (weight lists (s * most + j)) row u)
 
 -- one bound more for scenario s
 unfoldable pub countAfter : List ℕ → ℕ → List ℕ
@@ -52,11 +62,11 @@ listAfter lists b target source weight = set (set (set lists (b * 3) target) (b 
 
 -- lists of bounds between n events
 pub record Lists (n : ℕ) (counts lists : List ℕ) : Type 0 where
-  pub counts-sized : length counts ≡ 16
-  pub lists-sized : length lists ≡ 6144
+  pub counts-sized : length counts ≡ L.cases
+  pub lists-sized : length lists ≡ room
   pub targets : (b : ℕ) → target lists b < n
   pub sources : (b : ℕ) → source lists b < n
-  pub weights : (b : ℕ) → weight lists b ≤ 20160
+  pub weights : (b : ℕ) → weight lists b ≤ heaviest
 
 -- each list has at most m bounds
 abbrev pub Short : ℕ → List ℕ → Type 0
@@ -64,21 +74,21 @@ Short m counts = (s : ℕ) → getD counts s 0 ≤ m
 
 -- a label's letters are among four
 pub record Small (ℓ : Label) : Type 0 where
-  pub positive : ℓ .positive < 16
-  pub negative : ℓ .negative < 16
+  pub positive : ℓ .positive < L.cases
+  pub negative : ℓ .negative < L.cases
 
 -- what may be listed
 pub record Bound (frame : Frame) (ℓ : Label) (target source weight : ℕ) : Type 0 where
-  pub scenarios : frame .scenarios ≤ 16
-  pub events : frame .events ≤ 16
+  pub scenarios : frame .scenarios ≤ L.cases
+  pub events : frame .events ≤ L.events
   pub label : Small ℓ
   pub target-in : target < frame .events
   pub source-in : source < frame .events
-  pub weight-in : weight ≤ 20160
+  pub weight-in : weight ≤ heaviest
 
 -- the bound is listed for those of the first c scenarios that satisfy the label
 pub record Added (ℓ : Label) (target source weight : ℕ) (counts lists counts′ lists′ : List ℕ) (c : ℕ) : Type 0 where
-  pub keeps : (n : ℕ) → target < n → source < n → weight ≤ 20160 → Lists n counts lists → Lists n counts′ lists′
+  pub keeps : (n : ℕ) → target < n → source < n → weight ≤ heaviest → Lists n counts lists → Lists n counts′ lists′
   pub grows : (s : ℕ) → getD counts′ s 0 ≤ getD counts s 0 + 1
   pub adds : (s : ℕ) → s < c → (row : List ℕ) (u : ℕ)
       → listed counts′ lists′ s row u ≡ max (listed counts lists s row u)

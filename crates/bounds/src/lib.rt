@@ -8,7 +8,8 @@ ghost use lib.ListN.{length, getD};
 ghost use Rattle.network.specs.Limits as L;
 ghost use Rattle.network.specs.WellFormed.{InLimits};
 ghost use Rattle.rows.specs.Rows.{Few, Row};
-ghost use Rattle.bounds.specs.Listed.{Lists, Short, Bound, Added, listed, upperWeight, lowerWeight, countAfter, listAfter};
+ghost use Rattle.bounds.specs.Listed.{most, room, Lists, Short, Bound, Added, listed};
+ghost use Rattle.bounds.specs.Listed.{upperWeight, lowerWeight, countAfter, listAfter};
 ghost use Rattle.bounds.specs.Halves.{Listable, UpperAdded, LowerAdded};
 use network::Constraint;
 use network::Label;
@@ -46,10 +47,10 @@ fn append(
     lists: &mut [u16; LIST],
 )
     requires { ⌜ (s < L.cases) × (target < L.events) × (source < L.events) × (length (now counts) ≡ L.cases)
-        × (length (now lists) ≡ 6144) × (getD (now counts) s 0 < 128) ⌝ }
+        × (length (now lists) ≡ room) × (getD (now counts) s 0 < most) ⌝ }
     ensures { λ _. ⌜ (now (counts .exit) ≡ countAfter (now (counts .entry)) s)
         × (now (lists .exit) ≡ listAfter (now (lists .entry))
-        (s * 128 + getD (now (counts .entry)) s 0) target source weight) ⌝ }
+        (s * most + getD (now (counts .entry)) s 0) target source weight) ⌝ }
 {
     let count = counts[s];
     let e = (s * BOUNDS + count) * 3;
@@ -70,7 +71,7 @@ fn list_bound(
     lists: &mut [u16; LIST],
 )
     requires { ⌜ Bound frame label target source weight × Lists (frame .events) (now counts) (now lists)
-        × Short 127 (now counts) ⌝ }
+        × Short (most - 1) (now counts) ⌝ }
     ensures { λ _. ⌜ Added label target source weight (now (counts .entry)) (now (lists .entry)) (now (counts .exit))
         (now (lists .exit)) (frame .scenarios) ⌝ }
 {
@@ -91,7 +92,7 @@ pub fn list_upper(
     counts: &mut [usize; Network::CASES],
     lists: &mut [u16; LIST],
 )
-    requires { ⌜ Listable frame c × Lists (frame .events) (now counts) (now lists) × Short 127 (now counts) ⌝ }
+    requires { ⌜ Listable frame c × Lists (frame .events) (now counts) (now lists) × Short (most - 1) (now counts) ⌝ }
     ensures { λ _. ⌜ UpperAdded frame c (now (counts .entry)) (now (lists .entry)) (now (counts .exit))
         (now (lists .exit)) ⌝ }
 {
@@ -107,7 +108,7 @@ pub fn list_lower(
     counts: &mut [usize; Network::CASES],
     lists: &mut [u16; LIST],
 )
-    requires { ⌜ Listable frame c × Lists (frame .events) (now counts) (now lists) × Short 127 (now counts) ⌝ }
+    requires { ⌜ Listable frame c × Lists (frame .events) (now counts) (now lists) × Short (most - 1) (now counts) ⌝ }
     ensures { λ _. ⌜ LowerAdded frame c (now (counts .entry)) (now (lists .entry)) (now (counts .exit))
         (now (lists .exit)) ⌝ }
 {
@@ -136,7 +137,7 @@ pub fn raise_by_bounds(
     row: &[u16; Network::EVENTS],
     o: &mut [u16; Network::EVENTS],
 )
-    requires { ⌜ (s < L.cases) × Lists L.events (now counts) (now lists) × Short 128 (now counts)
+    requires { ⌜ (s < L.cases) × Lists L.events (now counts) (now lists) × Short most (now counts)
         × Few L.horizon (now row) × (length (now o) ≡ L.events) × Few 32767 (now o) ⌝ }
     ensures { λ _. ⌜ Row (now (o .exit))
         (λ u. max (getD (now (o .entry)) u 0)

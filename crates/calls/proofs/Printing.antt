@@ -18,11 +18,12 @@ use Rattle.network.specs.Least.{Least, Inconsistent}
 use Rattle.network.specs.WellFormed.{WellFormed, Named}
 use Rattle.network.specs.declared.Network.{Network}
 use Rattle.network.proofs.Least.{least-unique}
-use Rattle.sheet.specs.Reading.{read}
+use Rattle.sheet.specs.Reading.{longest, read}
 use Rattle.sheet.specs.declared.Outcome.the-variants.{Accepted}
 use Rattle.sheet.proofs.Fault.{refused-iff}
 use Rattle.sheet.proofs.WellFormed.{accepted-well-formed}
 use Rattle.listing.specs.Listing.{listing}
+use Rattle.listing.specs.Most.{mostListing}
 use Rattle.listing.proofs.Short.{listing-short}
 use Rattle.tighten.specs.Tightest.{remainingOf}
 use Rattle.canonical.specs.House.{houseText}
@@ -65,7 +66,7 @@ module _ (sheet : List ℕ) (a : read sheet .outcome ≡ Accepted) where
   formed : WellFormed net × Named sheet net
   formed = accepted-well-formed sheet a
 
-  listed-on : (σ page : List ℕ) → Least net σ → 2048 ≤ length page → listingOn page sheet σ ≡ listing sheet net σ
+  listed-on : (σ page : List ℕ) → Least net σ → mostListing ≤ length page → listingOn page sheet σ ≡ listing sheet net σ
   listed-on σ page least h =
       let good = least .solves in
       let times : (s u : ℕ) → s < scenarios net → u < net .events → time (net .events) σ s u ≤ 65535 =
@@ -74,7 +75,7 @@ module _ (sheet : List ℕ) (a : read sheet .outcome ≡ Accepted) where
       text-on (listed sheet σ page) (listing sheet net σ) page (listing-right sheet (read sheet) refl a σ page (good .sized))
       (omega (arith, short))
 
-  table-on : (σ m page : List ℕ) → Least net σ → 256 ≤ length m → 2048 ≤ length page → tableOn m page sheet ≡ listing sheet net σ
+  table-on : (σ m page : List ℕ) → Least net σ → L.cells ≤ length m → mostListing ≤ length page → tableOn m page sheet ≡ listing sheet net σ
   table-on σ m page least h k =
       let room : cells net ≤ length m = omega (arith, cells-few (formed .0)) in
       let s = solves-least sheet a m room (λ i. i .none σ (least .solves)) in
@@ -85,7 +86,7 @@ module _ (sheet : List ℕ) (a : read sheet .outcome ≡ Accepted) where
       ∙ ap (listingOn page sheet) (front ∙ same)
       ∙ listed-on σ page least k
 
-  none-on : (m page : List ℕ) → Inconsistent net → 256 ≤ length m → tableOn m page sheet ≡ refusedText (refusedAs 13)
+  none-on : (m page : List ℕ) → Inconsistent net → L.cells ≤ length m → tableOn m page sheet ≡ refusedText (refusedAs 13)
   none-on m page i h =
       refused-on (solving sheet m) _ (listingOn page sheet) (refuses-none sheet a m (omega (arith, cells-few (formed .0))) i)
 
@@ -94,30 +95,30 @@ module _ (sheet : List ℕ) (a : read sheet .outcome ≡ Accepted) where
       refused-on (housed sheet page) _ (λ t. t)
       (sym (ap (λ (l : Left). l .answer) (house-many sheet (read sheet) refl a page (many-do-not (remainingOf net) h))))
 
-  form-on : (page : List ℕ) → length (remainingOf net) ≤ L.rules → 4096 ≤ length page → formOn page sheet ≡ houseText sheet net
+  form-on : (page : List ℕ) → length (remainingOf net) ≤ L.rules → longest ≤ length page → formOn page sheet ≡ houseText sheet net
   form-on page few h =
       text-on (housed sheet page) (houseText sheet net) page
       (house-few sheet (read sheet) refl a page (few-fit (remainingOf net) few))
       (omega (arith, form-short sheet a few))
 
 abbrev minutes : List ℕ
-minutes = replicate 256 0
+minutes = replicate L.cells 0
 
 abbrev page : ℕ → List ℕ
 page n = replicate n 0
 
 pub printing : Printing
 printing = record {
-  table-refused = λ sheet r f. let e = refused-iff sheet r .1 f in refused-on (solving sheet minutes) r (listingOn (page 2048) sheet) (rw e);
-  house-refused = λ sheet r f. let e = refused-iff sheet r .1 f in refused-on (housed sheet (page 4096)) r (λ t. t) (rw e);
-  none = λ sheet Γ r. rw (← r .network) (λ i. none-on sheet (r .accepted) minutes (page 2048) i (omega (arith, length-replicate {A = ℕ} 256 0)));
-  many = λ sheet Γ r. rw (← r .network) (many-on sheet (r .accepted) (page 4096));
+  table-refused = λ sheet r f. let e = refused-iff sheet r .1 f in refused-on (solving sheet minutes) r (listingOn (page mostListing) sheet) (rw e);
+  house-refused = λ sheet r f. let e = refused-iff sheet r .1 f in refused-on (housed sheet (page longest)) r (λ t. t) (rw e);
+  none = λ sheet Γ r. rw (← r .network) (λ i. none-on sheet (r .accepted) minutes (page mostListing) i (omega (arith, length-replicate {A = ℕ} L.cells 0)));
+  many = λ sheet Γ r. rw (← r .network) (many-on sheet (r .accepted) (page longest));
   table = λ sheet σ Γ r. rw (← r .network)
       (λ least.
-      table-on sheet (r .accepted) σ minutes (page 2048) least (omega (arith, length-replicate {A = ℕ} 256 0))
-      (omega (arith, length-replicate {A = ℕ} 2048 0)));
+      table-on sheet (r .accepted) σ minutes (page mostListing) least (omega (arith, length-replicate {A = ℕ} L.cells 0))
+      (omega (arith, length-replicate {A = ℕ} mostListing 0)));
   house = λ sheet f Γ form.
       let n = form .reads .network in
       rw (form .form, ← n)
-      (form-on sheet (form .reads .accepted) (page 4096) (rw (← n) at (form .few)) (omega (arith, length-replicate {A = ℕ} 4096 0)));
+      (form-on sheet (form .reads .accepted) (page longest) (rw (← n) at (form .few)) (omega (arith, length-replicate {A = ℕ} longest 0)));
 }

@@ -30,7 +30,7 @@ abbrev lines : List String → List ℕ
 lines [] = []
 lines (l ∷ ls) = ascii l ++ lineFeed ∷ lines ls
 
--- a trial: its number, the sheet's lines, and the lines that `table` prints
+-- a trial: the sheet's lines, and the lines that `table` prints
 record Trial : Type 0 where
   sheet : List String
   prints : List String

@@ -1,6 +1,6 @@
 -- The three demands, as statements about every sheet, table and lent buffer. They speak of the definitions that the
 -- calls' contracts are equations with: `summary`, `judgement`, `solving` and `listed` (Calls), `benchJudgement` and
--- `benchSolving` (Bench), and of their answers in the papers' numbers.
+-- `benchSolving` (Bench), in `Numbers` those of all calls, and of their answers in the papers' numbers.
 use mathlib.Core.Path.{_≡_}
 use mathlib.Core.Logic.{_↔_}
 use mathlib.Core.List.{List, _++_}
@@ -89,6 +89,6 @@ pub record Demands : Type 0 where
   pub bench-solved : (sheet b : List ℕ) (Γ : Network) → Reads sheet Γ → cells Γ ≤ length b / 2 → (L.Inconsistent Γ → ⊥)
       → (σ : List ℕ) × Least Γ σ × (writtenValues (benchSolving sheet b .answer) ≡ done (cells Γ))
       × (benchSolving sheet b .memory ≡ bytesOf σ ++ drop (2 * cells Γ) b)
-  -- and the functions of opening.h give back the values that were packed
+  -- and the header's functions, as `Header` has them, give back the values that were packed
   pub header-judge : (sheet b : List ℕ) → let v = judgementValues (benchJudgement sheet b) in JudgeHolds (packed v) v
   pub header-solver : (sheet b : List ℕ) → let w = benchSolving sheet b .answer in SolverHolds (packedWritten w) (writtenValues w)

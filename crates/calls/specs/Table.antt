@@ -11,6 +11,7 @@ use Rattle.text.specs.Lines.{lineFeed}
 use Rattle.text.specs.Decimal.{decimal}
 use Rattle.network.specs.Limits as L
 use Rattle.sheet.specs.Reading.{longest}
+use Rattle.listing.specs.Most.{mostListing}
 use Rattle.calls.specs.Values.{Values}
 use Rattle.calls.specs.Calls.{writtenValues, Left, solving, listed, housed}
 
@@ -36,7 +37,7 @@ formOn page sheet = orRefused (housed sheet page) (λ text. text)
 
 -- as the programs lend them
 abbrev pub tableText : List ℕ → List ℕ
-tableText sheet = tableOn (replicate L.cells 0) (replicate 2048 0) sheet
+tableText sheet = tableOn (replicate L.cells 0) (replicate mostListing 0) sheet
 
 abbrev pub formText : List ℕ → List ℕ
 formText sheet = formOn (replicate longest 0) sheet

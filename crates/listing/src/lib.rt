@@ -125,7 +125,7 @@ fn push_lines(page: &mut [u8], at: usize, table: &[u16], signals: usize, events:
 }
 
 // The longest listing: 149 bytes of names, and 101 for each of 16 scenarios.
-const LONGEST: usize = 1765;
+pub const LONGEST: usize = 1765;
 
 // The listing of any table of the network's size into out: how many bytes were written, or that out is too short for
 // them.

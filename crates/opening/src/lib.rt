@@ -23,7 +23,7 @@ pub mod bench;
 // sheet, also in its house form.
 pub const TABLE_MINUTES: usize = Network::CELLS;
 
-pub const LISTING_BYTES: usize = 2048;
+pub const LISTING_BYTES: usize = listing::LONGEST;
 
 pub const SHEET_BYTES: usize = sheet::LONGEST;
 

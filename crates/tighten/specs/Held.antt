@@ -2,7 +2,7 @@
 use mathlib.Core.Path.{_≡_}
 use mathlib.Core.Bool.{true}
 use mathlib.Core.List.{List, map, _++_}
-use Prim.Native.Nat.{ℕ}
+use Prim.Native.Nat.{ℕ, _*_}
 use lib.Dec.{leb}
 use lib.ListN.{length, take}
 use Rattle.network.specs.Limits as L
@@ -11,19 +11,23 @@ use Rattle.tighten.specs.Numbers as N
 use Rattle.tighten.specs.declared.Numbers.{Numbers}
 use Rattle.tighten.specs.declared.Rows.{Rows}
 
+-- a rule becomes at most two rows
+abbrev pub most : ℕ
+most = 2 * L.rules
+
 -- the first `count` elements of an array of so many are xs
 pub record Front {A : Type 0} (size : ℕ) (xs : List A) (count : ℕ) (array : List A) : Type 0 where
   pub counted : count ≡ length xs
   pub sized : length array ≡ size
   pub front : take count array ≡ xs
 
--- so many numbers were put behind the first `count` of an array of 128
+-- so many numbers were put behind the first `count` of an array of `most`
 pub record Added (before : List ℕ) (count : ℕ) (numbers after : List ℕ) (count′ : ℕ) : Type 0 where
-  pub front : (xs : List ℕ) → Front 128 xs count before → Front 128 (xs ++ numbers) count′ after
+  pub front : (xs : List ℕ) → Front most xs count before → Front most (xs ++ numbers) count′ after
 
 -- r holds the numbers of these rows
 pub record NumbersAre (rs : List Constraint) (r : Numbers) : Type 0 where
-  pub held : Front 128 (map N.numberOf rs) (r .count) (r .list)
+  pub held : Front most (map N.numberOf rs) (r .count) (r .list)
 
 -- r holds these rows, where they are no more than a sheet may have
 pub record RowsAre (rs : List Constraint) (r : Rows) : Type 0 where

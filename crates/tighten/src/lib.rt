@@ -9,7 +9,7 @@ ghost use Rattle.network.specs.WellFormed.{WellFormed};
 ghost use Rattle.tighten.specs.Upper.{upper, uppers, rowsOf};
 ghost use Rattle.tighten.specs.Tightest.{remainingOf};
 ghost use Rattle.tighten.specs.Numbers as N;
-ghost use Rattle.tighten.specs.Held.{Added, NumbersAre, RowsAre};
+ghost use Rattle.tighten.specs.Held.{most, Added, NumbersAre, RowsAre};
 use network::Constraint;
 use network::Kind;
 use network::Label;
@@ -60,7 +60,7 @@ fn row_of(number: u32) -> Constraint
 
 // One number more.
 fn add(list: &mut [u32; MOST], count: usize, number: u32) -> usize
-    requires { ⌜ (length (now list) ≡ 128) × (count < 128) ⌝ }
+    requires { ⌜ (length (now list) ≡ most) × (count < most) ⌝ }
     ensures { λ r. ⌜ Added (now (list .entry)) count (number ∷ []) (now (list .exit)) r ⌝ }
 {
     list[count] = number;
@@ -69,7 +69,7 @@ fn add(list: &mut [u32; MOST], count: usize, number: u32) -> usize
 
 // The numbers of a rule: "a `min` swaps its ends and negates its limit, and a `fix` becomes both".
 fn add_rule(list: &mut [u32; MOST], count: usize, rule: Constraint) -> usize
-    requires { ⌜ (length (now list) ≡ 128) × (count + 2 ≤ 128) × N.Numbered (rule .from) (rule .to) (rule .bound) (rule .label) ⌝ }
+    requires { ⌜ (length (now list) ≡ most) × (count + 2 ≤ most) × N.Numbered (rule .from) (rule .to) (rule .bound) (rule .label) ⌝ }
     ensures { λ r. ⌜ Added (now (list .entry)) count (map N.numberOf (uppers (rule .kind) rule)) (now (list .exit)) r ⌝ }
 {
     let kind = rule.kind;
@@ -104,7 +104,7 @@ const TOP: u32 = 2147483648;
 
 // The least of the first `count` numbers that is at least the floor, or TOP where there is none.
 fn least_from(list: &[u32; MOST], count: usize, floor: u32) -> u32
-    requires { ⌜ count ≤ 128 ⌝ }
+    requires { ⌜ count ≤ most ⌝ }
     ensures { λ r. ⌜ r ≡ N.leastBelow count (λ i. getD (now (list .entry)) i 0) floor ⌝ }
 {
     let mut least = TOP;
