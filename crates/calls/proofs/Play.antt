@@ -2,19 +2,19 @@
 -- an accepted sheet's signals are those of its layout (`lettered`), which is what the player asks for. Assumes
 -- nothing.
 use mathlib.Core.Path.{_≡_, refl, sym, _∙_, ap}
-use mathlib.Core.List.{List, map}
+use mathlib.Core.List.{List}
 use Prim.Native.Nat.{ℕ, _<_}
 use native.Mathlib.Omega.{arith}
-use lib.ListN.{length, length-map, List·getD-map}
+use lib.ListN.{length, length-map}
 use Rattle.refusal.specs.declared.Cause.the-variants.{WrongTableLength}
 use Rattle.refusal.specs.declared.Refusal.{Refusal}
 use Rattle.network.specs.Build.{cells}
-use Rattle.network.specs.declared.Network.{Network}
 use Rattle.sheet.specs.Reading.{read}
 use Rattle.sheet.specs.declared.Outcome.{Outcome}
 use Rattle.sheet.specs.declared.Outcome.the-variants.{Accepted, Refused}
 use Rattle.sheet.specs.declared.Reading.{Reading}
-use Rattle.layout.specs.Layout.{noSignal}
+use Rattle.layout.specs.Layout.{signalLetters}
+use Rattle.layout.proofs.Finds.{letter-is}
 use Rattle.layout.proofs.Accepted.{accepted-iff, network-contains}
 use Rattle.checker.specs.Verdict.{verdict}
 use Rattle.checker.specs.declared.Verdict.{Verdict}
@@ -33,18 +33,15 @@ pub lettered : (sheet : List ℕ) → read sheet .outcome ≡ Accepted → Lette
 lettered sheet a =
     let l = accepted-iff sheet .0 a in
     let xs = l .contents .signals in
-    let s = network-contains sheet l .signals in
-    let inside : (p : ℕ) → p < read sheet .network .signals → p < length xs = λ p h. omega (arith, s .count) in
-    let mapped : (p : ℕ) → p < length xs → p < length (map (λ x. x .letter) xs) = λ p h. omega (arith, length-map xs (λ x. x .letter)) in
+    let c = network-contains sheet l in
+    let inside : (p : ℕ) → p < read sheet .network .signals → p < length xs = λ p h. omega (arith, c .signals) in
+    let mapped : (p : ℕ) → p < length xs → p < length (signalLetters xs) =
+    λ p h. omega (arith, length-map xs (λ x. x .letter)) in
     record {
-      lower = λ p h. rw (s .letter p (inside p h)) (s .each .each p (inside p h) .letter);
+      lower = λ p h. rw (c .lettered p (inside p h)) (l .keeps .signals .each p (inside p h) .letter);
       once = λ p q h k e.
-          s .letters-once .once p q (mapped p (inside p h)) (mapped q (inside q k))
-          (List·getD-map (λ x. x .letter) xs p noSignal
-          ∙ sym (s .letter p (inside p h))
-          ∙ e
-          ∙ s .letter q (inside q k)
-          ∙ sym (List·getD-map (λ x. x .letter) xs q noSignal));
+          l .keeps .letters-once .once p q (mapped p (inside p h)) (mapped q (inside q k))
+          (sym (letter-is c p (inside p h)) ∙ e ∙ letter-is c q (inside q k));
     }
 
 -- by the mask of a list is by the list

@@ -12,8 +12,8 @@ use Rattle.prelude.proofs.Mapped.{getD-map}
 use Rattle.network.specs.Build.{nameOf, observation, constraint, noConstraint}
 use Rattle.network.specs.declared.Constraint.{Constraint}
 use Rattle.network.specs.declared.Network.{Network}
-use Rattle.layout.specs.Layout.{noSignal, noRule}
-use Rattle.layout.specs.Contains.{lettersOf, Bears, Means, Contains}
+use Rattle.layout.specs.Layout.{noSignal, noRule, signalLetters}
+use Rattle.layout.specs.Contains.{Bears, Means, Contains}
 use Rattle.tighten.specs.Upper.{rowsOf}
 use Rattle.tighten.specs.Tightest.{remainingOf}
 use Rattle.tighten.proofs.Rules.{rows-max}
@@ -43,7 +43,7 @@ module _ {sheet : List ℕ} {Γ : Network} (t : Faithful sheet Γ) where
         let to = place-back (r .to) (c .to) (w .proper .to) (m .to) in
         let label =
         m .label
-        ∙ mask-literals Γ (r .label) (length xs) (lettersOf xs) s (w .apart) (omega (arith, w .proper .positive))
+        ∙ mask-literals Γ (r .label) (length xs) (signalLetters xs) s (w .apart) (omega (arith, w .proper .positive))
         (omega (arith, w .proper .negative)) in
         λ i. record {
           kind = (m .kind ∙ sym (w .kind)) i;
@@ -58,11 +58,11 @@ module _ {sheet : List ℕ} {Γ : Network} (t : Faithful sheet Γ) where
         let inside : i < length (map (asRule sheet Γ) (remainingOf Γ)) = omega (arith, length-map (remainingOf Γ) (asRule sheet Γ)) in
         let r = getD (remainingOf Γ) i noConstraint in
         means-back r (constraint Δ i) (remaining-rows t .each i l)
-        (rw (getD-map (asRule sheet Γ) noConstraint noRule (remainingOf Γ) i l) at (h .rules .means i inside))
+        (rw (getD-map (asRule sheet Γ) noConstraint noRule (remainingOf Γ) i l) at (h .means i inside))
 
     pub rows-back : rowsOf Δ ≡ remainingOf Γ
     rows-back =
-        let count : Δ .rules ≡ length (remainingOf Γ) = h .rules .count ∙ length-map (remainingOf Γ) (asRule sheet Γ) in
+        let count : Δ .rules ≡ length (remainingOf Γ) = h .rules ∙ length-map (remainingOf Γ) (asRule sheet Γ) in
         rows-max Δ (Δ .rules) (λ i l.
         let inside : i < length (remainingOf Γ) = omega arith in
         ap (λ (c : Constraint). c .kind) (row-back i inside) ∙ remaining-rows t .each i inside .kind)
@@ -71,10 +71,10 @@ module _ {sheet : List ℕ} {Γ : Network} (t : Faithful sheet Γ) where
     pub agrees-back : Agree Γ Δ
     agrees-back = record {
       horizon = sym (h .horizon);
-      events = sym (h .names .count ∙ length-tabulate (nameOf Γ sheet) (Γ .events));
-      signals = sym (h .signals .count ∙ length-tabulate (signalAt sheet Γ) (Γ .signals));
+      events = sym (h .events ∙ length-tabulate (nameOf Γ sheet) (Γ .events));
+      signals = sym (h .signals ∙ length-tabulate (signalAt sheet Γ) (Γ .signals));
       observations = λ p l.
           let all = length-tabulate (signalAt sheet Γ) (Γ .signals) in
           sym (place-back (observation Γ p) (observation Δ p) (t .formed .observed p l)
-          (rw (getD-tabulate (signalAt sheet Γ) (Γ .signals) p noSignal l) at (h .signals .event p (omega arith))));
+          (rw (getD-tabulate (signalAt sheet Γ) (Γ .signals) p noSignal l) at (h .observed p (omega arith))));
     }

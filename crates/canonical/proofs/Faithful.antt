@@ -5,21 +5,21 @@ use mathlib.Core.Path.{_≡_, sym, _∙_}
 use mathlib.Core.List.{List, []}
 use Prim.Native.Nat.{ℕ, _<_}
 use native.Mathlib.Omega.{arith}
-use lib.ListN.{length, getD, length-map, List·getD-map}
+use lib.ListN.{length, getD, length-map}
 use Rattle.prelude.specs.Lists.{Each}
 use Rattle.prelude.proofs.Lists.{test-of-distinct, tabulate-is}
 use Rattle.network.specs.Build.{nameOf, observation, constraint, noConstraint}
 use Rattle.network.specs.WellFormed.{WellFormed}
 use Rattle.network.specs.declared.Network.{Network}
-use Rattle.names.specs.Names.{lettersOf as lettersRead}
+use Rattle.names.specs.Names.{lettersOf}
 use Rattle.names.specs.Defined.{maskOf}
 use Rattle.names.proofs.Apart.{Apart, mask-apart}
 use Rattle.sheet.specs.Reading.{read}
 use Rattle.sheet.specs.declared.Outcome.the-variants.{Accepted}
 use Rattle.sheet.proofs.WellFormed.{accepted-well-formed}
-use Rattle.layout.specs.Layout.{Signal, Contents, Keeps, noSignal, noRule}
-use Rattle.layout.specs.Contains.{lettersOf, Contains}
-use Rattle.layout.proofs.Finds.{mask-is}
+use Rattle.layout.specs.Layout.{Signal, Contents, Keeps, noSignal, noRule, signalLetters}
+use Rattle.layout.specs.Contains.{Contains}
+use Rattle.layout.proofs.Finds.{letter-is, mask-is}
 use Rattle.layout.proofs.KindWords.{defined-passes}
 use Rattle.layout.proofs.Accepted.{accepted-iff, network-contains}
 use Rattle.tighten.specs.Upper.{rowsOf}
@@ -46,45 +46,43 @@ faithful sheet a =
 
 module _ {sheet : List ℕ} {Γ : Network} {c : Contents} (h : Contains sheet Γ c) where
   pub names-held : namesOf sheet Γ ≡ c .names
-  names-held = tabulate-is (nameOf Γ sheet) [] (Γ .events) (c .names) (h .names .count) (h .names .named)
+  names-held = tabulate-is (nameOf Γ sheet) [] (Γ .events) (c .names) (h .events) (h .named)
 
   signal-held : (p : ℕ) → p < length (c .signals) → signalAt sheet Γ p ≡ getD (c .signals) p noSignal
   signal-held p l =
-      let e = h .signals .event p l in
+      let e = h .observed p l in
       let name : nameOf Γ sheet (observation Γ p) ≡ getD (c .signals) p noSignal .event =
-      h .names .named (observation Γ p) (e .defined) ∙ e .name in
-      λ i. record { letter = h .signals .letter p l i; event = name i }
+      h .named (observation Γ p) (e .defined) ∙ e .name in
+      λ i. record { letter = h .lettered p l i; event = name i }
 
   pub signals-held : signalsOf sheet Γ ≡ c .signals
-  signals-held = tabulate-is (signalAt sheet Γ) noSignal (Γ .signals) (c .signals) (h .signals .count) signal-held
+  signals-held = tabulate-is (signalAt sheet Γ) noSignal (Γ .signals) (c .signals) (h .signals) signal-held
 
 module _ {sheet : List ℕ} {Γ : Network} (t : Faithful sheet Γ) where
   abbrev xs : List Signal
   xs = t .contents .signals
 
-  pub letters-held : LettersAre Γ (length (signalsOf sheet Γ)) (lettersOf (signalsOf sheet Γ))
+  pub letters-held : LettersAre Γ (length (signalsOf sheet Γ)) (signalLetters (signalsOf sheet Γ))
   letters-held =
-      let s = t .held .signals in
       rw (signals-held (t .held)) (record {
-        count = s .count;
+        count = t .held .signals;
         sized = length-map xs (λ x. x .letter);
         few = t .keeps .few-signals;
-        are = λ p h. s .letter p h ∙ sym (List·getD-map (λ x. x .letter) xs p noSignal);
-        once = s .letters-once;
+        are = letter-is (t .held);
+        once = t .keeps .letters-once;
       })
 
   -- a rule's label was read from distinct letters
   label-apart : (i : ℕ) → i < Γ .rules → Apart (constraint Γ i .label)
   label-apart i h =
-      let s = t .held .signals in
-      let r = t .held .rules in
-      let l : i < length (t .contents .rules) = omega (arith, r .count) in
+      let l : i < length (t .contents .rules) = omega (arith, t .held .rules) in
       let ls = getD (t .contents .rules) i noRule .label in
-      let keeps = r .each .each i l in
-      let is : constraint Γ i .label ≡ maskOf (Γ .signals) (Γ .letters) ls = r .means i l .label ∙ sym (mask-is s ls) in
+      let keeps = t .keeps .rules .each i l in
+      let is : constraint Γ i .label ≡ maskOf (Γ .signals) (Γ .letters) ls =
+      t .held .means i l .label ∙ sym (mask-is (t .held) ls) in
       rw is (mask-apart (Γ .signals) (Γ .letters) ls (t .formed .signals)
-      (defined-passes s (lettersRead ls) (keeps .known))
-      (test-of-distinct (lettersRead ls) (keeps .once)))
+      (defined-passes (t .held) (lettersOf ls) (keeps .known))
+      (test-of-distinct (lettersOf ls) (keeps .once)))
 
   pub rows-apart : Each (λ r. Apart (r .label)) (rowsOf Γ) noConstraint
   rows-apart =

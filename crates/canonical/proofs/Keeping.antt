@@ -18,8 +18,7 @@ use Rattle.network.specs.declared.Kind.the-variants.{Max}
 use Rattle.network.specs.declared.Constraint.{Constraint}
 use Rattle.network.specs.declared.Network.{Network}
 use Rattle.names.proofs.Apart.{Apart}
-use Rattle.layout.specs.Layout.{KeepsRule, Keeps, noRule}
-use Rattle.layout.specs.Contains.{lettersOf}
+use Rattle.layout.specs.Layout.{KeepsRule, Keeps, noRule, signalLetters}
 use Rattle.tighten.specs.Tightest.{remainingOf}
 use Rattle.tighten.proofs.Regular.{rows-regular}
 use Rattle.tighten.proofs.Remains.{remaining-each, remaining-regular, remaining-proper}
@@ -52,15 +51,16 @@ module _ {sheet : List ℕ} {Γ : Network} (t : Faithful sheet Γ) where
     is = getD-tabulate (nameOf Γ sheet) (Γ .events) u [] h;
   }
 
-  rule-keeps : (r : Constraint) → Row Γ r → KeepsRule (namesOf sheet Γ) (lettersOf (signalsOf sheet Γ)) (asRule sheet Γ r)
+  rule-keeps : (r : Constraint) → Row Γ r
+      → KeepsRule (namesOf sheet Γ) (signalLetters (signalsOf sheet Γ)) (asRule sheet Γ r)
   rule-keeps r w =
       let xs = signalsOf sheet Γ in
       record {
         from = name-in (r .from) (w .proper .from);
         to = name-in (r .to) (w .proper .to);
         limit = w .proper .bound;
-        known = letters-known Γ (r .label) (length xs) (lettersOf xs) (letters-held t);
-        once = letters-once Γ (r .label) (length xs) (lettersOf xs) (letters-held t);
+        known = letters-known Γ (r .label) (length xs) (signalLetters xs) (letters-held t);
+        once = letters-once Γ (r .label) (length xs) (signalLetters xs) (letters-held t);
       }
 
   -- a label has no more letters than there are signals
@@ -86,6 +86,6 @@ module _ {sheet : List ℕ} {Γ : Network} (t : Faithful sheet Γ) where
         events-once = rw signals (k .events-once);
         few-rules = omega (arith, length-map (remainingOf Γ) (asRule sheet Γ));
         rules =
-            each-map (asRule sheet Γ) (KeepsRule (namesOf sheet Γ) (lettersOf (signalsOf sheet Γ))) noConstraint noRule (remainingOf Γ)
-            (each-mono rule-keeps remaining-rows);
+            each-map (asRule sheet Γ) (KeepsRule (namesOf sheet Γ) (signalLetters (signalsOf sheet Γ)))
+            noConstraint noRule (remainingOf Γ) (each-mono rule-keeps remaining-rows);
       }

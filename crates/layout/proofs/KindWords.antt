@@ -11,18 +11,29 @@ use Rattle.prelude.proofs.Bytes.{same-true}
 use Rattle.prelude.proofs.Tests.{either}
 use Rattle.network.specs.declared.Kind.{Kind}
 use Rattle.network.specs.declared.Kind.the-variants.{Max, Min, Fix}
-use Rattle.names.specs.Names.{isLetter}
+use Rattle.network.specs.declared.Network.{Network}
 use Rattle.names.specs.Defined.{placeOf, allDefined}
 use Rattle.names.proofs.Labels.{allDefined-every}
 use Rattle.line.specs.Rows.{kindOf}
 use Rattle.prelude.specs.Lists.{In, Each}
-use Rattle.layout.specs.Layout.{Signal, kindText}
+use Rattle.layout.specs.Layout.{Contents, signalLetters, kindText}
+use Rattle.layout.specs.Contains.{Contains}
 use Rattle.layout.proofs.Lines.{plain}
 use Rattle.prelude.proofs.Lists.{each-mono, each-of-every, every-of-each}
-use Rattle.layout.specs.Contains.{lettersOf, SignalsAre}
-use Rattle.layout.proofs.Finds.{letter-in, letter-answers, letter-is}
+use Rattle.layout.proofs.Finds.{letter-in, letter-answers}
 
--- a field is a kind exactly where it is its word
+-- a kind's word is read as that kind
+pub kind-is : (k : Kind) → Option·getD (kindOf (kindText k)) Max ≡ k
+kind-is Max = refl
+kind-is Min = refl
+kind-is Fix = refl
+
+pub kind-passes : (k : Kind) → answers (kindOf (kindText k)) ≡ true
+kind-passes Max = refl
+kind-passes Min = refl
+kind-passes Fix = refl
+
+-- and a field that is read as a kind is a kind's word
 pub kind-read : (f : List ℕ) → answers (kindOf f) ≡ true → (k : Kind) × (f ≡ kindText k)
 kind-read f e =
     elim (either (same f (ascii "max"))) [
@@ -37,33 +48,23 @@ kind-read f e =
     fix true e = refl
     fix false e = e
 
-pub kind-passes : (k : Kind) → answers (kindOf (kindText k)) ≡ true
-kind-passes Max = refl
-kind-passes Min = refl
-kind-passes Fix = refl
-
-pub kind-is : (k : Kind) → Option·getD (kindOf (kindText k)) Max ≡ k
-kind-is Max = refl
-kind-is Min = refl
-kind-is Fix = refl
-
 pub plain-kind : (k : Kind) → every plain (kindText k) ≡ true
 plain-kind Max = refl
 plain-kind Min = refl
 plain-kind Fix = refl
 
 -- letters are defined exactly where each is that of a signal
-module _ {k : ℕ} {letters observations : List ℕ} {names : List (List ℕ)} {xs : List Signal}
-    (s : SignalsAre k letters observations names xs) (bs : List ℕ) where
-  pub defined-read : allDefined k letters bs ≡ true → Each (λ b. In b (lettersOf xs) 0) bs 0
+module _ {sheet : List ℕ} {Γ : Network} {c : Contents} (s : Contains sheet Γ c) (bs : List ℕ) where
+  pub defined-read : allDefined (Γ .signals) (Γ .letters) bs ≡ true
+      → Each (λ b. In b (signalLetters (c .signals)) 0) bs 0
   defined-read e =
       each-mono (λ b h. letter-in s b h)
-      (each-of-every (λ b. answers (placeOf k letters b)) bs (sym (allDefined-every k letters bs) ∙ e))
+      (each-of-every (λ b. answers (placeOf (Γ .signals) (Γ .letters) b)) bs
+      (sym (allDefined-every (Γ .signals) (Γ .letters) bs) ∙ e))
 
-  pub defined-passes : Each (λ b. In b (lettersOf xs) 0) bs 0 → allDefined k letters bs ≡ true
+  pub defined-passes : Each (λ b. In b (signalLetters (c .signals)) 0) bs 0
+      → allDefined (Γ .signals) (Γ .letters) bs ≡ true
   defined-passes e =
-      allDefined-every k letters bs
-      ∙ every-of-each (λ b. answers (placeOf k letters b)) bs (each-mono (λ b h. letter-answers s b h) e)
-
-  pub letters-are : Each (λ b. In b (lettersOf xs) 0) bs 0 → every isLetter bs ≡ true
-  letters-are e = every-of-each isLetter bs (each-mono (λ b h. letter-is s b h) e)
+      allDefined-every (Γ .signals) (Γ .letters) bs
+      ∙ every-of-each (λ b. answers (placeOf (Γ .signals) (Γ .letters) b)) bs
+      (each-mono (λ b h. letter-answers s b h) e)

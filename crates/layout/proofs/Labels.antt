@@ -20,24 +20,6 @@ use Rattle.layout.proofs.Plain.{plain-letter}
 no-bang : (b : ℕ) → isLetter b ≡ true → eqb b 33 ≡ false
 no-bang b e = let p = letter-bounds b e in ne-eqb b 33 (λ z. omega arith)
 
--- what is read is written as it was; a `!` just read still stands before it
-literalsText-literals : (bang : Bool) (s : List ℕ) → areLiterals bang s ≡ true
-    → (literalsText (literals bang s) ≡ signText (not bang) ++ s) × (every isLetter (lettersOf (literals bang s)) ≡ true)
-literalsText-literals true [] e = clash false e refl
-literalsText-literals false [] e = (refl, refl)
-literalsText-literals bang (b ∷ s) e =
-    elim (either (eqb b 33)) [
-      | inl p ↦
-          let q = and-true (not bang) (areLiterals true s) (rw (p, areLiterals) at e) in
-          let r = literalsText-literals true s (q .1) in
-          (rw (p, literals, not-true bang (q .0), r .0) (ap (λ (x : ℕ). x ∷ s) (sym (eqb-true b 33 p))), rw (p, literals) (r .1))
-      | inr p ↦
-          let q = and-true (isLetter b) (areLiterals false s) (rw (p, areLiterals) at e) in
-          let r = literalsText-literals false s (q .1) in
-          let ls = lettersOf (literals false s) in
-          (rw (p, literals, r .0), rw (p, literals) (and-both (isLetter b) (every isLetter ls) (q .0) (r .1)))
-    ]
-
 -- what is written is read as it was
 literals-sign : (b : ℕ) (v : Bool) (s : List ℕ) → isLetter b ≡ true
     → literals false (signText v ++ b ∷ s) ≡ record { letter = b; value = v } ∷ literals false s
@@ -75,6 +57,24 @@ plain-literalsText : (ls : List Literal) → every isLetter (lettersOf ls) ≡ t
 plain-literalsText [] e = refl
 plain-literalsText (l ∷ ls) e =
     plain-sign (l .letter) (l .value) (literalsText ls) (first-is l ls e) (plain-literalsText ls (others-are l ls e))
+
+-- what is read is written as it was; a `!` just read still stands before it
+literalsText-literals : (bang : Bool) (s : List ℕ) → areLiterals bang s ≡ true
+    → (literalsText (literals bang s) ≡ signText (not bang) ++ s) × (every isLetter (lettersOf (literals bang s)) ≡ true)
+literalsText-literals true [] e = clash false e refl
+literalsText-literals false [] e = (refl, refl)
+literalsText-literals bang (b ∷ s) e =
+    elim (either (eqb b 33)) [
+      | inl p ↦
+          let q = and-true (not bang) (areLiterals true s) (rw (p, areLiterals) at e) in
+          let r = literalsText-literals true s (q .1) in
+          (rw (p, literals, not-true bang (q .0), r .0) (ap (λ (x : ℕ). x ∷ s) (sym (eqb-true b 33 p))), rw (p, literals) (r .1))
+      | inr p ↦
+          let q = and-true (isLetter b) (areLiterals false s) (rw (p, areLiterals) at e) in
+          let r = literalsText-literals false s (q .1) in
+          let ls = lettersOf (literals false s) in
+          (rw (p, literals, r .0), rw (p, literals) (and-both (isLetter b) (every isLetter ls) (q .0) (r .1)))
+    ]
 
 -- `-` has no letter
 not-dash : (f : List ℕ) → areLiterals false f ≡ true → isDash f ≡ false

@@ -7,11 +7,13 @@ pub mod Labels
 pub mod Search
 pub mod Finds
 pub mod Extends
+pub mod Kept
+pub mod Stands
 pub mod Row
 pub mod Events
 pub mod Signals
 pub mod KindWords
-pub mod RuleRead
+pub mod RuleLine
 pub mod Rules
 pub mod Section
 pub mod Text

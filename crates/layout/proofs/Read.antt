@@ -24,12 +24,14 @@ use Rattle.sheet.specs.Reading.{
 }
 use Rattle.layout.specs.Layout.{Signal, Rule, Contents, Keeps, Layout, textOf}
 use Rattle.layout.proofs.Numbers.{magnitude-decimal}
-use Rattle.layout.specs.Contains.{Contains, contents}
-use Rattle.layout.proofs.Extends.{empty-contains}
+use Rattle.layout.specs.Contains.{Contains}
+use Rattle.layout.proofs.Kept.{KeptNames, KeptSignals, KeptRules}
+use Rattle.layout.proofs.Extends.{contents}
+use Rattle.layout.proofs.Stands.{Stands, empty-stands}
 use Rattle.layout.proofs.Row.{Reads}
-use Rattle.layout.proofs.Events.{KeptNames, events-understood}
-use Rattle.layout.proofs.Signals.{KeptSignals, signals-understood}
-use Rattle.layout.proofs.Rules.{KeptRules, rules-understood}
+use Rattle.layout.proofs.Events.{events-understood}
+use Rattle.layout.proofs.Signals.{signals-understood}
+use Rattle.layout.proofs.Rules.{rules-understood}
 use Rattle.layout.proofs.Section.{count-line-reads, section-reads}
 use Rattle.layout.proofs.Text.{
   horizonText,
@@ -60,13 +62,13 @@ andThen-reads sheet p next r t = record {
 module _ (sheet : List ℕ) (h : ℕ) (ns : List (List ℕ)) (xs : List Signal) (rs : List Rule) where
   -- how far the reading comes with each section, and what stands behind it
   abbrev AtEvents : Progress → List (List ℕ) → List ℕ → Type 0
-  AtEvents p ms rest = Reads sheet (λ Γ ms. Contains sheet Γ (contents h ms [] [])) p ms rest
+  AtEvents p ms rest = Reads sheet (λ Γ ms. Stands sheet Γ (contents h ms [] [])) p ms rest
 
   abbrev AtSignals : Progress → List Signal → List ℕ → Type 0
-  AtSignals p ys rest = Reads sheet (λ Γ ys. Contains sheet Γ (contents h ns ys [])) p ys rest
+  AtSignals p ys rest = Reads sheet (λ Γ ys. Stands sheet Γ (contents h ns ys [])) p ys rest
 
   abbrev AtRules : Progress → List Rule → List ℕ → Type 0
-  AtRules p ys rest = Reads sheet (λ Γ ys. Contains sheet Γ (contents h ns xs ys)) p ys rest
+  AtRules p ys rest = Reads sheet (λ Γ ys. Stands sheet Γ (contents h ns xs ys)) p ys rest
 
   horizon-reads : (rest : List ℕ) → h ≤ L.horizon → drop 0 sheet ≡ horizonText h ++ rest → AtEvents (readHorizon sheet) [] rest
   horizon-reads rest high t =
@@ -77,7 +79,7 @@ module _ (sheet : List ℕ) (h : ℕ) (ns : List (List ℕ)) (xs : List Signal) 
         at = afterLine sheet 0;
         number = 2;
         goes = r .1 (Go (empty h) (afterLine sheet 0) 2) (ap (λ (n : ℕ). Go (empty n) (afterLine sheet 0) 2) (magnitude-decimal h));
-        held = empty-contains sheet h;
+        held = empty-stands sheet h;
         behind = r .0;
       }
 
@@ -118,7 +120,7 @@ module _ (sheet : List ℕ) (h : ℕ) (ns : List (List ℕ)) (xs : List Signal) 
       → AtRules (andThen (toRules sheet) (readEnd sheet)) rs []
   sections-read k t =
       end-read
-      (rules-read [] (record { each = k .rules }) (k .few-rules)
+      (rules-read [] (k .rules) (k .few-rules)
       (signals-read (rulesText rs ++ [])
       (record { each = k .signals; letters-once = k .letters-once; events-once = k .events-once }) (k .few-signals)
       (events-read (signalsText xs ++ (rulesText rs ++ []))
@@ -144,5 +146,5 @@ layout-read sheet l =
       at = r .at;
       number = r .number;
       goes = rw (le-leb (length sheet) longest (l .short), progress) (r .goes);
-      held = r .held;
+      held = r .held .holds;
     }

@@ -1,6 +1,6 @@
 -- A section: its line with the count, and then so many lines. Assumes nothing.
 use mathlib.Core.Path.{_≡_, sym, _∙_, ap, ap₂}
-use mathlib.Core.Bool.{Bool, true, _&&_}
+use mathlib.Core.Bool.{true}
 use mathlib.Core.Option.{none}
 use mathlib.Core.List.{List, [], _∷_, _++_, map}
 use Prim.Native.Nat.{ℕ, suc, _≤_}
@@ -14,12 +14,10 @@ use Rattle.prelude.specs.Bytes.{ascii, same, every}
 use Rattle.prelude.proofs.Bytes.{same-true, same-refl}
 use Rattle.prelude.proofs.Tests.{and-true}
 use Rattle.text.specs.Lines.{field, lineAt, afterLine, fields}
-use Rattle.text.specs.Number.{isNumber, inRange, magnitude}
+use Rattle.text.specs.Number.{magnitude}
 use Rattle.text.specs.Decimal.{decimal}
-use Rattle.refusal.specs.declared.Cause.{Cause}
-use Rattle.refusal.specs.declared.Cause.the-variants as C
 use Rattle.network.specs.declared.Network.{Network}
-use Rattle.line.specs.Rows.{Row, sectionRefusal, sectionCount}
+use Rattle.line.specs.Rows.{Row, sectionTests, sectionRefusal, sectionCount}
 use Rattle.sheet.specs.Reading.{Progress, Go, readLine, readRows, readSection}
 use Rattle.layout.specs.Layout.{line, lines, section}
 use Rattle.layout.proofs.Checks.{_&_}
@@ -42,13 +40,6 @@ use Rattle.layout.proofs.Row.{
   joins,
   parts,
 }
-
-abbrev sectionTests : String → ℕ → ℕ → List (List ℕ) → List (Bool × Cause)
-sectionTests word lo hi fs =
-    (eqb (length fs) 2 && same (field 0 fs) (ascii word), C.WrongFields)
-    ∷ (isNumber (field 1 fs), C.IllFormedNumber)
-    ∷ (inRange lo hi (field 1 fs), C.OutOfRange)
-    ∷ []
 
 -- a count from lo to hi, behind its word
 module _ (word : String) (lo hi : ℕ) where

@@ -1,31 +1,30 @@
 -- A line of the signals: it is passed exactly where it is a letter that has not been given and an event that gives
 -- none yet. Assumes nothing.
 use mathlib.Core.Path.{_≡_, refl, _∙_, ap}
-use mathlib.Core.Bool.{Bool, true, _&&_, _||_, not}
+use mathlib.Core.Bool.{Bool, true, _||_, not}
 use mathlib.Core.Option.{none}
-use mathlib.Core.List.{List, [], _∷_, _++_, map-append}
+use mathlib.Core.List.{List, [], _∷_, _++_}
 use Prim.Native.Nat.{ℕ, _<_}
 use borrow.Author.Tests.{eqb-true, not-true}
-use lib.Dec.{eqb}
 use lib.ListN.{length, getD}
 use Rattle.prelude.proofs.Checks.{hold, none-fails}
 use Rattle.prelude.specs.Search.{answers}
 use Rattle.prelude.proofs.Tests.{clash, false-of-not-true, and-true, and-both, or-false, or-neither}
 use Rattle.text.specs.Lines.{field}
-use Rattle.refusal.specs.declared.Cause.{Cause}
-use Rattle.refusal.specs.declared.Cause.the-variants as C
 use Rattle.network.specs.Limits as L
 use Rattle.network.specs.declared.Network.{Network}
 use Rattle.names.specs.Names.{isName, isLetter, isOneLetter}
 use Rattle.names.specs.Defined.{placeOf}
-use Rattle.line.specs.Rows.{eventOf, isObservation, signalRefusal, signalRow}
-use Rattle.prelude.specs.Lists.{In, Distinct, Each}
-use Rattle.layout.specs.Layout.{Signal, KeepsSignal, noSignal}
+use Rattle.line.specs.Rows.{eventOf, isObservation, signalTests, signalRefusal, signalRow}
+use Rattle.prelude.specs.Lists.{In}
+use Rattle.layout.specs.Layout.{Signal, signalEvents}
 use Rattle.layout.proofs.Checks.{_&_}
 use Rattle.layout.proofs.Lines.{plain}
-use Rattle.prelude.proofs.Lists.{all-of, each-at, each-in, distinct-new}
+use Rattle.prelude.proofs.Lists.{all-of, each-in}
 use Rattle.layout.proofs.Plain.{plain-name, plain-letter, one-letter}
-use Rattle.layout.specs.Contains.{Contains, contents, lettersOf, eventsOf}
+use Rattle.layout.proofs.Kept.{KeptSignals, NewSignal, may-signal}
+use Rattle.layout.proofs.Extends.{contents}
+use Rattle.layout.proofs.Stands.{Stands, signal-added}
 use Rattle.layout.proofs.Finds.{
   event-in,
   event-found,
@@ -35,42 +34,10 @@ use Rattle.layout.proofs.Finds.{
   observed-in,
   observed-test,
 }
-use Rattle.layout.proofs.Extends.{signal-added}
 use Rattle.layout.proofs.Row.{Understood}
 
--- the tests of a line, in order
-abbrev signalTests : List ℕ → Network → List (List ℕ) → List (Bool × Cause)
-signalTests sheet Γ fs =
-    (eqb (length fs) 2, C.WrongFields)
-    ∷ (isOneLetter (field 0 fs) && isName (field 1 fs), C.IllFormedName)
-    ∷ (
-      not (answers (placeOf (Γ .signals) (Γ .letters) (getD (field 0 fs) 0 0))
-          || isObservation Γ (eventOf sheet Γ (field 1 fs))),
-      C.Duplicate,
-    )
-    ∷ (answers (eventOf sheet Γ (field 1 fs)), C.Undefined)
-    ∷ []
-
--- signals that keep the rules, and one that may follow
-pub record KeptSignals (names : List (List ℕ)) (xs : List Signal) : Type 0 where
-  pub each : Each (KeepsSignal names) xs noSignal
-  pub letters-once : Distinct (lettersOf xs) 0
-  pub events-once : Distinct (eventsOf xs) []
-
-pub record NewSignal (names : List (List ℕ)) (xs : List Signal) (x : Signal) : Type 0 where
-  pub keeps : KeepsSignal names x
-  pub new-letter : In (x .letter) (lettersOf xs) 0 → ⊥
-  pub new-event : In (x .event) (eventsOf xs) [] → ⊥
-
-may-signal : (names : List (List ℕ)) (xs ys : List Signal) (x : Signal) → KeptSignals names (xs ++ x ∷ ys) → NewSignal names xs x
-may-signal names xs ys x k = record {
-  keeps = each-at noSignal xs x (KeepsSignal names) ys (k .each);
-  new-letter = distinct-new 0 (lettersOf xs) (x .letter) (lettersOf ys) (rw map-append at (k .letters-once));
-  new-event = distinct-new [] (eventsOf xs) (x .event) (eventsOf ys) (rw map-append at (k .events-once));
-}
-
 module _ (sheet : List ℕ) (h : ℕ) (names : List (List ℕ)) where
-  module _ {Γ : Network} {xs : List Signal} (c : Contains sheet Γ (contents h names xs [])) where
+  module _ {Γ : Network} {xs : List Signal} (c : Stands sheet Γ (contents h names xs [])) where
     abbrev known : ℕ → Bool
     known b = answers (placeOf (Γ .signals) (Γ .letters) b)
 
@@ -78,17 +45,17 @@ module _ (sheet : List ℕ) (h : ℕ) (names : List (List ℕ)) where
     given f = isObservation Γ (eventOf sheet Γ f)
 
     -- whether the event of that name gives a signal
-    given-in : (f : List ℕ) → In f names [] → given f ≡ true → In f (eventsOf xs) []
+    given-in : (f : List ℕ) → In f names [] → given f ≡ true → In f (signalEvents xs) []
     given-in f i e =
-        let w = event-found (c .names) f i in
-        let p = event-named (c .names) f (w .0) (w .1) in
-        rw (p .name) at (observed-in (c .signals) (w .0) (rw (w .1) at e))
+        let w = event-found (c .holds) f i in
+        let p = event-named (c .holds) f (w .0) (w .1) in
+        rw (p .name) at (observed-in (c .holds) (w .0) (rw (w .1) at e))
 
-    given-test : (f : List ℕ) → In f names [] → In f (eventsOf xs) [] → given f ≡ true
+    given-test : (f : List ℕ) → In f names [] → In f (signalEvents xs) [] → given f ≡ true
     given-test f i e =
-        let w = event-found (c .names) f i in
-        let p = event-named (c .names) f (w .0) (w .1) in
-        rw (w .1) (observed-test (c .signals) (w .0) (c .names .once) (p .defined) (rw (p .name) e))
+        let w = event-found (c .holds) f i in
+        let p = event-named (c .holds) f (w .0) (w .1) in
+        rw (w .1) (observed-test (c .holds) (w .0) (c .names .once) (p .defined) (rw (p .name) e))
 
     signal-read : (fs : List (List ℕ)) → signalRefusal sheet Γ fs ≡ none
         → (x : Signal) × (fs ≡ (x .letter ∷ []) ∷ x .event ∷ []) × NewSignal names xs x
@@ -100,12 +67,12 @@ module _ (sheet : List ℕ) (h : ℕ) (names : List (List ℕ)) where
         let l = and-true (isOneLetter (field 0 fs)) (isName f) (t .1 .0) in
         let o = one-letter (field 0 fs) (l .0) in
         let d = or-false (known b) (given f) (not-true (known b || given f) (t .1 .1 .0)) in
-        let i = event-in (c .names) f (t .1 .1 .1 .0) in (
+        let i = event-in (c .holds) f (t .1 .1 .1 .0) in (
           record { letter = b; event = f },
           all-of [] 2 fs (eqb-true (length fs) 2 (t .0)) ∙ ap (λ (g : List ℕ). g ∷ f ∷ []) (o .0),
           record {
             keeps = record { letter = o .1; event = i };
-            new-letter = λ w. clash (known b) (letter-answers (c .signals) b w) (d .0);
+            new-letter = λ w. clash (known b) (letter-answers (c .holds) b w) (d .0);
             new-event = λ w. clash (given f) (given-test f i w) (d .1);
           },
         )
@@ -116,25 +83,26 @@ module _ (sheet : List ℕ) (h : ℕ) (names : List (List ℕ)) where
         let b = x .letter in
         let f = x .event in
         let i = m .keeps .event in
-        let unknown = false-of-not-true (known b) (λ e. m .new-letter (letter-in (c .signals) b e)) in
+        let unknown = false-of-not-true (known b) (λ e. m .new-letter (letter-in (c .holds) b e)) in
         let free = false-of-not-true (given f) (λ e. m .new-event (given-in f i e)) in
         none-fails (signalTests sheet Γ ((b ∷ []) ∷ f ∷ []))
         (refl
         & and-both (isLetter b) (isName f) (m .keeps .letter) (each-in (λ n. isName n ≡ true) (c .names .each) i)
         & ap not (or-neither (known b) (given f) unknown free)
-        & ap answers (event-found (c .names) f i .1)
+        & ap answers (event-found (c .holds) f i .1)
         & tt)
 
     signal-adds : (x : Signal) → NewSignal names xs x → length xs < L.signals → (at : ℕ)
-        → Contains sheet (signalRow sheet .add Γ at ((x .letter ∷ []) ∷ x .event ∷ [])) (contents h names (xs ++ x ∷ []) [])
+        → Stands sheet (signalRow sheet .add Γ at ((x .letter ∷ []) ∷ x .event ∷ []))
+        (contents h names (xs ++ x ∷ []) [])
     signal-adds x m few at =
-        let w = event-found (c .names) (x .event) (m .keeps .event) in
+        let w = event-found (c .holds) (x .event) (m .keeps .event) in
         rw (w .1)
-        (signal-added c x (w .0) (m .keeps) (m .new-letter) (m .new-event) few (event-named (c .names) (x .event) (w .0) (w .1)))
+        (signal-added c x (w .0) m few (event-named (c .holds) (x .event) (w .0) (w .1)))
 
   pub signals-understood :
       Understood sheet (signalRow sheet) L.signals (λ x. x .letter ∷ []) (λ x. x .event ∷ [])
-      (λ Γ xs. Contains sheet Γ (contents h names xs [])) (KeptSignals names) (NewSignal names)
+      (λ Γ xs. Stands sheet Γ (contents h names xs [])) (KeptSignals names) (NewSignal names)
   signals-understood = record {
     may = may-signal names;
     reads = λ c fs e. signal-read c fs e;

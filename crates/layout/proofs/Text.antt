@@ -14,9 +14,8 @@ use Rattle.refusal.specs.Refusal.{refusal}
 use Rattle.refusal.specs.declared.Cause.the-variants.{TrailingBytes}
 use Rattle.network.specs.declared.Network.{Network}
 use Rattle.sheet.specs.Reading.{Progress, Stop, Go, andThen, readHorizon, readEvents, readSignals, readRules, readEnd}
-use Rattle.layout.specs.Layout.{Signal, Rule, line, section, kindText}
+use Rattle.layout.specs.Layout.{Signal, Rule, line, section, signalLine, ruleLine}
 use Rattle.layout.proofs.Row.{stops, joins}
-use Rattle.layout.proofs.RuleRead.{othersOf}
 
 abbrev pub horizonText : ℕ → List ℕ
 horizonText h = line (ascii "horizon") (decimal h ∷ [])
@@ -25,10 +24,10 @@ abbrev pub eventsText : List (List ℕ) → List ℕ
 eventsText ns = section "events" (map (λ n. line n []) ns)
 
 abbrev pub signalsText : List Signal → List ℕ
-signalsText xs = section "signals" (map (λ x. line (x .letter ∷ []) (x .event ∷ [])) xs)
+signalsText xs = section "signals" (map signalLine xs)
 
 abbrev pub rulesText : List Rule → List ℕ
-rulesText rs = section "rules" (map (λ x. line (kindText (x .kind)) (othersOf x)) rs)
+rulesText rs = section "rules" (map ruleLine rs)
 
 -- the reading as far as each section
 abbrev pub toEvents : List ℕ → Progress

@@ -2,7 +2,7 @@
 -- layout's rules. Assumes nothing.
 use mathlib.Core.Path.{_≡_, _∙_, ap}
 use mathlib.Core.Logic.{inl, inr}
-use mathlib.Core.List.{List, [], _∷_, _++_}
+use mathlib.Core.List.{List, [], _++_}
 use Prim.Native.Nat.{ℕ, _≤_}
 use borrow.Author.Tests.{leb-true}
 use lib.Dec.{leb}
@@ -16,13 +16,12 @@ use Rattle.network.specs.Build.{empty}
 use Rattle.network.specs.declared.Network.{Network}
 use Rattle.line.specs.Rows.{sectionCount}
 use Rattle.sheet.specs.Reading.{longest, Go, andThen, readHorizon, readEvents, readSignals, readRules, readEnd, progress}
-use Rattle.layout.specs.Layout.{Signal, Contents, Keeps, Layout, line, kindText}
-use Rattle.layout.specs.Contains.{Contains, contents}
-use Rattle.layout.proofs.Extends.{empty-contains}
+use Rattle.layout.specs.Layout.{Signal, Contents, Keeps, Layout, line, signalLine, ruleLine}
+use Rattle.layout.proofs.Extends.{contents}
+use Rattle.layout.proofs.Stands.{Stands, empty-stands}
 use Rattle.layout.proofs.Row.{stops}
 use Rattle.layout.proofs.Events.{events-understood}
 use Rattle.layout.proofs.Signals.{signals-understood}
-use Rattle.layout.proofs.RuleRead.{othersOf}
 use Rattle.layout.proofs.Rules.{rules-understood}
 use Rattle.layout.proofs.Section.{count-line-read, SectionRead, section-read}
 use Rattle.layout.proofs.Text.{
@@ -39,9 +38,10 @@ use Rattle.layout.proofs.Text.{
   steps,
 }
 
--- contents that a network holds keep the rules, where there are not too few or too many of anything
-keeps : {sheet : List ℕ} {Γ : Network} {c : Contents} → Contains sheet Γ c → c .horizon ≤ L.horizon → 1 ≤ length (c .names)
-    → length (c .names) ≤ L.events → length (c .signals) ≤ L.signals → length (c .rules) ≤ L.rules → Keeps c
+-- contents that stand in a network keep the rules, where there are not too few or too many of anything
+keeps : {sheet : List ℕ} {Γ : Network} {c : Contents} → Stands sheet Γ c → c .horizon ≤ L.horizon
+    → 1 ≤ length (c .names) → length (c .names) ≤ L.events → length (c .signals) ≤ L.signals
+    → length (c .rules) ≤ L.rules → Keeps c
 keeps held h some n k m = record {
   horizon = h;
   some-event = some;
@@ -53,7 +53,7 @@ keeps held h some n k m = record {
   letters-once = held .signals .letters-once;
   events-once = held .signals .events-once;
   few-rules = m;
-  rules = held .rules .each;
+  rules = held .rules;
 }
 
 module _ (sheet : List ℕ) where
@@ -62,21 +62,21 @@ module _ (sheet : List ℕ) where
     horizon : ℕ
     high : horizon ≤ L.horizon
     written : drop 0 sheet ≡ horizonText horizon ++ drop end sheet
-    held : Contains sheet Γ (contents horizon [] [] [])
+    held : Stands sheet Γ (contents horizon [] [] [])
 
   abbrev EventsRead : ℕ → ℕ → Network → ℕ → Type 0
   EventsRead h at Γ end =
-      SectionRead sheet (λ Γ ns. Contains sheet Γ (contents h ns [] [])) "events" (λ n. line n []) 1 L.events at Γ end
+      SectionRead sheet (λ Γ ns. Stands sheet Γ (contents h ns [] [])) "events" (λ n. line n []) 1 L.events at Γ end
 
   abbrev SignalsRead : ℕ → List (List ℕ) → ℕ → Network → ℕ → Type 0
   SignalsRead h ns at Γ end =
-      SectionRead sheet (λ Γ xs. Contains sheet Γ (contents h ns xs [])) "signals"
-      (λ x. line (x .letter ∷ []) (x .event ∷ [])) 0 L.signals at Γ end
+      SectionRead sheet (λ Γ xs. Stands sheet Γ (contents h ns xs [])) "signals"
+      signalLine 0 L.signals at Γ end
 
   abbrev RulesRead : ℕ → List (List ℕ) → List Signal → ℕ → Network → ℕ → Type 0
   RulesRead h ns xs at Γ end =
-      SectionRead sheet (λ Γ rs. Contains sheet Γ (contents h ns xs rs)) "rules"
-      (λ x. line (kindText (x .kind)) (othersOf x)) 0 L.rules at Γ end
+      SectionRead sheet (λ Γ rs. Stands sheet Γ (contents h ns xs rs)) "rules"
+      ruleLine 0 L.rules at Γ end
 
   horizon-read : (Γ : Network) (at k : ℕ) → readHorizon sheet ≡ Go Γ at k → HorizonRead Γ at
   horizon-read Γ at k e =
@@ -89,7 +89,7 @@ module _ (sheet : List ℕ) where
         horizon = h;
         high = c .high;
         written = c .text ∙ ap (λ (i : ℕ). horizonText h ++ drop i sheet) same-place;
-        held = rw same-network at (empty-contains sheet h);
+        held = rw same-network at (empty-stands sheet h);
       }
 
   -- from one section to the next, and at last all four

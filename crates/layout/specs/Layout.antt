@@ -36,6 +36,13 @@ pub record Contents : Type 0 where
   pub signals : List Signal
   pub rules : List Rule
 
+-- the letters and the events of signals
+abbrev pub signalLetters : List Signal → List ℕ
+signalLetters xs = map (λ x. x .letter) xs
+
+abbrev pub signalEvents : List Signal → List (List ℕ)
+signalEvents xs = map (λ x. x .event) xs
+
 -- the rules of the layout
 pub record KeepsSignal (names : List (List ℕ)) (x : Signal) : Type 0 where
   pub letter : isLetter (x .letter) ≡ true
@@ -62,10 +69,10 @@ pub record Keeps (c : Contents) : Type 0 where
   pub names-once : Distinct (c .names) []
   pub few-signals : length (c .signals) ≤ L.signals
   pub signals : Each (KeepsSignal (c .names)) (c .signals) noSignal
-  pub letters-once : Distinct (map (λ x. x .letter) (c .signals)) 0
-  pub events-once : Distinct (map (λ x. x .event) (c .signals)) []
+  pub letters-once : Distinct (signalLetters (c .signals)) 0
+  pub events-once : Distinct (signalEvents (c .signals)) []
   pub few-rules : length (c .rules) ≤ L.rules
-  pub rules : Each (KeepsRule (c .names) (map (λ x. x .letter) (c .signals))) (c .rules) noRule
+  pub rules : Each (KeepsRule (c .names) (signalLetters (c .signals))) (c .rules) noRule
 
 -- how it is written
 abbrev pub signedText : ℤ → List ℕ
@@ -106,8 +113,12 @@ section word ls = line (ascii word) (decimal (length ls) ∷ []) ++ lines ls
 abbrev pub signalLine : Signal → List ℕ
 signalLine x = line (x .letter ∷ []) (x .event ∷ [])
 
+-- what stands behind the kind
+abbrev pub ruleFields : Rule → List (List ℕ)
+ruleFields x = x .from ∷ x .to ∷ signedText (x .limit) ∷ labelText (x .label) ∷ []
+
 abbrev pub ruleLine : Rule → List ℕ
-ruleLine x = line (kindText (x .kind)) (x .from ∷ x .to ∷ signedText (x .limit) ∷ labelText (x .label) ∷ [])
+ruleLine x = line (kindText (x .kind)) (ruleFields x)
 
 abbrev pub textOf : Contents → List ℕ
 textOf c =

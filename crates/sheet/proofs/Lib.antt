@@ -3,6 +3,7 @@
 pub mod Places
 pub mod RowTests
 pub mod Rows
+pub mod Arrays
 pub mod Stages
 pub mod SignalStage
 pub mod RuleStage

@@ -1,5 +1,4 @@
 -- A rule's line that passes keeps the stage of the sheet. Assumes nothing.
-use mathlib.Core.Path.{_∙_}
 use mathlib.Core.Logic.{inl, inr}
 use mathlib.Core.Bool.{true, false, _&&_}
 use mathlib.Core.List.{List}
@@ -7,7 +6,6 @@ use Prim.Native.Nat.{ℕ, zero, suc, _≤_}
 use native.Mathlib.Omega.{arith}
 use borrow.Author.Tests.{leb-true}
 use lib.IntN.{pos, negℤ}
-use lib.ListN.{length-set}
 use lib.Seq.{getD-set-same, getD-set-other}
 use Rattle.prelude.specs.Search.{answers}
 use Rattle.prelude.proofs.Tests.{eq-or-ne, and-true, by-cond}
@@ -28,6 +26,7 @@ use Rattle.sheet.proofs.Places.{line-inside}
 use Rattle.sheet.proofs.RowTests.{isNamed, ruleTests}
 use Rattle.sheet.specs.Stage.{toCome, Stage}
 use Rattle.sheet.proofs.Rows.{Passes}
+use Rattle.sheet.proofs.Arrays.{arrays-rule}
 
 -- a limit by its size
 neg-limits : (m : ℕ) → m ≤ L.horizon → InLimits (negℤ (pos m))
@@ -60,13 +59,7 @@ module _ (sheet : List ℕ) {m : ℕ} {Γ : Network} {at k : ℕ} where
         events = g .events;
         signals = g .signals;
         rules = omega (arith, g .rules);
-        arrays = record {
-          starts = g .arrays .starts;
-          lengths = g .arrays .lengths;
-          letters = g .arrays .letters;
-          observations = g .arrays .observations;
-          constraints = length-set (Γ .constraints) (Γ .rules) c ∙ kept;
-        };
+        arrays = arrays-rule (g .arrays) c;
         observed = g .observed;
         one-signal = g .one-signal;
         proper = λ d h.

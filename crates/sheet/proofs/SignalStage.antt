@@ -8,7 +8,7 @@ use native.Mathlib.Nat.{two-pow-succ}
 use native.Mathlib.Numerals.{add-one}
 use native.Mathlib.Omega.{arith}
 use borrow.Author.Tests.{eqb-false}
-use lib.ListN.{getD, length-set}
+use lib.ListN.{getD}
 use lib.Seq.{getD-set-same, getD-set-other}
 use Rattle.prelude.proofs.Tests.{eq-or-ne}
 use Rattle.prelude.proofs.Search.{answered}
@@ -23,6 +23,7 @@ use Rattle.sheet.proofs.Places.{line-inside}
 use Rattle.sheet.proofs.RowTests.{isNamed, signalTests, new-signal}
 use Rattle.sheet.specs.Stage.{toCome, Stage}
 use Rattle.sheet.proofs.Rows.{Passes}
+use Rattle.sheet.proofs.Arrays.{arrays-signal}
 
 module _ (sheet : List ℕ) {m : ℕ} {Γ : Network} {at k : ℕ} where
   -- a signal
@@ -46,13 +47,7 @@ module _ (sheet : List ℕ) {m : ℕ} {Γ : Network} {at k : ℕ} where
         events = g .events;
         signals = omega (arith, g .signals);
         rules = g .rules;
-        arrays = record {
-          starts = g .arrays .starts;
-          lengths = g .arrays .lengths;
-          letters = length-set (Γ .letters) (Γ .signals) (getD (field 0 fs) 0 0) ∙ g .arrays .letters;
-          observations = length-set (Γ .observations) (Γ .signals) u ∙ seen;
-          constraints = g .arrays .constraints;
-        };
+        arrays = arrays-signal (g .arrays) (getD (field 0 fs) 0 0) u;
         observed = λ q h.
             elim (eq-or-ne q (Γ .signals)) [
               | inl x ↦ rw (x, getD-set-same (Γ .observations) (Γ .signals) u 0 (omega arith)) event

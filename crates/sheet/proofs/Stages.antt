@@ -1,12 +1,12 @@
 -- What each line keeps: the stage of the sheet before a line that passes gives the stage behind it. Here: a section's
 -- line, and an event. Assumes nothing.
-use mathlib.Core.Path.{_≡_, _∙_}
+use mathlib.Core.Path.{_≡_}
 use mathlib.Core.Logic.{inl, inr}
 use mathlib.Core.Bool.{true}
 use mathlib.Core.List.{List}
 use Prim.Native.Nat.{ℕ, suc, _+_, _≤_}
 use native.Mathlib.Omega.{arith}
-use lib.ListN.{length, length-set}
+use lib.ListN.{length}
 use lib.Seq.{getD-set-same, getD-set-other}
 use Rattle.prelude.proofs.Tests.{eq-or-ne}
 use Rattle.text.specs.Lines.{lineAt, endsAt, afterLine, fields, field}
@@ -21,6 +21,7 @@ use Rattle.line.proofs.Checks.{all-hold}
 use Rattle.sheet.proofs.Places.{first-field, line-inside}
 use Rattle.sheet.specs.Stage.{ToCome, toCome, whole, Stage}
 use Rattle.sheet.proofs.Rows.{Passes}
+use Rattle.sheet.proofs.Arrays.{arrays-event}
 use Rattle.names.proofs.Tokens.{name-short}
 use Rattle.sheet.proofs.RowTests.{eventTests}
 
@@ -75,13 +76,7 @@ module _ (sheet : List ℕ) {Γ : Network} {at k : ℕ} where
         events = omega (arith, g .events);
         signals = g .signals;
         rules = g .rules;
-        arrays = record {
-          starts = length-set (Γ .starts) (Γ .events) at ∙ begins;
-          lengths = length-set (Γ .lengths) (Γ .events) (length f) ∙ ends;
-          letters = g .arrays .letters;
-          observations = g .arrays .observations;
-          constraints = g .arrays .constraints;
-        };
+        arrays = arrays-event (g .arrays) at (length f);
         observed = λ q h. omega (arith, g .observed q h);
         one-signal = g .one-signal;
         proper = λ c h.

@@ -9,7 +9,7 @@ use Prim.Native.String.{String}
 use native.Mathlib.Omega.{arith}
 use borrow.Author.Tests.{leb-true}
 use lib.Dec.{eqb, ltb, leb}
-use lib.ListN.{length, length-replicate}
+use lib.ListN.{length}
 use Rattle.prelude.specs.Bytes.{ascii, same}
 use Rattle.prelude.proofs.Tests.{and-true}
 use Rattle.text.specs.Lines.{lineAt, afterLine, fields, field}
@@ -18,7 +18,7 @@ use Rattle.refusal.specs.Refusal.{refusal}
 use Rattle.refusal.specs.declared.Cause.{Cause}
 use Rattle.refusal.specs.declared.Cause.the-variants as C
 use Rattle.network.specs.Limits as L
-use Rattle.network.specs.Build.{empty, noConstraint}
+use Rattle.network.specs.Build.{empty}
 use Rattle.network.specs.WellFormed.{WellFormed, Named}
 use Rattle.network.specs.declared.Network.{Network}
 use Rattle.line.specs.Rows.{sectionRefusal, sectionCount}
@@ -34,6 +34,7 @@ use Rattle.sheet.specs.Stage.{toCome, whole, Stage}
 use Rattle.sheet.specs.Reached.{Ready}
 use Rattle.sheet.specs.declared.Outcome.the-variants.{Accepted}
 use Rattle.sheet.proofs.Rows.{stop-not-go, came, went, rows-keep}
+use Rattle.sheet.proofs.Arrays.{arrays-empty}
 use Rattle.sheet.proofs.Stages.{stage-section}
 use Rattle.sheet.proofs.Turns.{Before, stage-keeps}
 
@@ -61,13 +62,7 @@ module _ (sheet : List ℕ) where
     events = omega arith;
     signals = omega arith;
     rules = omega arith;
-    arrays = record {
-      starts = length-replicate {A = ℕ} L.events 0;
-      lengths = length-replicate {A = ℕ} L.events 0;
-      letters = length-replicate {A = ℕ} L.signals 0;
-      observations = length-replicate {A = ℕ} L.signals 0;
-      constraints = length-replicate L.rules noConstraint;
-    };
+    arrays = arrays-empty h;
     observed = λ p q. absurd (omega arith);
     one-signal = λ p q a c e. absurd (omega arith);
     proper = λ c q. absurd (omega arith);

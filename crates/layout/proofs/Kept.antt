@@ -1,0 +1,101 @@
+-- Names, signals and rules that keep the layout's rules, so far as the lines behind them rely on it, and what may
+-- follow them: none keep them, and with one that may follow they still do. Assumes nothing.
+use mathlib.Core.Path.{_≡_, sym, _∙_, ap}
+use mathlib.Core.Bool.{true}
+use mathlib.Core.List.{List, [], _∷_, _++_, map-append}
+use Prim.Native.Nat.{ℕ, _<_}
+use native.Mathlib.Omega.{arith}
+use lib.ListN.{length, length-map, List·getD-map}
+use Rattle.prelude.specs.Bytes.{every}
+use Rattle.prelude.specs.Lists.{In, Distinct, Each}
+use Rattle.prelude.proofs.Lists.{each-at, each-snoc, each-mono, every-of-each, distinct-new, distinct-snoc}
+use Rattle.names.specs.Names.{isLetter, isName}
+use Rattle.layout.specs.Layout.{Signal, Rule, KeepsSignal, KeepsRule, noSignal, noRule}
+use Rattle.layout.specs.Layout.{signalLetters, signalEvents}
+
+pub record KeptNames (ns : List (List ℕ)) : Type 0 where
+  pub each : Each (λ n. isName n ≡ true) ns []
+  pub once : Distinct ns []
+
+pub record NewName (ns : List (List ℕ)) (n : List ℕ) : Type 0 where
+  pub is : isName n ≡ true
+  pub new : In n ns [] → ⊥
+
+pub record KeptSignals (names : List (List ℕ)) (xs : List Signal) : Type 0 where
+  pub each : Each (KeepsSignal names) xs noSignal
+  pub letters-once : Distinct (signalLetters xs) 0
+  pub events-once : Distinct (signalEvents xs) []
+
+pub record NewSignal (names : List (List ℕ)) (xs : List Signal) (x : Signal) : Type 0 where
+  pub keeps : KeepsSignal names x
+  pub new-letter : In (x .letter) (signalLetters xs) 0 → ⊥
+  pub new-event : In (x .event) (signalEvents xs) [] → ⊥
+
+abbrev pub KeptRules : List (List ℕ) → List Signal → List Rule → Type 0
+KeptRules names xs rs = Each (KeepsRule names (signalLetters xs)) rs noRule
+
+-- none
+module _ {A : Type 0} (d : A) where
+  no-each : (P : A → Type 0) → Each P [] d
+  no-each P = record { each = λ i h. absurd (omega arith) }
+
+  no-twice : Distinct [] d
+  no-twice = record { once = λ i j h k e. absurd (omega arith) }
+
+pub no-names : KeptNames []
+no-names = record { each = no-each [] (λ n. isName n ≡ true); once = no-twice [] }
+
+pub no-signals : (names : List (List ℕ)) → KeptSignals names []
+no-signals names = record {
+  each = no-each noSignal (KeepsSignal names);
+  letters-once = no-twice 0;
+  events-once = no-twice [];
+}
+
+pub no-rules : (names : List (List ℕ)) (xs : List Signal) → KeptRules names xs []
+no-rules names xs = no-each noRule (KeepsRule names (signalLetters xs))
+
+-- one more
+pub name-kept : (ns : List (List ℕ)) (n : List ℕ) → KeptNames ns → NewName ns n → KeptNames (ns ++ n ∷ [])
+name-kept ns n k m = record {
+  each = each-snoc [] ns n (λ m. isName m ≡ true) (k .each) (m .is);
+  once = distinct-snoc [] ns n (k .once) (m .new);
+}
+
+pub signal-kept : (names : List (List ℕ)) (xs : List Signal) (x : Signal) → KeptSignals names xs → NewSignal names xs x
+    → KeptSignals names (xs ++ x ∷ [])
+signal-kept names xs x k m = record {
+  each = each-snoc noSignal xs x (KeepsSignal names) (k .each) (m .keeps);
+  letters-once = rw map-append (distinct-snoc 0 (signalLetters xs) (x .letter) (k .letters-once) (m .new-letter));
+  events-once = rw map-append (distinct-snoc [] (signalEvents xs) (x .event) (k .events-once) (m .new-event));
+}
+
+pub rule-kept : (names : List (List ℕ)) (xs : List Signal) (rs : List Rule) (x : Rule) → KeptRules names xs rs
+    → KeepsRule names (signalLetters xs) x → KeptRules names xs (rs ++ x ∷ [])
+rule-kept names xs rs x k m = each-snoc noRule rs x (KeepsRule names (signalLetters xs)) k m
+
+-- each may follow those before it
+pub may-name : (ns ms : List (List ℕ)) (n : List ℕ) → KeptNames (ns ++ n ∷ ms) → NewName ns n
+may-name ns ms n k = record {
+  is = each-at [] ns n (λ m. isName m ≡ true) ms (k .each);
+  new = distinct-new [] ns n ms (k .once);
+}
+
+pub may-signal : (names : List (List ℕ)) (xs ys : List Signal) (x : Signal) → KeptSignals names (xs ++ x ∷ ys)
+    → NewSignal names xs x
+may-signal names xs ys x k = record {
+  keeps = each-at noSignal xs x (KeepsSignal names) ys (k .each);
+  new-letter = distinct-new 0 (signalLetters xs) (x .letter) (signalLetters ys) (rw map-append at (k .letters-once));
+  new-event = distinct-new [] (signalEvents xs) (x .event) (signalEvents ys) (rw map-append at (k .events-once));
+}
+
+-- signals' letters are letters
+pub letters-are : {names : List (List ℕ)} {xs : List Signal} → KeptSignals names xs → (bs : List ℕ)
+    → Each (λ b. In b (signalLetters xs) 0) bs 0 → every isLetter bs ≡ true
+letters-are {xs = xs} k bs e = every-of-each isLetter bs (each-mono is e)
+  where
+    is : (b : ℕ) → In b (signalLetters xs) 0 → isLetter b ≡ true
+    is b w =
+        let h : w .place < length xs = omega (arith, w .place-lt, length-map xs (λ x. x .letter)) in
+        let at-place = sym (w .is) ∙ List·getD-map (λ x. x .letter) xs (w .place) noSignal in
+        ap isLetter at-place ∙ k .each .each (w .place) h .letter
