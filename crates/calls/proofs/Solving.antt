@@ -10,16 +10,14 @@ use Rattle.prelude.proofs.Tests.{lt-or-ge}
 use Rattle.pairs.specs.Pairs.{minutesOf, bytesOf}
 use Rattle.pairs.proofs.Packing.{length-minutesOf}
 use Rattle.refusal.specs.declared.Cause.the-variants.{Inconsistent}
-use Rattle.fixpoint.specs.Run.{Run, End, Rests, Passes, Spent}
+use Rattle.fixpoint.specs.Run.{End, Rests, Passes, Spent}
 use Rattle.network.specs.Build.{cells}
-use Rattle.network.specs.Solution.{Solution}
 use Rattle.network.specs.Least.{Least}
 use Rattle.network.specs.Least as L
 use Rattle.network.specs.WellFormed.{WellFormed}
 use Rattle.network.specs.declared.Network.{Network}
 use Rattle.sheet.specs.Reading.{read}
 use Rattle.sheet.specs.declared.Outcome.the-variants.{Accepted}
-use Rattle.sheet.specs.declared.Reading.{Reading}
 use Rattle.sheet.proofs.WellFormed.{accepted-well-formed}
 use Rattle.solver.specs.Solve.{solve}
 use Rattle.solver.proofs.Least.{solve-least, solve-none}
@@ -37,14 +35,8 @@ answer-of l = writtenValues (l .answer)
 
 -- an end that is not a rest
 unlike-rests : {end : End} → (end ≡ Passes) ⊎ (end ≡ Spent) → end ≡ Rests → ⊥
-unlike-rests (inl p) q = let z : _≡_ {A = ℕ} 0 1 = unlike (sym p ∙ q) in omega arith
-  where
-    unlike : Passes ≡ Rests → _≡_ {A = ℕ} 0 1
-    unlike e = cc
-unlike-rests (inr p) q = let z : _≡_ {A = ℕ} 0 1 = unlike (sym p ∙ q) in omega arith
-  where
-    unlike : Spent ≡ Rests → _≡_ {A = ℕ} 0 1
-    unlike e = cc
+unlike-rests (inl p) q = let z : _≡_ {A = ℕ} 0 1 = cc in omega arith
+unlike-rests (inr p) q = let z : _≡_ {A = ℕ} 0 1 = cc in omega arith
 
 module _ (sheet : List ℕ) (a : read sheet .outcome ≡ Accepted) (m : List ℕ) where
   abbrev net : Network

@@ -18,8 +18,7 @@ use Rattle.network.specs.Least as L
 use Rattle.network.specs.declared.Network.{Network}
 use Rattle.sheet.specs.Reading.{read}
 use Rattle.sheet.specs.Place.{tests}
-use Rattle.sheet.specs.Order.{Fails}
-use Rattle.sheet.specs.Fault.{FirstFault, Fault}
+use Rattle.sheet.specs.Fault.{FirstFault, Fails, Fault}
 use Rattle.sheet.specs.declared.Outcome.the-variants.{Accepted, Refused}
 use Rattle.layout.specs.Layout.{Layout}
 use Rattle.layout.specs.Contains.{Contains}
@@ -31,7 +30,7 @@ use Rattle.rounds.specs.Hyperarcs.{Dynamic, Hyperarcs}
 use Rattle.solver.specs.Solve.{solve}
 use Rattle.listing.specs.Listing.{listing}
 use Rattle.calls.specs.Values.{done, refusedAs}
-use Rattle.calls.specs.Calls.{countsOf, summary, summaryValues, judgement, writtenValues, Left, solving, listed}
+use Rattle.calls.specs.Calls.{countsOf, summary, summaryValues, judgement, writtenValues, solving, listed}
 use Rattle.calls.specs.Bench.{benchJudgement, benchSolving, passed, breachValues, judgementValues, packed, packedWritten}
 use Rattle.calls.specs.Header.{JudgeHolds, SolverHolds}
 use Rattle.calls.specs.Answers.{Reads, Wrote}

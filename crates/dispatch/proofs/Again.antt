@@ -4,16 +4,15 @@
 -- the records named stay the mask itself (`named-again`). Assumes nothing.
 use mathlib.Core.Path.{_≡_, refl, _∙_}
 use mathlib.Core.Logic.{inl, inr}
-use mathlib.Core.Bool.{Bool, true, false, _&&_, _||_, not, Bool·beq, cond}
+use mathlib.Core.Bool.{Bool, true, false, _&&_, _||_, Bool·beq, cond}
 use mathlib.Core.List.{List, [], _∷_}
 use Prim.Native.Nat.{ℕ, zero, suc, _+_, _^_, _≤_, _<_}
 use native.Mathlib.Omega.{arith}
-use borrow.Author.Tests.{not-true, eq-eqb, ne-eqb}
+use borrow.Author.Tests.{eq-eqb, ne-eqb}
 use lib.Dec.{eqb}
-use Rattle.prelude.proofs.Tests.{and-true, or-false, eq-or-ne}
+use Rattle.prelude.proofs.Tests.{and-true, eq-or-ne}
 use Rattle.network.specs.Build.{letter}
 use Rattle.network.specs.declared.Network.{Network}
-use Rattle.names.specs.Names.{isLetter}
 use Rattle.names.specs.Defined.{allDefined}
 use Rattle.dispatch.specs.Heard.{lettersOf, Lettered, recordsFrom}
 use Rattle.dispatch.specs.Said.{place, withBit, saidOn, standsOn, added, saidFrom, recordsOn}
@@ -21,25 +20,14 @@ use Rattle.dispatch.specs.declared.Heard.{Heard}
 use Rattle.dispatch.proofs.Bits.{add-bit}
 use Rattle.dispatch.proofs.Told.{isDefined, found-defined}
 use Rattle.dispatch.proofs.Letters.{nothing-said, said-with}
-use Rattle.dispatch.proofs.Fold.{free, fits, fits-first, added-free, fits-added}
+use Rattle.dispatch.proofs.Fold.{free, fits, free-unsaid, added-free, fits-added, fits-first}
 
 abbrev weights : List Heard → ℕ
 weights [] = 0
 weights (h ∷ hs) = 2 ^ place (h .letter) (h .truth) + weights hs
 
--- a letter that is free
-module _ (x l : ℕ) (f : free x l ≡ true) where
-  unsaid : (v : Bool) → saidOn x l v ≡ false
-  unsaid v =
-      let none = not-true (standsOn x l) (and-true (isLetter l) (not (standsOn x l)) f .1) in
-      by v (or-false (saidOn x l true) (saidOn x l false) none)
-    where
-      by : (v : Bool) → (saidOn x l true ≡ false) × (saidOn x l false ≡ false) → saidOn x l v ≡ false
-      by true w = w .0
-      by false w = w .1
-
-  with-free : (v : Bool) → withBit x (place l v) ≡ x + 2 ^ place l v
-  with-free v = add-bit x (place l v) (unsaid v)
+with-free : (x l : ℕ) → free x l ≡ true → (v : Bool) → withBit x (place l v) ≡ x + 2 ^ place l v
+with-free x l f v = add-bit x (place l v) (free-unsaid x l f v)
 
 pub said-weights : (x : ℕ) (hs : List Heard) → fits x (lettersOf hs) ≡ true → saidFrom x hs ≡ x + weights hs
 said-weights x [] w = omega arith
@@ -88,7 +76,8 @@ module _ (Γ : Network) where
       weight-own : weight more (letter Γ q) ≡ 2 ^ place (letter Γ q) v
       weight-own =
           let l = letter Γ q in
-          rw (said-of q true h, said-of q false h, unsaid x l f true, unsaid x l f false, eq-eqb l l refl) (by v)
+          let none = free-unsaid x l f in
+          rw (said-of q true h, said-of q false h, none true, none false, eq-eqb l l refl) (by v)
         where
           by : (v : Bool)
               → cond ((Bool·beq v true || false) || (Bool·beq v false || false))
@@ -121,7 +110,7 @@ module _ (Γ : Network) where
           weights-from more q n,
           weights-from x q n,
           weight-own,
-          weight-none x (letter Γ q) (unsaid x (letter Γ q) f),
+          weight-none x (letter Γ q) (free-unsaid x (letter Γ q) f),
           named-past (suc q) n (omega arith) (omega arith),
         ))
         | inr e ↦ omega (

@@ -11,12 +11,13 @@ use Prim.Native.Nat.{ℕ, _<_}
 use native.Mathlib.Omega.{arith}
 use Rattle.prelude.specs.Search.{when}
 use Rattle.prelude.proofs.Tests.{clash, and-true, and-both, beq-refl, beq-true, by-cond}
-use Rattle.prelude.proofs.Search.{none-of-firstBelow, some-of-firstBelow, when-some, when-none}
-use Rattle.prelude.proofs.Bounded.{true-of-allBelow, allBelow-true}
+use Rattle.prelude.proofs.Search.{none-of-firstBelow, some-of-firstBelow, firstBelow-same, when-some, when-none}
+use Rattle.prelude.proofs.Bounded.{true-of-allBelow, allBelow-true, allBelow-same}
 use Rattle.network.specs.Build.{letter, scenarios}
 use Rattle.network.specs.Solution.{Solution}
 use Rattle.network.specs.WellFormed.{WellFormed}
 use Rattle.network.specs.declared.Network.{Network}
+use Rattle.names.specs.Names.{isLetter}
 use Rattle.dispatch.specs.Heard.{WellNamed, isWellNamed, Lettered, says}
 use Rattle.dispatch.specs.History.{History}
 use Rattle.dispatch.specs.Due.{hears, dueIn, asHeard, hasHeard, hearer, dueFor, due}
@@ -25,6 +26,15 @@ use Rattle.dispatch.specs.declared.Dispatched.{Dispatched}
 use Rattle.dispatch.specs.declared.Dispatched.the-variants.{Events, Misnamed, NeverHeard}
 use Rattle.dispatch.proofs.Told.{well-named, named-of-history, told-of-history, history-of-told}
 use Rattle.dispatch.proofs.Alike.{history-indistinct, indistinct-due}
+
+-- searches by what is said alike of each letter
+pub hearer-same : (Γ : Network) → Lettered Γ → (σ : List ℕ) (m : ℕ) (f g : ℕ → Bool → Bool)
+    → ((l : ℕ) (v : Bool) → isLetter l ≡ true → f l v ≡ g l v) → hearer Γ σ m f ≡ hearer Γ σ m g
+hearer-same Γ lettered σ m f g h =
+    firstBelow-same (λ s. when (hasHeard Γ σ m f s) s) (λ s. when (hasHeard Γ σ m g s) s)
+    (scenarios Γ) λ s k.
+    ap (λ (t : Bool). when t s) (allBelow-same (asHeard Γ σ m f s) (asHeard Γ σ m g s) (Γ .signals) λ p l.
+    let e = lettered .lower p l in rw (h (letter Γ p) true e, h (letter Γ p) false e))
 
 module _ (Γ : Network) (σ : List ℕ) (m : ℕ) (lettered : Lettered Γ) (hs : List Heard) where
   -- whether s has heard what the list says

@@ -3,17 +3,21 @@
 use mathlib.Core.Path.{_≡_, refl, _∙_, ap}
 use mathlib.Core.Logic.{inl, inr}
 use mathlib.Core.Bool.{Bool, true, false, _&&_, _||_, cond, and-true, and-false, or-false}
-use Prim.Native.Nat.{ℕ, zero, suc, _+_, _-_, _/_, _%_, _^_, _≤_, _<_}
+use Prim.Native.Nat.{ℕ, zero, suc, _+_, _-_, _*_, _/_, _%_, _^_, _≤_, _<_}
 use native.Mathlib.Nat.{mod-lt, div-eq-of-lt, zero-mul, one-mul}
 use native.Mathlib.Omega.{arith}
 use borrow.Author.Tests.{eqb-true, eqb-false, eq-eqb, ne-eqb}
 use lib.Bits.{bitOr, or-shr, or-mod, or-disjoint, and-high, or-shifted-r, or-zero-r}
 use lib.Dec.{eqb}
-use lib.Pow.{pow-pos}
+use lib.Pow.{pow-pos, shl-exact}
 use Rattle.prelude.specs.Bounded.{allBelow, sumBelow}
 use Rattle.prelude.proofs.Bounded.{true-of-allBelow}
 use Rattle.prelude.proofs.Tests.{eq-or-ne}
 use Rattle.network.specs.Scenario.{truth}
+
+-- one bit, shifted: below the width nothing is lost
+pub one-shifted : (k w : ℕ) → k < w → (1 * 2 ^ k) % 2 ^ w ≡ 2 ^ k
+one-shifted k w h = shl-exact {a = 1} 1 k w (omega arith) (omega arith) ∙ one-mul (2 ^ k)
 
 -- one of two digits is 1
 or-digit : (a b : ℕ) → a < 2 → b < 2 → eqb (bitOr a b) 1 ≡ eqb a 1 || eqb b 1

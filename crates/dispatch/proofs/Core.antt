@@ -1,19 +1,17 @@
--- Laws of the core. Letters and their bits; one record more; what is said of a letter, by its two bits, and that over
--- a network it is what a case has heard. Then three loops, each by what has been passed: bits that add up, each of them
--- new, so that nothing is carried (`Summing`), the records that a mask names (`Naming`), and the search for a case
--- (`Hearing`). Assumes nothing.
+-- Laws of the core. What is said of a letter, by its two bits, and that over a network it is what a case has heard.
+-- Then three loops, each by what has been passed: bits that add up, each of them new, so that nothing is carried
+-- (`Summing`), the records that a mask names (`Naming`), and the search for a case (`Hearing`). Assumes nothing.
 use mathlib.Core.Path.{_≡_, refl, sym, _∙_, ap, ap₂}
-use mathlib.Core.Logic.{_⊎_, inl, inr}
-use mathlib.Core.Bool.{Bool, true, false, _&&_, not, Bool·beq, cond, and-false}
+use mathlib.Core.Bool.{Bool, true, false, _&&_, not, Bool·beq, cond}
 use mathlib.Core.List.{List}
 use Prim.Native.Nat.{ℕ, suc, _+_, _*_, _%_, _^_, _≤_, _<_}
-use native.Mathlib.Nat.{one-mul, zero-add, add-zero, mul-le-mul-right}
+use native.Mathlib.Nat.{zero-add, add-zero, mul-le-mul-right}
 use native.Mathlib.Numerals.{add-one}
 use native.Mathlib.Omega.{arith}
-use borrow.Author.Tests.{le-leb, lt-leb, eq-eqb, ne-eqb}
+use borrow.Author.Tests.{eq-eqb, ne-eqb}
 use lib.Dec.{eqb, leb}
 use lib.ListN.{length}
-use lib.Pow.{shl-exact, pow-mono}
+use lib.Pow.{pow-mono}
 use Rattle.prelude.specs.Search.{when}
 use Rattle.prelude.specs.Bounded.{sumBelow}
 use Rattle.prelude.proofs.Search.{Searching}
@@ -21,49 +19,15 @@ use Rattle.network.specs.Build.{letter, observation, scenarios, cells}
 use Rattle.network.specs.Scenario.{truth}
 use Rattle.network.specs.Strategy.{time}
 use Rattle.network.specs.declared.Network.{Network}
-use Rattle.names.specs.Names.{isLetter}
-use Rattle.names.proofs.Tokens.{letter-low, letter-from}
 use Rattle.names.proofs.Finds.{finds-on, finds-at, finds-end}
 use Rattle.checker.specs.Plain.{knownAfter}
 use Rattle.checker.proofs.Plain.{known-after-is}
 use Rattle.dispatch.specs.Due.{asHeard, dueIn, hasHeard}
-use Rattle.dispatch.specs.Said.{place, misnamed, withBit, saidOn, standsOn, asSaid, added, saidFrom}
+use Rattle.dispatch.specs.Said.{saidOn, standsOn, asSaid, added, saidFrom}
 use Rattle.dispatch.specs.Said.{recordsOn, wellNamedOn, dueOn}
-use Rattle.dispatch.specs.declared.Heard.{Heard}
 use Rattle.dispatch.specs.declared.Dispatched.the-variants.{Events, Misnamed, NeverHeard}
-use Rattle.dispatch.proofs.Bits.{mask-small}
-use Rattle.dispatch.proofs.Letters.{place-lt}
+use Rattle.dispatch.proofs.Bits.{one-shifted, mask-small}
 use Rattle.dispatch.proofs.Again.{named-from}
-
--- one bit, shifted: below the width nothing is lost
-pub one-shifted : (k w : ℕ) → k < w → (1 * 2 ^ k) % 2 ^ w ≡ 2 ^ k
-one-shifted k w h = shl-exact {a = 1} 1 k w (omega arith) (omega arith) ∙ one-mul (2 ^ k)
-
--- letters lie between two bytes, and each has a bit for either truth
-pub letter-between : (l : ℕ) → 97 ≤ l → l ≤ 122 → isLetter l ≡ true
-letter-between l h k = letter-from l h ∙ le-leb l 122 k
-
-pub not-letter : (l : ℕ) → (l < 97) ⊎ (122 < l) → isLetter l ≡ false
-not-letter l (inl h) = letter-low l h
-not-letter l (inr h) = letter-from l (omega arith) ∙ lt-leb l 122 h
-
-pub place-fits : (l : ℕ) (v : Bool) → isLetter l ≡ true → place l v < 64
-place-fits l v e = omega (arith, place-lt l v e)
-
--- one record more: with no letter, with one that stands already, and with one that does not
-module _ (x : ℕ) (h : Heard) where
-  pub added-other : isLetter (h .letter) ≡ false → withBit x misnamed ≡ added x h
-  unfolding added
-  added-other e = rw e
-
-  pub added-twice : standsOn x (h .letter) ≡ true → withBit x misnamed ≡ added x h
-  unfolding added
-  added-twice e = rw (e, and-false)
-
-  pub added-new : isLetter (h .letter) ≡ true → standsOn x (h .letter) ≡ false
-      → withBit x (place (h .letter) (h .truth)) ≡ added x h
-  unfolding added
-  added-new e d = rw (e, d)
 
 -- a test against a constant is the test or its negation
 beq-with-true : (b : Bool) → Bool·beq b true ≡ b

@@ -2,7 +2,7 @@
 -- z that does not stand in x, and none stands twice. One record more whose letter is free leaves the rest to fit as
 -- it did (`fits-added`), and one whose letter is not sets the bit `misnamed`. So by induction that bit is clear at
 -- the end just where it was in x and the list fits (`named-said`), and then the mask says what x said and what the
--- list says (`said-more`). Assumes nothing.
+-- list says (`said-more`); from the empty mask, what the list says (`said-says`). Assumes nothing.
 use mathlib.Core.Path.{_≡_, refl, sym, _∙_}
 use mathlib.Core.Logic.{inl, inr}
 use mathlib.Core.Bool.{Bool, true, false, _&&_, _||_, not, Bool·beq, and-assoc}
@@ -10,15 +10,16 @@ use mathlib.Core.Bool.{and-true as and-true-right, and-false as and-false-right,
 use mathlib.Core.List.{List, [], _∷_}
 use Prim.Native.Nat.{ℕ}
 use native.Mathlib.Omega.{arith}
+use borrow.Author.Tests.{not-true}
 use lib.Dec.{eqb}
 use Rattle.prelude.specs.Bytes.{isIn, every, distinct}
-use Rattle.prelude.proofs.Tests.{either, and-true}
+use Rattle.prelude.proofs.Tests.{either, and-true, eqb-same}
 use Rattle.network.specs.Scenario.{truth}
 use Rattle.names.specs.Names.{isLetter}
 use Rattle.dispatch.specs.Heard.{lettersOf, says}
 use Rattle.dispatch.specs.Said.{place, misnamed, withBit, saidOn, standsOn, added, saidFrom}
 use Rattle.dispatch.specs.declared.Heard.{Heard}
-use Rattle.dispatch.proofs.Letters.{truth-withBit, said-with, misnamed-with}
+use Rattle.dispatch.proofs.Letters.{nothing-said, unsaid, truth-withBit, said-with, misnamed-with}
 
 -- a letter that a record may add to the mask x, and the letters of a list that may
 abbrev pub free : ℕ → ℕ → Bool
@@ -28,7 +29,7 @@ abbrev pub fits : ℕ → List ℕ → Bool
 fits x ls = every (free x) ls && distinct ls
 
 -- with either truth, of a record with the truth v and of the others
-pub either-truth : (a b e v : Bool) → ((e && Bool·beq v true) || a) || ((e && Bool·beq v false) || b) ≡ e || (a || b)
+either-truth : (a b e v : Bool) → ((e && Bool·beq v true) || a) || ((e && Bool·beq v false) || b) ≡ e || (a || b)
 either-truth a b false v = refl
 either-truth a b true true = refl
 either-truth true b true false = refl
@@ -48,6 +49,14 @@ regroup true false c d = refl
 or-swap : (a b c : Bool) → (a || b) || c ≡ b || (a || c)
 or-swap true b c = sym (or-true-right b)
 or-swap false b c = refl
+
+-- a letter that is free is a letter, and is said with neither truth
+module _ (x l : ℕ) (f : free x l ≡ true) where
+  pub free-letter : isLetter l ≡ true
+  free-letter = and-true (isLetter l) (not (standsOn x l)) f .0
+
+  pub free-unsaid : (v : Bool) → saidOn x l v ≡ false
+  free-unsaid v = unsaid x l v (not-true (standsOn x l) (and-true (isLetter l) (not (standsOn x l)) f .1))
 
 -- what is free once the letter l stands
 module _ (x l : ℕ) (v : Bool) (e : isLetter l ≡ true) where
@@ -69,9 +78,13 @@ module _ (x l : ℕ) (v : Bool) (e : isLetter l ≡ true) where
 
 -- one record more
 module _ (x : ℕ) (h : Heard) where
-  misnamed-set : free x (h .letter) ≡ false → truth (added x h) misnamed ≡ true
+  pub added-other : free x (h .letter) ≡ false → added x h ≡ withBit x misnamed
   unfolding added
-  misnamed-set n = rw n (truth-withBit x misnamed misnamed (omega arith) (omega arith) ∙ or-true-right (truth x misnamed))
+  added-other n = rw n
+
+  misnamed-set : free x (h .letter) ≡ false → truth (added x h) misnamed ≡ true
+  misnamed-set n =
+      rw (added-other n) (truth-withBit x misnamed misnamed (omega arith) (omega arith) ∙ or-true-right (truth x misnamed))
 
   module _ (f : free x (h .letter) ≡ true) where
     pub added-free : added x h ≡ withBit x (place (h .letter) (h .truth))
@@ -79,7 +92,7 @@ module _ (x : ℕ) (h : Heard) where
     added-free = rw f
 
     letter : isLetter (h .letter) ≡ true
-    letter = and-true (isLetter (h .letter)) (not (standsOn x (h .letter))) f .0
+    letter = free-letter x (h .letter) f
 
     misnamed-kept : truth (added x h) misnamed ≡ truth x misnamed
     misnamed-kept = rw added-free (misnamed-with x (h .letter) (h .truth) letter)
@@ -110,7 +123,7 @@ fits-first x l ls w =
     and-true (free x l) (every (free x) ls) all .0
 
 -- what the mask says after a list that fits
-pub said-more : (x : ℕ) (hs : List Heard) (l : ℕ) (v : Bool) → isLetter l ≡ true → fits x (lettersOf hs) ≡ true
+said-more : (x : ℕ) (hs : List Heard) (l : ℕ) (v : Bool) → isLetter l ≡ true → fits x (lettersOf hs) ≡ true
     → saidOn (saidFrom x hs) l v ≡ saidOn x l v || says hs l v
 said-more x [] l v e w = sym (or-false-right (saidOn x l v))
 said-more x (h ∷ hs) l v e w =
@@ -118,3 +131,18 @@ said-more x (h ∷ hs) l v e w =
     let f = fits-first x (h .letter) ls w in
     said-more (added x h) hs l v e (fits-added x h f ls ∙ w)
     ∙ rw (said-added x h f l v e) (or-swap (eqb (h .letter) l && Bool·beq (h .truth) v) (saidOn x l v) (says hs l v))
+
+-- a letter stands in the list with one truth or the other
+says-either : (hs : List Heard) (l : ℕ) → says hs l true || says hs l false ≡ isIn l (lettersOf hs)
+says-either [] l = refl
+says-either (h ∷ hs) l =
+    either-truth (says hs l true) (says hs l false) (eqb (h .letter) l) (h .truth)
+    ∙ rw (eqb-same (h .letter) l l (h .letter) sym sym, says-either hs l)
+
+-- a list that fits the empty mask
+module _ (hs : List Heard) (w : fits 0 (lettersOf hs) ≡ true) where
+  pub said-says : (l : ℕ) (v : Bool) → isLetter l ≡ true → saidOn (saidFrom 0 hs) l v ≡ says hs l v
+  said-says l v e = said-more 0 hs l v e w ∙ rw (nothing-said l v)
+
+  pub stands-said : (l : ℕ) → isLetter l ≡ true → standsOn (saidFrom 0 hs) l ≡ isIn l (lettersOf hs)
+  stands-said l e = rw (said-says l true e, said-says l false e) (says-either hs l)

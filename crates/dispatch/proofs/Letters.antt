@@ -1,24 +1,36 @@
--- The bits of letters in a mask. Two letters with truths have one bit only where both agree, and none has the bit
--- `misnamed` (`place-same`, `place-lt`); so a letter that is added with a truth is said with it, and all else is as it
--- was (`said-with`, `misnamed-with`). The empty mask says nothing. Assumes nothing.
+-- Letters, which lie between two bytes, and their bits in a mask. Two letters with truths have one bit only where both
+-- agree, and none has the bit `misnamed` (`place-same`, `place-lt`); so a letter that is added with a truth is said
+-- with it, and all else is as it was (`said-with`, `misnamed-with`). The empty mask says nothing. Assumes nothing.
 use mathlib.Core.Path.{_≡_, sym, _∙_}
+use mathlib.Core.Logic.{_⊎_, inl, inr}
 use mathlib.Core.Bool.{Bool, true, false, _&&_, _||_, Bool·beq, or-comm}
 use mathlib.Core.Bool.{and-true as and-true-right, and-false as and-false-right, or-false as or-false-right}
-use Prim.Native.Nat.{ℕ, _-_, _^_, _≤_, _<_}
+use Prim.Native.Nat.{ℕ, _^_, _≤_, _<_}
 use native.Mathlib.Nat.{zero-div}
 use native.Mathlib.Omega.{arith}
-use borrow.Author.Tests.{ne-eqb}
+use borrow.Author.Tests.{le-leb, lt-leb, ne-eqb}
 use lib.Dec.{eqb}
-use Rattle.prelude.proofs.Tests.{eqb-same}
+use Rattle.prelude.proofs.Tests.{or-false, eqb-same}
 use Rattle.network.specs.Scenario.{truth}
 use Rattle.names.specs.Names.{isLetter}
-use Rattle.names.proofs.Tokens.{letter-bounds}
-use Rattle.dispatch.specs.Said.{place, misnamed, withBit, saidOn}
+use Rattle.names.proofs.Tokens.{letter-bounds, letter-low, letter-from}
+use Rattle.dispatch.specs.Said.{place, misnamed, withBit, saidOn, standsOn}
 use Rattle.dispatch.proofs.Bits.{truth-or, truth-power}
 
+pub letter-between : (l : ℕ) → 97 ≤ l → l ≤ 122 → isLetter l ≡ true
+letter-between l h k = letter-from l h ∙ le-leb l 122 k
+
+pub not-letter : (l : ℕ) → (l < 97) ⊎ (122 < l) → isLetter l ≡ false
+not-letter l (inl h) = letter-low l h
+not-letter l (inr h) = letter-from l (omega arith) ∙ lt-leb l 122 h
+
+-- each has a bit for either truth
 pub place-lt : (l : ℕ) (v : Bool) → isLetter l ≡ true → place l v < misnamed
 place-lt l true e = let h = letter-bounds l e in omega arith
 place-lt l false e = let h = letter-bounds l e in omega arith
+
+pub place-fits : (l : ℕ) (v : Bool) → isLetter l ≡ true → place l v < 64
+place-fits l v e = omega (arith, place-lt l v e)
 
 pub place-same : (l k : ℕ) (v w : Bool) → isLetter l ≡ true → isLetter k ≡ true
     → eqb (place l v) (place k w) ≡ eqb l k && Bool·beq v w
@@ -34,6 +46,11 @@ place-same l k v w e f = go v w (letter-bounds l e) (letter-bounds k f)
 
 pub nothing-said : (l : ℕ) (v : Bool) → saidOn 0 l v ≡ false
 nothing-said l v = rw (zero-div (2 ^ place l v))
+
+-- what does not stand is not said with either truth
+pub unsaid : (x l : ℕ) (v : Bool) → standsOn x l ≡ false → saidOn x l v ≡ false
+unsaid x l true e = or-false (saidOn x l true) (saidOn x l false) e .0
+unsaid x l false e = or-false (saidOn x l true) (saidOn x l false) e .1
 
 -- one bit more
 pub truth-withBit : (x j k : ℕ) → j < 64 → k < 64 → truth (withBit x j) k ≡ truth x k || eqb j k

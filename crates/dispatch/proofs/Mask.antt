@@ -2,55 +2,36 @@
 -- (`wellNamedOn-iff`). A defined letter is one of a to z, so that a list that is well named fits the empty mask. The
 -- records that a mask names are well named, and those of the mask of such a list make it again; and of two lists with
 -- one mask both are well named or neither, since the letters that stand are those of either (`wellNamed-same`). So a
--- list is well named where its mask is, and then the two searches for a case that has heard it are one
--- (`hearer-same`). Assumes nothing.
+-- list is well named where its mask is, and then the two searches for a case that has heard it are one (`hearer-same`
+-- in Answers.antt). Assumes nothing.
 use mathlib.Core.Path.{_≡_, refl, sym, _∙_, ap}
 use mathlib.Core.Logic.{_↔_, inl, inr}
-use mathlib.Core.Bool.{Bool, true, false, _||_, not}
-use mathlib.Core.List.{List, [], _∷_}
+use mathlib.Core.Bool.{Bool, true, false, not}
+use mathlib.Core.List.{List}
 use Prim.Native.Nat.{ℕ}
 use native.Mathlib.Omega.{arith}
 use borrow.Author.Tests.{eqb-true, eq-eqb}
-use lib.Dec.{eqb}
 use Rattle.prelude.specs.Bytes.{isIn, every, distinct}
-use Rattle.prelude.specs.Search.{when}
-use Rattle.prelude.proofs.Tests.{either, false-of-not-true, and-true, and-both, same-tests, eqb-same}
-use Rattle.prelude.proofs.Bounded.{allBelow-same}
+use Rattle.prelude.proofs.Tests.{either, false-of-not-true, and-true, and-both, same-tests}
 use Rattle.prelude.proofs.Bytes.{true-of-every, every-true}
-use Rattle.prelude.proofs.Search.{firstBelow-same}
-use Rattle.network.specs.Build.{letter, scenarios}
+use Rattle.network.specs.Build.{letter}
 use Rattle.network.specs.Scenario.{truth}
 use Rattle.network.specs.declared.Network.{Network}
 use Rattle.names.specs.Names.{isLetter}
 use Rattle.names.specs.Defined.{allDefined}
 use Rattle.names.proofs.Labels.{allDefined-every}
 use Rattle.dispatch.specs.Heard.{lettersOf, WellNamed, isWellNamed, says, Lettered}
-use Rattle.dispatch.specs.Due.{asHeard, hasHeard, hearer, dueFor, dueBy, due}
+use Rattle.dispatch.specs.Due.{dueFor, dueBy, due}
 use Rattle.dispatch.specs.Said.{misnamed, saidOn, standsOn, saidFrom, recordsOn, wellNamedOn, dueOn}
 use Rattle.dispatch.specs.declared.Heard.{Heard}
 use Rattle.dispatch.specs.declared.Dispatched.the-variants.{Misnamed}
 use Rattle.dispatch.proofs.Letters.{nothing-said}
 use Rattle.dispatch.proofs.Told.{isDefined, found-defined, well-named}
-use Rattle.dispatch.proofs.Answers.{due-misnamed}
+use Rattle.dispatch.proofs.Answers.{hearer-same, due-misnamed}
 use Rattle.dispatch.proofs.Records.{records-named}
-use Rattle.dispatch.proofs.Fold.{either-truth, free, fits, named-said, said-more}
+use Rattle.dispatch.proofs.Fold.{free, fits, free-letter, named-said, said-says, stands-said}
 use Rattle.dispatch.proofs.Again.{said-weights, named-nothing, named-again}
 use Rattle.dispatch.proofs.Core.{misnamed-on}
-
--- a letter stands in the list with one truth or the other
-says-either : (hs : List Heard) (l : ℕ) → says hs l true || says hs l false ≡ isIn l (lettersOf hs)
-says-either [] l = refl
-says-either (h ∷ hs) l =
-    either-truth (says hs l true) (says hs l false) (eqb (h .letter) l) (h .truth)
-    ∙ rw (eqb-same (h .letter) l l (h .letter) sym sym, says-either hs l)
-
--- a list that fits the empty mask
-module _ (hs : List Heard) (w : fits 0 (lettersOf hs) ≡ true) where
-  pub said-says : (l : ℕ) (v : Bool) → isLetter l ≡ true → saidOn (saidFrom 0 hs) l v ≡ says hs l v
-  said-says l v e = said-more 0 hs l v e w ∙ rw (nothing-said l v)
-
-  pub stands-said : (l : ℕ) → isLetter l ≡ true → standsOn (saidFrom 0 hs) l ≡ isIn l (lettersOf hs)
-  stands-said l e = rw (said-says l true e, said-says l false e) (says-either hs l)
 
 module _ (Γ : Network) (lettered : Lettered Γ) where
   letter-of-defined : (b : ℕ) → isDefined Γ b ≡ true → isLetter b ≡ true
@@ -104,7 +85,7 @@ module _ (Γ : Network) (lettered : Lettered Γ) where
     each-known : (b : ℕ) → isIn b (lettersOf rs) ≡ true → isDefined Γ b ≡ true
     each-known b i =
         let f = true-of-every (free 0) (lettersOf rs) (fitting .0) b i in
-        let a = and-true (isLetter b) (not (standsOn 0 b)) f .0 in
+        let a = free-letter 0 b f in
         let stands = ap (λ (x : ℕ). standsOn x b) same ∙ (stands-said rs fits-same b a ∙ i) in
         each-defined hs e b (sym (stands-said hs (fits-of-wellNamed hs e) b a) ∙ stands)
 
@@ -128,15 +109,6 @@ module _ (Γ : Network) (lettered : Lettered Γ) where
       let w = wellNamedOn-iff (saidFrom 0 hs) .0 e in
       wellNamed-same (w .0) hs (well-named Γ (w .0) .1 (w .2)) (w .1))
       (λ e. wellNamedOn-iff (saidFrom 0 hs) .1 (hs, refl, well-named Γ hs .0 e))
-
-  -- searches by what is said alike of each letter
-  hearer-same : (σ : List ℕ) (m : ℕ) (f g : ℕ → Bool → Bool) → ((l : ℕ) (v : Bool) → isLetter l ≡ true → f l v ≡ g l v)
-      → hearer Γ σ m f ≡ hearer Γ σ m g
-  hearer-same σ m f g h =
-      firstBelow-same (λ s. when (hasHeard Γ σ m f s) s) (λ s. when (hasHeard Γ σ m g s) s)
-      (scenarios Γ) λ s k.
-      ap (λ (t : Bool). when t s) (allBelow-same (asHeard Γ σ m f s) (asHeard Γ σ m g s) (Γ .signals) λ p l.
-      let e = lettered .lower p l in rw (h (letter Γ p) true e, h (letter Γ p) false e))
 
 -- what is due by the mask of a list is what is due by the list
 pub due-said : (Γ : Network) (σ : List ℕ) (m : ℕ) (hs : List Heard) → Lettered Γ → dueOn Γ σ m (saidFrom 0 hs) ≡ due Γ σ m hs

@@ -1,27 +1,17 @@
 -- A sheet that is the text of contents which keep the layout's rules is read to its end, and the network holds these
 -- contents. Assumes nothing.
-use mathlib.Core.Path.{_≡_, refl, ap}
+use mathlib.Core.Path.{_≡_, refl, _∙_, ap}
 use mathlib.Core.List.{List, [], _++_}
 use Prim.Native.Nat.{ℕ, _≤_, zero-le}
-use borrow.Author.Tests.{le-leb}
 use lib.ListN.{length, drop}
 use Rattle.text.specs.Lines.{afterLine}
 use Rattle.network.specs.Limits as L
 use Rattle.network.specs.Build.{empty}
 use Rattle.network.specs.declared.Network.{Network}
 use Rattle.line.specs.Rows.{sectionCount}
-use Rattle.sheet.specs.Reading.{
-  longest,
-  Progress,
-  Go,
-  andThen,
-  readHorizon,
-  readEvents,
-  readSignals,
-  readRules,
-  readEnd,
-  progress,
-}
+use Rattle.sheet.specs.Reading.{Progress, Go, andThen, readHorizon, readEvents, readSignals, readRules, readEnd}
+use Rattle.sheet.specs.Reading.{progress}
+use Rattle.sheet.proofs.Whole.{toEvents, toSignals, toRules, toEnd, in-length}
 use Rattle.layout.specs.Layout.{Signal, Rule, Contents, Keeps, Layout, textOf}
 use Rattle.layout.proofs.Numbers.{magnitude-decimal}
 use Rattle.layout.specs.Contains.{Contains}
@@ -38,9 +28,6 @@ use Rattle.layout.proofs.Text.{
   eventsText,
   signalsText,
   rulesText,
-  toEvents,
-  toSignals,
-  toRules,
   apart,
   end-reads,
   on,
@@ -104,7 +91,7 @@ module _ (sheet : List ℕ) (h : ℕ) (ns : List (List ℕ)) (xs : List Signal) 
       (section-reads (rules-understood sheet h ns xs) "rules" 0 (r .network) (r .at) (r .number) (r .held)
       refl rs rest kept zero-le few (r .behind))
 
-  end-read : AtRules (toRules sheet) rs [] → AtRules (andThen (toRules sheet) (readEnd sheet)) rs []
+  end-read : AtRules (toRules sheet) rs [] → AtRules (toEnd sheet) rs []
   end-read r = record {
     network = r .network;
     at = r .at;
@@ -117,7 +104,7 @@ module _ (sheet : List ℕ) (h : ℕ) (ns : List (List ℕ)) (xs : List Signal) 
   }
 
   sections-read : Keeps (contents h ns xs rs) → sheet ≡ textOf (contents h ns xs rs)
-      → AtRules (andThen (toRules sheet) (readEnd sheet)) rs []
+      → AtRules (toEnd sheet) rs []
   sections-read k t =
       end-read
       (rules-read [] (k .rules) (k .few-rules)
@@ -137,7 +124,6 @@ pub record IsRead (sheet : List ℕ) (c : Contents) : Type 0 where
   pub held : Contains sheet network c
 
 pub layout-read : (sheet : List ℕ) (l : Layout sheet) → IsRead sheet (l .contents)
-unfolding progress
 layout-read sheet l =
     let c = l .contents in
     let r = sections-read sheet (c .horizon) (c .names) (c .signals) (c .rules) (l .keeps) (l .written) in
@@ -145,6 +131,6 @@ layout-read sheet l =
       network = r .network;
       at = r .at;
       number = r .number;
-      goes = rw (le-leb (length sheet) longest (l .short), progress) (r .goes);
+      goes = in-length sheet (l .short) ∙ r .goes;
       held = r .held .holds;
     }

@@ -1,24 +1,19 @@
 -- The lines of a section, whatever they hold: where a line of one thing is understood, so many lines are. Assumes
 -- nothing.
 use mathlib.Core.Path.{_≡_, refl, sym, _∙_, ap}
-use mathlib.Core.Logic.{inl, inr}
-use mathlib.Core.Bool.{true}
 use mathlib.Core.Option.{Option, none}
 use mathlib.Core.List.{List, [], _∷_, _++_, append-nil, append-assoc, map}
 use Prim.Native.Nat.{ℕ, zero, suc, _+_, _≤_, _<_}
 use native.Mathlib.Omega.{arith}
 use lib.ListN.{length, drop, length-append}
 use lib.Seq.{append-snoc}
-use Rattle.prelude.proofs.Search.{some-or-none}
-use Rattle.prelude.proofs.Tests.{either}
-use Rattle.text.specs.Lines.{lineAt, endsAt, afterLine, fields}
+use Rattle.text.specs.Lines.{lineAt, afterLine, fields}
 use Rattle.refusal.specs.Refusal.{refusal}
 use Rattle.refusal.specs.declared.Cause.{Cause}
-use Rattle.refusal.specs.declared.Cause.the-variants.{MissingLine}
-use Rattle.refusal.specs.declared.Refusal.{Refusal}
 use Rattle.network.specs.declared.Network.{Network}
 use Rattle.line.specs.Rows.{Row}
-use Rattle.sheet.specs.Reading.{Progress, Stop, Go, readLine, readRows}
+use Rattle.sheet.specs.Reading.{Progress, Go, readLine, readRows}
+use Rattle.sheet.proofs.Rows.{went}
 use Rattle.layout.specs.Layout.{line, lines}
 use Rattle.layout.proofs.Lines.{Plain, IsRead, is-read, line-read}
 
@@ -32,25 +27,6 @@ pub record Understood (sheet : List ℕ) (row : Row) (hi : ℕ) {X : Type 0} (fi
   pub plain : {Γ : Network} {xs : List X} → Held Γ xs → (x : X) → May xs x → Plain (first x ∷ others x)
   pub adds : {Γ : Network} {xs : List X} → Held Γ xs → (x : X) → May xs x → length xs < hi → (at : ℕ) (rest : List ℕ)
       → drop at sheet ≡ line (first x) (others x) ++ rest → Held (row .add Γ at (first x ∷ others x)) (xs ++ x ∷ [])
-
-module _ {Γ : Network} {at k : ℕ} where
-  -- what stops does not go on
-  pub stops {ℓ} : {A : Type ℓ} (r : Refusal) → Stop r ≡ Go Γ at k → A
-  stops r e = absurd (let z : _≡_ {A = ℕ} 0 1 = cc in omega arith)
-
-  -- a line that is passed
-  pub readLine-passed : (sheet : List ℕ) (place number : ℕ) (refuses : List (List ℕ) → Option Cause)
-      (next : List (List ℕ) → Progress) → readLine sheet place number refuses next ≡ Go Γ at k
-      → (endsAt sheet place ≡ true) × (refuses (fields (lineAt sheet place)) ≡ none)
-      × (next (fields (lineAt sheet place)) ≡ Go Γ at k)
-  readLine-passed sheet place number refuses next g =
-      elim (either (endsAt sheet place)) [
-        | inl e ↦ elim (some-or-none (refuses (fields (lineAt sheet place)))) [
-          | inl r ↦ stops (refusal (r .0) number) (rw (e, readLine, r .1) at g)
-          | inr r ↦ (e, r, rw (e, readLine, r) at g)
-        ]
-        | inr e ↦ stops (refusal MissingLine number) (rw (e, readLine) at g)
-      ]
 
 pub readLine-passes : (sheet : List ℕ) (at k : ℕ) (refuses : List (List ℕ) → Option Cause) (next : List (List ℕ) → Progress)
     (fs : List (List ℕ)) (rest : List ℕ) (p : Progress) → IsRead sheet at fs rest → refuses fs ≡ none → next fs ≡ p
@@ -110,16 +86,16 @@ module _ {sheet : List ℕ} {row : Row} {hi : ℕ} {X : Type 0} {first : X → L
         held = rw (append-nil xs, ← same-network) h;
       }
   rows-read (suc m) Γ xs at k h few Δ end number g =
-      let p = readLine-passed sheet at k (row .refusal Γ) (next m Γ at k) g in
-      let r = w .reads h (fields (lineAt sheet at)) (p .1) in
+      let p = went sheet at k (row .refusal Γ) (next m Γ at k) Δ end number g in
+      let r = w .reads h (fields (lineAt sheet at)) (p .passed .accepted) in
       let x = r .0 in
       let behind = drop (afterLine sheet at) sheet in
-      let t : drop at sheet ≡ text x ++ behind = rw (r .1) at (line-read sheet at (p .0)) in
+      let t : drop at sheet ≡ text x ++ behind = rw (r .1) at (line-read sheet at (p .passed .ends)) in
       let held = w .adds h x (r .2) (omega arith) at behind t in
       let few-left : length (xs ++ x ∷ []) + m ≤ hi = omega (arith, length-append xs (x ∷ [])) in
       let on =
       rows-read m (row .add Γ at (first x ∷ others x)) (xs ++ x ∷ []) (afterLine sheet at) (suc k) held few-left Δ end number
-      (rw (r .1) at (p .2)) in
+      (rw (r .1) at (p .then)) in
       record {
         items = x ∷ on .items;
         count = omega (arith, on .count);

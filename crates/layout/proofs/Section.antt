@@ -19,27 +19,14 @@ use Rattle.text.specs.Decimal.{decimal}
 use Rattle.network.specs.declared.Network.{Network}
 use Rattle.line.specs.Rows.{Row, sectionTests, sectionRefusal, sectionCount}
 use Rattle.sheet.specs.Reading.{Progress, Go, readLine, readRows, readSection}
+use Rattle.sheet.proofs.Rows.{went}
 use Rattle.layout.specs.Layout.{line, lines, section}
 use Rattle.layout.proofs.Checks.{_&_}
 use Rattle.layout.proofs.Lines.{plain, lineOf, is-read, line-read}
-use Rattle.layout.proofs.Numbers.{
-  isNumber-decimal,
-  magnitude-decimal,
-  inRange-decimal,
-  plain-decimal,
-  decimal-magnitude,
-}
+use Rattle.layout.proofs.Numbers.{isNumber-decimal, magnitude-decimal, inRange-decimal, plain-decimal}
+use Rattle.layout.proofs.Numbers.{decimal-magnitude}
 use Rattle.prelude.proofs.Lists.{all-of}
-use Rattle.layout.proofs.Row.{
-  Understood,
-  rows-read,
-  Reads,
-  rows-reads,
-  readLine-passed,
-  readLine-passes,
-  joins,
-  parts,
-}
+use Rattle.layout.proofs.Row.{Understood, rows-read, Reads, rows-reads, readLine-passes, joins, parts}
 
 -- a count from lo to hi, behind its word
 module _ (word : String) (lo hi : ℕ) where
@@ -74,14 +61,15 @@ module _ (sheet : List ℕ) (word : String) (lo hi at k : ℕ) (next : List (Lis
   pub count-line-read : (Δ : Network) (end number : ℕ) → readLine sheet at k (sectionRefusal word lo hi) next ≡ Go Δ end number
       → CountRead Δ end number
   count-line-read Δ end number g =
-      let p = readLine-passed sheet at k (sectionRefusal word lo hi) next g in
-      let c = count-read word lo hi (fields (lineAt sheet at)) (p .1) in
+      let p = went sheet at k (sectionRefusal word lo hi) next Δ end number g in
+      let c = count-read word lo hi (fields (lineAt sheet at)) (p .passed .accepted) in
       record {
         fs = fields (lineAt sheet at);
         low = c .1;
         high = c .2;
-        text = line-read sheet at (p .0) ∙ ap (λ (fs : List (List ℕ)). lineOf fs ++ drop (afterLine sheet at) sheet) (c .0);
-        then = p .2;
+        text = line-read sheet at (p .passed .ends)
+            ∙ ap (λ (fs : List (List ℕ)). lineOf fs ++ drop (afterLine sheet at) sheet) (c .0);
+        then = p .then;
       }
 
   pub count-line-reads : every plain (ascii word) ≡ true → (n : ℕ) (rest : List ℕ) → lo ≤ n → n ≤ hi

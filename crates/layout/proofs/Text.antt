@@ -1,5 +1,5 @@
 -- The parts of a sheet's text, and the steps of the reading, one behind the other. Assumes nothing.
-use mathlib.Core.Path.{_≡_, refl, _∙_, ap}
+use mathlib.Core.Path.{_≡_, _∙_, ap}
 use mathlib.Core.Logic.{inl, inr}
 use mathlib.Core.List.{List, [], _∷_, _++_, append-nil, append-assoc, map}
 use Prim.Native.Nat.{ℕ, _≤_}
@@ -13,9 +13,10 @@ use Rattle.text.specs.Decimal.{decimal}
 use Rattle.refusal.specs.Refusal.{refusal}
 use Rattle.refusal.specs.declared.Cause.the-variants.{TrailingBytes}
 use Rattle.network.specs.declared.Network.{Network}
-use Rattle.sheet.specs.Reading.{Progress, Stop, Go, andThen, readHorizon, readEvents, readSignals, readRules, readEnd}
+use Rattle.sheet.specs.Reading.{Progress, Go, andThen, readEnd}
+use Rattle.sheet.proofs.Rows.{stop-not-go}
 use Rattle.layout.specs.Layout.{Signal, Rule, line, section, signalLine, ruleLine}
-use Rattle.layout.proofs.Row.{stops, joins}
+use Rattle.layout.proofs.Row.{joins}
 
 abbrev pub horizonText : ℕ → List ℕ
 horizonText h = line (ascii "horizon") (decimal h ∷ [])
@@ -28,16 +29,6 @@ signalsText xs = section "signals" (map signalLine xs)
 
 abbrev pub rulesText : List Rule → List ℕ
 rulesText rs = section "rules" (map ruleLine rs)
-
--- the reading as far as each section
-abbrev pub toEvents : List ℕ → Progress
-toEvents sheet = andThen (readHorizon sheet) (readEvents sheet)
-
-abbrev pub toSignals : List ℕ → Progress
-toSignals sheet = andThen (toEvents sheet) (readSignals sheet)
-
-abbrev pub toRules : List ℕ → Progress
-toRules sheet = andThen (toSignals sheet) (readRules sheet)
 
 module _ (sheet : List ℕ) where
   -- four texts in a row, and nothing behind
@@ -57,7 +48,7 @@ module _ (sheet : List ℕ) where
     pub end-read : (Δ : Network) (end number : ℕ) → readEnd sheet Γ at k ≡ Go Δ end number → drop at sheet ≡ []
     end-read Δ end number g =
         elim (either (ltb at (length sheet))) [
-          | inl e ↦ stops (refusal TrailingBytes k) (rw (e, readEnd) at g)
+          | inl e ↦ stop-not-go (refusal TrailingBytes k) Δ end number (rw (e, readEnd) at g)
           | inr e ↦ drop-of-length-le sheet (ltb-false at (length sheet) e)
         ]
 
@@ -66,19 +57,7 @@ module _ (sheet : List ℕ) where
         let h : length sheet ≤ at = omega (arith, ap length e, length-drop at sheet) in
         rw (le-ltb at (length sheet) h, readEnd)
 
--- a step and the one behind it
-pub record Steps (p : Progress) (next : Network → ℕ → ℕ → Progress) (Γ : Network) (at k : ℕ) : Type 0 where
-  pub network : Network
-  pub place : ℕ
-  pub number : ℕ
-  pub before : p ≡ Go network place number
-  pub then : next network place number ≡ Go Γ at k
-
-pub steps : (p : Progress) (next : Network → ℕ → ℕ → Progress) (Γ : Network) (at k : ℕ) → andThen p next ≡ Go Γ at k
-    → Steps p next Γ at k
-steps (Stop r) next Γ at k e = stops r e
-steps (Go Δ place number) next Γ at k e = record { network = Δ; place = place; number = number; before = refl; then = e }
-
+-- a step behind another
 pub on : (p : Progress) (next : Network → ℕ → ℕ → Progress) (Γ : Network) (at k : ℕ) (q : Progress) → p ≡ Go Γ at k
     → next Γ at k ≡ q → andThen p next ≡ q
 on p next Γ at k q e f = ap (λ (r : Progress). andThen r next) e ∙ f

@@ -1,25 +1,20 @@
 -- A sheet that is read to its end is the text of what was read: a horizon, names, signals and rules that keep the
 -- layout's rules. Assumes nothing.
 use mathlib.Core.Path.{_≡_, _∙_, ap}
-use mathlib.Core.Logic.{inl, inr}
 use mathlib.Core.List.{List, [], _++_}
 use Prim.Native.Nat.{ℕ, _≤_}
-use borrow.Author.Tests.{leb-true}
-use lib.Dec.{leb}
 use lib.ListN.{length, drop}
-use Rattle.prelude.proofs.Tests.{either}
 use Rattle.text.specs.Lines.{afterLine}
-use Rattle.refusal.specs.Refusal.{refusal}
-use Rattle.refusal.specs.declared.Cause.the-variants.{TooLong}
 use Rattle.network.specs.Limits as L
 use Rattle.network.specs.Build.{empty}
 use Rattle.network.specs.declared.Network.{Network}
 use Rattle.line.specs.Rows.{sectionCount}
-use Rattle.sheet.specs.Reading.{longest, Go, andThen, readHorizon, readEvents, readSignals, readRules, readEnd, progress}
+use Rattle.sheet.specs.Reading.{longest, Go, readHorizon, readEvents, readSignals, readRules, readEnd, progress}
+use Rattle.sheet.proofs.Rows.{Came, came}
+use Rattle.sheet.proofs.Whole.{toEvents, toSignals, toRules, toEnd, within-length}
 use Rattle.layout.specs.Layout.{Signal, Contents, Keeps, Layout, line, signalLine, ruleLine}
 use Rattle.layout.proofs.Extends.{contents}
 use Rattle.layout.proofs.Stands.{Stands, empty-stands}
-use Rattle.layout.proofs.Row.{stops}
 use Rattle.layout.proofs.Events.{events-understood}
 use Rattle.layout.proofs.Signals.{signals-understood}
 use Rattle.layout.proofs.Rules.{rules-understood}
@@ -29,13 +24,8 @@ use Rattle.layout.proofs.Text.{
   eventsText,
   signalsText,
   rulesText,
-  toEvents,
-  toSignals,
-  toRules,
   in-a-row,
   end-read,
-  Steps,
-  steps,
 }
 
 -- contents that stand in a network keep the rules, where there are not too few or too many of anything
@@ -124,26 +114,21 @@ module _ (sheet : List ℕ) where
 
   -- the steps, the last one first
   module _ (short : length sheet ≤ longest) (Γ : Network) (at k : ℕ) where
-    by-steps : (d : Steps (toRules sheet) (readEnd sheet) Γ at k)
-        (c : Steps (toSignals sheet) (readRules sheet) (d .network) (d .place) (d .number))
-        (b : Steps (toEvents sheet) (readSignals sheet) (c .network) (c .place) (c .number))
-        → Steps (readHorizon sheet) (readEvents sheet) (b .network) (b .place) (b .number) → Layout sheet
+    by-steps : (d : Came (toRules sheet) (readEnd sheet) (Go Γ at k))
+        (c : Came (toSignals sheet) (readRules sheet) (Go (d .network) (d .at) (d .line)))
+        (b : Came (toEvents sheet) (readSignals sheet) (Go (c .network) (c .at) (c .line)))
+        → Came (readHorizon sheet) (readEvents sheet) (Go (b .network) (b .at) (b .line)) → Layout sheet
     by-steps d c b a =
-        from-horizon short (end-read sheet (d .network) (d .place) (d .number) Γ at k (d .then))
-        (horizon-read (a .network) (a .place) (a .number) (a .before))
-        (a .number) (b .number) (c .number) (d .number) (a .then) (b .then) (c .then)
+        from-horizon short (end-read sheet (d .network) (d .at) (d .line) Γ at k (d .then))
+        (horizon-read (a .network) (a .at) (a .line) (a .first))
+        (a .line) (b .line) (c .line) (d .line) (a .then) (b .then) (c .then)
 
-    sections-written : andThen (toRules sheet) (readEnd sheet) ≡ Go Γ at k → Layout sheet
+    sections-written : toEnd sheet ≡ Go Γ at k → Layout sheet
     sections-written e =
-        let d = steps (toRules sheet) (readEnd sheet) Γ at k e in
-        let c = steps (toSignals sheet) (readRules sheet) (d .network) (d .place) (d .number) (d .before) in
-        let b = steps (toEvents sheet) (readSignals sheet) (c .network) (c .place) (c .number) (c .before) in
-        by-steps d c b (steps (readHorizon sheet) (readEvents sheet) (b .network) (b .place) (b .number) (b .before))
+        let d = came (toRules sheet) (readEnd sheet) Γ at k e in
+        let c = came (toSignals sheet) (readRules sheet) (d .network) (d .at) (d .line) (d .first) in
+        let b = came (toEvents sheet) (readSignals sheet) (c .network) (c .at) (c .line) (c .first) in
+        by-steps d c b (came (readHorizon sheet) (readEvents sheet) (b .network) (b .at) (b .line) (b .first))
 
   pub layout-of : (Γ : Network) (at k : ℕ) → progress sheet ≡ Go Γ at k → Layout sheet
-  unfolding progress
-  layout-of Γ at k g =
-      elim (either (leb (length sheet) longest)) [
-        | inl e ↦ sections-written (leb-true (length sheet) longest e) Γ at k (rw (e, progress) at g)
-        | inr e ↦ stops (refusal TooLong 0) (rw (e, progress) at g)
-      ]
+  layout-of Γ at k g = let w = within-length sheet Γ at k g in sections-written (w .0) Γ at k (w .1)

@@ -1,15 +1,13 @@
--- The reading comes as far as each line holds its tests, and stops at the first of which one fails. Assumes nothing.
+-- The reading comes as far as each line holds its tests, and stops at the first of which one fails: a line, the lines
+-- of a section, and the sections one behind the other. Assumes nothing.
 use mathlib.Core.Path.{_≡_, refl, sym, ap}
 use mathlib.Core.Logic.{inl, inr}
 use mathlib.Core.Bool.{Bool, true, false}
 use mathlib.Core.Option.{Option, none, some}
 use mathlib.Core.List.{List, _∷_}
-use Prim.Native.Nat.{ℕ, zero, suc, _≤_, _<_}
+use Prim.Native.Nat.{ℕ, zero, suc, _<_}
 use Prim.Native.String.{String}
 use native.Mathlib.Omega.{arith}
-use borrow.Author.Tests.{leb-true, leb-false, ltb-false}
-use lib.Dec.{leb, ltb}
-use lib.ListN.{length}
 use Rattle.prelude.specs.Checks.{firstFailing, Hold, FirstFails}
 use Rattle.prelude.proofs.Checks.{hold, first-fails}
 use Rattle.prelude.proofs.Tests.{lt-or-ge}
@@ -24,15 +22,13 @@ use Rattle.line.specs.Rows.{Tests, sectionTests, sectionRefusal, sectionCount, 
 use Rattle.line.specs.Sections.{headingOf, rowsOf, testsOf}
 use Rattle.line.specs.declared.Section.{Section}
 use Rattle.line.specs.declared.Section.the-variants.{Events, Signals, Rules}
-use Rattle.sheet.specs.Reading.{longest, Progress, Stop, Go, andThen, readRows, readHorizon, readEvents, readSignals}
-use Rattle.sheet.specs.Reading.{readRules, readEnd, progress, answered, read}
+use Rattle.sheet.specs.Reading.{Progress, Stop, Go, andThen, readRows, readHorizon, readEvents, readSignals}
+use Rattle.sheet.specs.Reading.{readRules}
 use Rattle.sheet.specs.Sections.{readOf}
 use Rattle.sheet.specs.Place.{Due, Horizon, Heading, Entry, NoMore, behind, entries, Place, testsAt, dueAfter, definedAfter}
 use Rattle.sheet.specs.Place.{next, place, tests}
-use Rattle.sheet.specs.Fault.{FirstFault, Fault}
-use Rattle.sheet.specs.declared.Outcome.{Outcome}
-use Rattle.sheet.specs.declared.Outcome.the-variants.{Accepted, Refused}
-use Rattle.sheet.proofs.Over.{all-hold}
+use Rattle.sheet.specs.Fault.{FirstFault}
+use Rattle.sheet.proofs.Whole.{toEvents, toSignals, toRules}
 
 -- the refusal of a line is its first test to fail
 section-refusal : (word : String) (lo hi : ℕ) (fs : List (List ℕ)) → sectionRefusal word lo hi fs ≡ firstFailing (sectionTests word lo hi fs)
@@ -48,14 +44,14 @@ row-refusal sheet Rules Γ fs = refl
 
 module _ (sheet : List ℕ) where
   -- line k begins at this place, and the lines above it pass
-  record At (d : Due) (Γ : Network) (at k : ℕ) : Type 0 where
-    above : ℕ
-    number : k ≡ suc above
-    is : place sheet above ≡ record { due = d; network = Γ; at = at }
-    pass : (j : ℕ) → j < above → Hold (tests sheet j)
+  pub record At (d : Due) (Γ : Network) (at k : ℕ) : Type 0 where
+    pub above : ℕ
+    pub number : k ≡ suc above
+    pub is : place sheet above ≡ record { due = d; network = Γ; at = at }
+    pub pass : (j : ℕ) → j < above → Hold (tests sheet j)
 
   -- the reading has come so far, or it has stopped at the first fault
-  abbrev Comes : Due → Progress → Type 0
+  abbrev pub Comes : Due → Progress → Type 0
   Comes d (Stop r) = FirstFault sheet r
   Comes d (Go Γ at k) = At d Γ at k
 
@@ -63,7 +59,7 @@ module _ (sheet : List ℕ) where
     own-tests : tests sheet (a .above) ≡ testsAt sheet d Γ at
     own-tests = ap (λ (p : Place). testsAt sheet (p .due) (p .network) (p .at)) (a .is)
 
-    stops : (c : Cause) → FirstFails (testsAt sheet d Γ at) c → FirstFault sheet (refusal c k)
+    pub stops : (c : Cause) → FirstFails (testsAt sheet d Γ at) c → FirstFault sheet (refusal c k)
     stops c f = record { above = a .above; line = a .number; pass = a .pass; fault = rw own-tests f }
 
     holds : Hold (testsAt sheet d Γ at) → (j : ℕ) → j < suc (a .above) → Hold (tests sheet j)
@@ -127,52 +123,11 @@ module _ (sheet : List ℕ) where
   then-comes d e (Stop r) f c g = c
   then-comes d e (Go Γ at k) f c g = g Γ at k c
 
-  abbrev toEvents : Progress
-  toEvents = andThen (readHorizon sheet) (readEvents sheet)
-
-  abbrev toSignals : Progress
-  toSignals = andThen toEvents (readSignals sheet)
-
-  abbrev toRules : Progress
-  toRules = andThen toSignals (readRules sheet)
-
-  sections-come : Comes NoMore toRules
+  pub sections-come : Comes NoMore (toRules sheet)
   sections-come =
-      let events = then-comes (Heading Events) (Heading Signals) (readHorizon sheet) (readEvents sheet) horizon-comes (section-comes Events) in
-      let signals = then-comes (Heading Signals) (Heading Rules) toEvents (readSignals sheet) events (section-comes Signals) in
-      then-comes (Heading Rules) NoMore toSignals (readRules sheet) signals (section-comes Rules)
-
-  -- at its end: the first fault, or none
-  abbrev Ends : Progress → Type 0
-  Ends (Stop r) = FirstFault sheet r
-  Ends (Go Γ at k) = (j : ℕ) → Hold (tests sheet j)
-
-  end-comes : (Γ : Network) (at k : ℕ) → At NoMore Γ at k → Ends (readEnd sheet Γ at k)
-  end-comes Γ at k a = by-bytes (ltb at (length sheet)) refl
-    where
-      by-bytes : (b : Bool) → ltb at (length sheet) ≡ b
-          → Ends (elim b as (λ _. Progress) [ true ↦ Stop (refusal C.TrailingBytes k) | false ↦ Go Γ at k ])
-      by-bytes true e = stops NoMore Γ at k a C.TrailingBytes (inl (rw e, refl))
-      by-bytes false e = all-hold sheet (a .above) (rw (a .is) (record { over = refl; end = ltb-false at (length sheet) e })) (a .pass)
-
-  then-ends : (p : Progress) → Comes NoMore p → Ends (andThen p (readEnd sheet))
-  then-ends (Stop r) c = c
-  then-ends (Go Γ at k) c = end-comes Γ at k c
-
-  -- of the whole sheet
-  abbrev pub Answers : Outcome → Type 0
-  Answers (Refused r) = Fault sheet r
-  Answers Accepted = (length sheet ≤ longest) × ((j : ℕ) → Hold (tests sheet j))
-
-  pub answers : Answers (read sheet .outcome)
-  unfolding progress
-  answers = by-length (leb (length sheet) longest) refl
-    where
-      ended : (p : Progress) → length sheet ≤ longest → Ends p → Answers (answered p .outcome)
-      ended (Stop r) l e = inr (l, e)
-      ended (Go Γ at k) l e = (l, e)
-
-      by-length : (b : Bool) → leb (length sheet) longest ≡ b
-          → Answers (answered (elim b as (λ _. Progress) [ false ↦ Stop (refusal C.TooLong 0) | true ↦ andThen toRules (readEnd sheet) ]) .outcome)
-      by-length false e = inl (leb-false (length sheet) longest e, refl)
-      by-length true e = ended (andThen toRules (readEnd sheet)) (leb-true (length sheet) longest e) (then-ends toRules sections-come)
+      then-comes (Heading Rules) NoMore (toSignals sheet) (readRules sheet)
+      (then-comes (Heading Signals) (Heading Rules) (toEvents sheet) (readSignals sheet)
+      (then-comes (Heading Events) (Heading Signals) (readHorizon sheet) (readEvents sheet) horizon-comes
+      (section-comes Events))
+      (section-comes Signals))
+      (section-comes Rules)

@@ -11,18 +11,14 @@ use Rattle.prelude.proofs.Tests.{lt-or-ge, eq-or-ne}
 use Rattle.refusal.specs.Refusal.{numberOf}
 use Rattle.refusal.specs.declared.Cause.{Cause}
 use Rattle.refusal.specs.declared.Refusal.{Refusal}
-use Rattle.network.specs.declared.Network.{Network}
-use Rattle.sheet.specs.Reading.{longest}
-use Rattle.sheet.specs.Reading.{read}
-use Rattle.sheet.specs.Place.{Place}
+use Rattle.sheet.specs.Reading.{longest, read}
 use Rattle.sheet.specs.Place.{place, tests}
-use Rattle.sheet.specs.Order.{Fails}
-use Rattle.sheet.specs.Fault.{FirstFault, Fault}
+use Rattle.sheet.specs.Fault.{FirstFault, Fails, Fault}
 use Rattle.sheet.specs.declared.Outcome.{Outcome}
 use Rattle.sheet.specs.declared.Outcome.the-variants.{Accepted, Refused}
 use Rattle.sheet.proofs.Order.{first-fails-between, first-fails-lowest, tests-in-order}
 use Rattle.sheet.proofs.Over.{over-holds, lines-inside}
-use Rattle.sheet.proofs.Comes.{Answers, answers}
+use Rattle.sheet.proofs.Answers.{Answers, answers}
 
 module _ (sheet : List ℕ) where
   -- a sheet has one first fault: its line and its cause

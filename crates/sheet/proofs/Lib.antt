@@ -1,8 +1,9 @@
--- Laws of the sheet's definitions, in reading order: places and a line's tests; what each line keeps; the lines of a
--- section; the whole sheet; its first line at fault; and examples.
+-- Laws of the sheet's definitions, in reading order: places, a line's tests, and the reading by lines and sections;
+-- what each line keeps; the lines of a section; the whole sheet; its first line at fault; and examples.
 pub mod Places
 pub mod RowTests
 pub mod Rows
+pub mod Whole
 pub mod Arrays
 pub mod Stages
 pub mod SignalStage
@@ -14,5 +15,6 @@ pub mod Sections
 pub mod Order
 pub mod Over
 pub mod Comes
+pub mod Answers
 pub mod Fault
 pub mod Examples

@@ -13,7 +13,7 @@ use Rattle.network.specs.Limits as L
 use Rattle.network.specs.Build.{withEvent}
 use Rattle.network.specs.declared.Network.{Network}
 use Rattle.names.specs.Found.{NamesIn}
-use Rattle.line.specs.Rows.{eventRefusal}
+use Rattle.line.specs.Rows.{eventTests, eventRefusal}
 use Rattle.line.specs.Sections.{rowsOf}
 use Rattle.line.specs.Answers.{entryOf, added}
 use Rattle.line.specs.declared.Section.{Section}
@@ -24,7 +24,6 @@ use Rattle.line.specs.declared.row.Row.the-variants as R
 use Rattle.line.proofs.Checks.{all-hold}
 use Rattle.line.proofs.Answered.{row-answer-refused, row-answer, answerAt, row-at}
 use Rattle.sheet.proofs.Places.{line-inside, only-field}
-use Rattle.sheet.proofs.RowTests.{eventTests}
 use Rattle.sheet.specs.Reading.{Progress, Stop}
 use Rattle.sheet.specs.Stage.{ToCome, Stage}
 use Rattle.sheet.proofs.Rows.{refusalAt, Passes, passes}

@@ -12,8 +12,13 @@ use Rattle.refusal.specs.declared.Cause.{Cause}
 use Rattle.network.specs.declared.Network.{Network}
 use Rattle.line.specs.Rows.{Tests}
 use Rattle.line.specs.declared.Section.the-variants.{Events, Signals, Rules}
-use Rattle.sheet.specs.Place.{Due, Horizon, Heading, Entry, NoMore, Place, testsAt, place, tests}
-use Rattle.sheet.specs.Order.{InOrder, Fails}
+use Rattle.sheet.specs.Place.{Due, Horizon, Heading, Entry, NoMore, testsAt, place, tests}
+use Rattle.sheet.specs.Fault.{Fails}
+
+-- the tests stand in the order of their numbers, which are above lo and at most hi
+abbrev pub InOrder : ℕ → ℕ → Tests → Type 0
+InOrder lo hi [] = lo ≤ hi
+InOrder lo hi (t ∷ ts) = (lo < numberOf (t .1)) × InOrder (numberOf (t .1)) hi ts
 
 -- of tests in the order of their numbers, the first to fail has the lowest that fails
 in-order-le : (lo hi : ℕ) (ts : Tests) → InOrder lo hi ts → lo ≤ hi

@@ -11,7 +11,6 @@ use lib.ListN.{length}
 use Rattle.prelude.specs.Checks.{Hold}
 use Rattle.prelude.proofs.Tests.{lt-or-ge, eq-or-ne}
 use Rattle.text.specs.Lines.{afterLine}
-use Rattle.refusal.specs.declared.Cause.{Cause}
 use Rattle.network.specs.declared.Network.{Network}
 use Rattle.sheet.specs.Place.{Due, Horizon, Heading, Entry, NoMore, Place, testsAt}
 use Rattle.sheet.specs.Place.{next, place, tests}

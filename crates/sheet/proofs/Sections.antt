@@ -1,14 +1,12 @@
 -- A section's line, and the sections one behind the other, as the code reads them. Assumes nothing.
 use mathlib.Core.Path.{_≡_, refl, sym, _∙_, ap}
-use mathlib.Core.Bool.{Bool, true, false, cond}
+use mathlib.Core.Bool.{true}
 use mathlib.Core.Option.{Option, none, some}
 use mathlib.Core.List.{List}
 use Prim.Native.Nat.{ℕ, suc, _+_, _≤_, _<_}
 use Prim.Native.String.{String}
 use native.Mathlib.Numerals.{add-one}
 use native.Mathlib.Omega.{arith}
-use borrow.Author.Tests.{lt-leb, le-leb}
-use lib.Dec.{leb}
 use lib.ListN.{length, drop}
 use Rattle.prelude.specs.Bytes.{ascii}
 use Rattle.text.specs.Lines.{fields, lineAt, endsAt, afterLine}
@@ -25,12 +23,13 @@ use Rattle.line.specs.declared.Section.{Section}
 use Rattle.line.specs.declared.SectionRow.the-variants as S
 use Rattle.sheet.proofs.Places.{line-inside}
 use Rattle.sheet.specs.Reading.{Progress, Stop, Go, andThen, readLine, readRows, readHorizon}
-use Rattle.sheet.specs.Reading.{readEvents, readSignals, readRules, readEnd, longest, progress, answered, read}
+use Rattle.sheet.specs.Reading.{readEvents, readSignals, readRules, readEnd, longest, answered, read}
 use Rattle.sheet.specs.Sections.{readOf}
 use Rattle.sheet.specs.Stage.{toCome, whole, Stage}
 use Rattle.sheet.proofs.Rows.{refusalAt, passes, readLine-stop, readLine-on}
+use Rattle.sheet.proofs.Whole.{too-long, in-length}
+use Rattle.sheet.proofs.RowTests.{counted}
 use Rattle.sheet.proofs.Stages.{stage-section}
-use Rattle.sheet.proofs.WellFormed.{counted, sections}
 
 section-answer-refused : (o : Option Cause) (m n : ℕ) (c : Cause) → sectionAnswer o m n ≡ S.Refused c → o ≡ some c
 section-answer-refused none m n c e = absurd (let z : _≡_ {A = ℕ} 0 1 = cc in omega arith)
@@ -140,25 +139,9 @@ module _ (sheet : List ℕ) where
 
 -- the whole sheet
 module _ (sheet : List ℕ) where
-  by-length : (t b : Bool) (p q : Progress) → t ≡ b → elim t [ false ↦ q | true ↦ p ] ≡ cond b p q
-  by-length true b p q e = rw (← e)
-  by-length false b p q e = rw (← e)
-
-  all : Progress
-  all = andThen (sections sheet) (readEnd sheet)
-
-  too-long : longest < length sheet → progress sheet ≡ Stop (refusal C.TooLong 0)
-  unfolding progress all
-  too-long h = by-length (leb (length sheet) longest) false all (Stop (refusal C.TooLong 0)) (lt-leb (length sheet) longest h)
-
-  in-length : length sheet ≤ longest → progress sheet ≡ all
-  unfolding progress all
-  in-length h = by-length (leb (length sheet) longest) true all (Stop (refusal C.TooLong 0)) (le-leb (length sheet) longest h)
-
   pub read-too-long : longest < length sheet → answered (Stop (refusal C.TooLong 0)) ≡ read sheet
-  read-too-long h = ap answered (sym (too-long h))
+  read-too-long h = ap answered (sym (too-long sheet h))
 
   pub read-whole : (a b c d : Progress) → length sheet ≤ longest → a ≡ readHorizon sheet → b ≡ andThen a (readEvents sheet)
       → c ≡ andThen b (readSignals sheet) → d ≡ andThen c (readRules sheet) → answered (andThen d (readEnd sheet)) ≡ read sheet
-  unfolding all
-  read-whole a b c d h i j k l = rw (in-length h, l, k, j, i)
+  read-whole a b c d h i j k l = rw (in-length sheet h, l, k, j, i)

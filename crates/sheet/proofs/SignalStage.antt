@@ -16,11 +16,11 @@ use Rattle.text.specs.Lines.{lineAt, afterLine, fields, field}
 use Rattle.network.specs.Build.{observation}
 use Rattle.network.specs.declared.Network.{Network}
 use Rattle.names.proofs.Finds.{finds-answer}
-use Rattle.line.specs.Rows.{eventOf, signalRefusal, signalRow}
+use Rattle.line.specs.Rows.{eventOf, signalTests, signalRefusal, signalRow}
 use Rattle.line.specs.declared.Section.the-variants.{Signals}
 use Rattle.line.proofs.Checks.{all-hold}
 use Rattle.sheet.proofs.Places.{line-inside}
-use Rattle.sheet.proofs.RowTests.{isNamed, signalTests, new-signal}
+use Rattle.sheet.proofs.RowTests.{isNamed, new-signal}
 use Rattle.sheet.specs.Stage.{toCome, Stage}
 use Rattle.sheet.proofs.Rows.{Passes}
 use Rattle.sheet.proofs.Arrays.{arrays-signal}

@@ -13,7 +13,7 @@ use Rattle.text.specs.Lines.{lineAt, endsAt, afterLine, fields, field}
 use Rattle.network.specs.Build.{withEvent}
 use Rattle.network.specs.declared.Network.{Network}
 use Rattle.names.specs.Names.{isName}
-use Rattle.line.specs.Rows.{eventRefusal}
+use Rattle.line.specs.Rows.{eventTests, eventRefusal}
 use Rattle.line.specs.Sections.{headingOf}
 use Rattle.line.specs.declared.Section.{Section}
 use Rattle.line.specs.declared.Section.the-variants.{Events, Signals, Rules}
@@ -23,7 +23,6 @@ use Rattle.sheet.specs.Stage.{ToCome, toCome, whole, Stage}
 use Rattle.sheet.proofs.Rows.{Passes}
 use Rattle.sheet.proofs.Arrays.{arrays-event}
 use Rattle.names.proofs.Tokens.{name-short}
-use Rattle.sheet.proofs.RowTests.{eventTests}
 
 module _ (sheet : List ℕ) {Γ : Network} {at k : ℕ} where
   -- further on, with fewer lines to come

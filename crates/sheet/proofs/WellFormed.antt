@@ -1,21 +1,14 @@
 -- A sheet that was read gives a well-formed network: each line keeps the stage (Stages), the lines of a section are
 -- read one by one (Rows), and the sections one behind the other. Assumes nothing.
 use mathlib.Core.Path.{_≡_, refl, sym, _∙_}
-use mathlib.Core.Bool.{Bool, true, false, _&&_, not}
-use mathlib.Core.Option.{none}
-use mathlib.Core.List.{List, [], _∷_}
+use mathlib.Core.Bool.{Bool, true, false}
+use mathlib.Core.List.{List}
 use Prim.Native.Nat.{ℕ, suc, _≤_}
-use Prim.Native.String.{String}
 use native.Mathlib.Omega.{arith}
-use borrow.Author.Tests.{leb-true}
-use lib.Dec.{eqb, ltb, leb}
+use lib.Dec.{ltb}
 use lib.ListN.{length}
-use Rattle.prelude.specs.Bytes.{ascii, same}
-use Rattle.prelude.proofs.Tests.{and-true}
-use Rattle.text.specs.Lines.{lineAt, afterLine, fields, field}
-use Rattle.text.specs.Number.{isNumber, inRange, isNegative, magnitude}
+use Rattle.text.specs.Lines.{lineAt, afterLine, fields}
 use Rattle.refusal.specs.Refusal.{refusal}
-use Rattle.refusal.specs.declared.Cause.{Cause}
 use Rattle.refusal.specs.declared.Cause.the-variants as C
 use Rattle.network.specs.Limits as L
 use Rattle.network.specs.Build.{empty}
@@ -25,34 +18,19 @@ use Rattle.line.specs.Rows.{sectionRefusal, sectionCount}
 use Rattle.line.specs.Sections.{headingOf, rowsOf}
 use Rattle.line.specs.declared.Section.{Section}
 use Rattle.line.specs.declared.Section.the-variants.{Events, Signals, Rules}
-use Rattle.line.proofs.Checks.{all-hold}
 use Rattle.sheet.proofs.Places.{line-inside}
-use Rattle.sheet.specs.Reading.{longest, Progress, Stop, Go, andThen, readRows, readHorizon}
-use Rattle.sheet.specs.Reading.{readEvents, readSignals, readRules, readEnd, progress, read, answered}
+use Rattle.sheet.specs.Reading.{Progress, Stop, Go, andThen, readRows, readHorizon}
+use Rattle.sheet.specs.Reading.{readEnd, progress, read, answered}
 use Rattle.sheet.specs.Sections.{readOf}
 use Rattle.sheet.specs.Stage.{toCome, whole, Stage}
 use Rattle.sheet.specs.Reached.{Ready}
 use Rattle.sheet.specs.declared.Outcome.the-variants.{Accepted}
 use Rattle.sheet.proofs.Rows.{stop-not-go, came, went, rows-keep}
+use Rattle.sheet.proofs.Whole.{toEvents, toSignals, toRules, within-length}
 use Rattle.sheet.proofs.Arrays.{arrays-empty}
+use Rattle.sheet.proofs.RowTests.{counted}
 use Rattle.sheet.proofs.Stages.{stage-section}
 use Rattle.sheet.proofs.Turns.{Before, stage-keeps}
-
--- a count that passed is in its range
-pub record Counted (lo hi : ℕ) (fs : List (List ℕ)) : Type 0 where
-  pub least : lo ≤ sectionCount fs
-  pub most : sectionCount fs ≤ hi
-
-pub counted : (word : String) (lo hi : ℕ) (fs : List (List ℕ)) → sectionRefusal word lo hi fs ≡ none → Counted lo hi fs
-unfolding sectionRefusal inRange
-counted word lo hi fs e =
-    let f = field 1 fs in
-    let tests : List (Bool × Cause) =
-    (eqb (length fs) 2 && same (field 0 fs) (ascii word), C.WrongFields) ∷ (isNumber f, C.IllFormedNumber) ∷
-    (inRange lo hi f, C.OutOfRange) ∷ [] in
-    let within = and-true (not (isNegative f)) (leb lo (magnitude f) && leb (magnitude f) hi) (all-hold tests e 2) in
-    let ends = and-true (leb lo (magnitude f)) (leb (magnitude f) hi) (within .1) in
-    record { least = leb-true lo (magnitude f) (ends .0); most = leb-true (magnitude f) hi (ends .1) }
 
 module _ (sheet : List ℕ) where
   pub stage-empty : (h at k : ℕ) → h ≤ L.horizon → at ≤ length sheet → k ≤ suc at → Stage sheet (whole Events) (empty h) at k
@@ -112,28 +90,15 @@ module _ (sheet : List ℕ) where
       by-bytes false e = cc
 
   -- the sections one behind the other
-  abbrev pub sections : Progress
-  sections = andThen (andThen (andThen (readHorizon sheet) (readEvents sheet)) (readSignals sheet)) (readRules sheet)
-
-  sections-ready : Ready sheet (toCome Rules 0) sections
+  sections-ready : Ready sheet (toCome Rules 0) (toRules sheet)
   sections-ready =
-      let events = andThen (readHorizon sheet) (readEvents sheet) in
-      let signals = andThen events (readSignals sheet) in
-      section-ready Rules signals sections refl
-      (section-ready Signals events signals refl
-      (section-ready Events (readHorizon sheet) events refl (horizon-ready (readHorizon sheet) refl)))
-
-  within-length : (Γ : Network) (at k : ℕ) → progress sheet ≡ Go Γ at k → andThen sections (readEnd sheet) ≡ Go Γ at k
-  unfolding progress
-  within-length Γ at k e = by-length (leb (length sheet) longest) (andThen sections (readEnd sheet)) e
-    where
-      by-length : (t : Bool) (p : Progress) → elim t [ false ↦ Stop (refusal C.TooLong 0) | true ↦ p ] ≡ Go Γ at k → p ≡ Go Γ at k
-      by-length true p e = e
-      by-length false p e = stop-not-go (refusal C.TooLong 0) Γ at k e
+      section-ready Rules (toSignals sheet) (toRules sheet) refl
+      (section-ready Signals (toEvents sheet) (toSignals sheet) refl
+      (section-ready Events (readHorizon sheet) (toEvents sheet) refl (horizon-ready (readHorizon sheet) refl)))
 
   read-stage : (Γ : Network) (at k : ℕ) → progress sheet ≡ Go Γ at k → (b : ℕ) × (j : ℕ) × Stage sheet (toCome Rules 0) Γ b j
   read-stage Γ at k e =
-      let w = came sections (readEnd sheet) Γ at k (within-length Γ at k e) in
+      let w = came (toRules sheet) (readEnd sheet) Γ at k (within-length sheet Γ at k e .1) in
       let same = ended (w .network) Γ (w .at) (w .line) at k (w .then) in
       (w .at, w .line, rw same at (sections-ready (w .network) (w .at) (w .line) (w .first)))
 

@@ -1,12 +1,13 @@
 -- `add` meets its contract: its two tests are the definition's. Assumes nothing.
 use mathlib.Core.Path.{_≡_, sym, _∙_, ap}
 use mathlib.Core.Logic.{⊎-elim, inl, inr}
-use mathlib.Core.Bool.{true}
+use mathlib.Core.Bool.{true, and-false}
 use borrow.Author.Needs.{needs}
 use borrow.Author.Tests.{ltb-true, ltb-false}
 use Rattle.names.specs.Names.{isLetter}
 use Rattle.dispatch.specs.Said.{withBit}
-use Rattle.dispatch.proofs.Core.{not-letter, letter-between, place-fits, added-other, added-twice, added-new}
+use Rattle.dispatch.proofs.Letters.{letter-between, not-letter, place-fits}
+use Rattle.dispatch.proofs.Fold.{added-free, added-other}
 use Rattle.dispatch.proofs.add.Statement.{statement}
 use Rattle.dispatch.proofs.add.Tie as tie
 
@@ -24,7 +25,7 @@ returns c =
     let a = c .before .before .args in
     let l = a .heard .letter in
     let test = ⊎-elim (λ w. inl (w .taken)) (λ w. inr (ltb-true 122 l (w .1 .taken))) (c .before .if1 .came) in
-    c .with .ensures ∙ added-other (a .said) (a .heard) (not-letter l test)
+    c .with .ensures ∙ sym (added-other (a .said) (a .heard) (rw (not-letter l test)))
 
 stands-requires : tie.Need-stands-requires
 stands-requires c κs = lettered c
@@ -36,7 +37,8 @@ returns-2 : tie.Need-returns-2
 returns-2 c =
     let at-stands = c .before .before in
     let a = at-stands .before .before .before .args in
-    c .with2 .ensures ∙ added-twice (a .said) (a .heard) (sym (at-stands .stands .ensures) ∙ c .before .if3 .taken)
+    let stood = sym (at-stands .stands .ensures) ∙ c .before .if3 .taken in
+    c .with2 .ensures ∙ sym (added-other (a .said) (a .heard) (rw (stood, and-false)))
 
 place-requires : tie.Need-place-requires
 place-requires c κs = lettered (c .before .before)
@@ -51,8 +53,9 @@ returns-3 : tie.Need-returns-3
 returns-3 c =
     let at-stands = c .before .before .before in
     let a = at-stands .before .before .before .args in
+    let stood = sym (at-stands .stands .ensures) ∙ c .before .before .if3 .left in
     c .with3 .ensures ∙ ap (withBit (a .said)) (c .before .place .ensures)
-    ∙ added-new (a .said) (a .heard) (lettered (at-stands .before)) (sym (at-stands .stands .ensures) ∙ c .before .before .if3 .left)
+    ∙ sym (added-free (a .said) (a .heard) (rw (lettered (at-stands .before), stood)))
 
 pub add-spec : {M : Type 1} → statement M
 add-spec =

@@ -5,7 +5,8 @@ use mathlib.Core.Bool.{true, false, _&&_, not, cond}
 use borrow.Author.Needs.{needs}
 use Rattle.network.specs.Scenario.{truth}
 use Rattle.dispatch.specs.Said.{asSaid}
-use Rattle.dispatch.proofs.Core.{place-fits, as-said-is}
+use Rattle.dispatch.proofs.Letters.{place-fits}
+use Rattle.dispatch.proofs.Core.{as-said-is}
 use Rattle.dispatch.proofs.as_said.Statement.{statement}
 use Rattle.dispatch.proofs.as_said.Tie as tie
 

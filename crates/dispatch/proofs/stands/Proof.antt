@@ -1,7 +1,7 @@
 -- `stands` meets its contract: the second bit is asked where the first is not there. Assumes nothing.
 use mathlib.Core.Bool.{true, false}
 use borrow.Author.Needs.{needs}
-use Rattle.dispatch.proofs.Core.{place-fits}
+use Rattle.dispatch.proofs.Letters.{place-fits}
 use Rattle.dispatch.proofs.stands.Statement.{statement}
 use Rattle.dispatch.proofs.stands.Tie as tie
 

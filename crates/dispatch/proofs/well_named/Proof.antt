@@ -7,7 +7,8 @@ use Prim.Native.Nat.{_-_}
 use borrow.Author.Needs.{needs}
 use Rattle.network.specs.Build.{letter}
 use Rattle.names.specs.Names.{isLetter}
-use Rattle.dispatch.proofs.Core.{place-fits, Naming, naming-start, naming-one, naming-none, naming-end}
+use Rattle.dispatch.proofs.Letters.{place-fits}
+use Rattle.dispatch.proofs.Core.{Naming, naming-start, naming-one, naming-none, naming-end}
 use Rattle.dispatch.proofs.well_named.Statement.{statement}
 use Rattle.dispatch.proofs.well_named.Tie as tie
 

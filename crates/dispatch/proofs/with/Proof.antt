@@ -2,7 +2,7 @@
 use mathlib.Core.Path.{ap}
 use borrow.Author.Needs.{needs}
 use lib.Bits.{bitOr}
-use Rattle.dispatch.proofs.Core.{one-shifted}
+use Rattle.dispatch.proofs.Bits.{one-shifted}
 use Rattle.dispatch.proofs.with.Statement.{statement}
 use Rattle.dispatch.proofs.with.Tie as tie
 

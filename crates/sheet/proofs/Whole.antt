@@ -1,0 +1,51 @@
+-- The whole sheet by its length: what is too long is not read, and anything else is read section by section and then
+-- to its end. Assumes nothing.
+use mathlib.Core.Path.{_≡_, sym, _∙_}
+use mathlib.Core.Logic.{inl, inr}
+use mathlib.Core.List.{List}
+use Prim.Native.Nat.{ℕ, _≤_, _<_}
+use borrow.Author.Tests.{lt-leb, le-leb}
+use lib.ListN.{length}
+use Rattle.prelude.proofs.Tests.{lt-or-ge}
+use Rattle.refusal.specs.Refusal.{refusal}
+use Rattle.refusal.specs.declared.Cause.the-variants.{TooLong}
+use Rattle.network.specs.declared.Network.{Network}
+use Rattle.sheet.specs.Reading.{longest, Progress, Stop, Go, andThen, readHorizon, readEvents, readSignals}
+use Rattle.sheet.specs.Reading.{readRules, readEnd, progress}
+use Rattle.sheet.proofs.Rows.{stop-not-go}
+
+module _ (sheet : List ℕ) where
+  -- the reading as far as each section, and to the end
+  abbrev pub toEvents : Progress
+  toEvents = andThen (readHorizon sheet) (readEvents sheet)
+
+  abbrev pub toSignals : Progress
+  toSignals = andThen toEvents (readSignals sheet)
+
+  abbrev pub toRules : Progress
+  toRules = andThen toSignals (readRules sheet)
+
+  abbrev pub toEnd : Progress
+  toEnd = andThen toRules (readEnd sheet)
+
+  pub too-long : longest < length sheet → progress sheet ≡ Stop (refusal TooLong 0)
+  unfolding progress
+  too-long h = rw (lt-leb (length sheet) longest h, progress)
+
+  pub in-length : length sheet ≤ longest → progress sheet ≡ toEnd
+  unfolding progress
+  in-length h = rw (le-leb (length sheet) longest h, progress)
+
+  pub by-length : (P : Progress → Type 0) → (longest < length sheet → P (Stop (refusal TooLong 0)))
+      → (length sheet ≤ longest → P toEnd) → P (progress sheet)
+  by-length P f g =
+      elim (lt-or-ge longest (length sheet)) [ inl h ↦ rw (too-long h) (f h) | inr h ↦ rw (in-length h) (g h) ]
+
+  -- a sheet that was read is short enough
+  pub within-length : (Γ : Network) (at k : ℕ) → progress sheet ≡ Go Γ at k
+      → (length sheet ≤ longest) × (toEnd ≡ Go Γ at k)
+  within-length Γ at k e =
+      elim (lt-or-ge longest (length sheet)) [
+        | inl h ↦ stop-not-go (refusal TooLong 0) Γ at k (sym (too-long h) ∙ e)
+        | inr h ↦ (h, sym (in-length h) ∙ e)
+      ]
