@@ -12,7 +12,8 @@ use Rattle.prelude.specs.Bounded.{maxBelow}
 use Rattle.prelude.proofs.Tests.{eq-or-ne}
 use Rattle.network.specs.Scenario.{satisfies}
 use Rattle.network.specs.declared.Label.{Label}
-use Rattle.bounds.specs.Listed.{asking, target, source, weight, listed, countAfter, listAfter, Lists, Short, Added}
+use Rattle.bounds.specs.Listed.{asking, target, source, weight, listed, countAfter, listAfter, Lists, Short}
+use Rattle.bounds.specs.Listed.{Added}
 
 pub maxBelow-ext : (f g : ℕ → ℕ) (n : ℕ) → ((k : ℕ) → k < n → f k ≡ g k) → maxBelow n f ≡ maxBelow n g
 maxBelow-ext f g zero h = refl

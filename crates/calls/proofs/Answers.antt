@@ -31,8 +31,12 @@ module _ {A : Type 0} (nothing : A) (sheet : List ℕ) (own : List Own) (v : Val
   by-fault : (r : Refusal) → v ≡ turnedAway nothing r → Fault sheet r → Told
   by-fault r e (inl f) =
       let n : v .number ≡ 1 = rw (f .1) at (ap number-of e) in
-      let l : v .line ≡ 0 = rw (f .1) at (ap (λ (w : Values A). w .line) e) in
-      (inl (omega arith), (λ h. absurd (omega arith), λ h. absurd (omega (arith, h .0))), λ m. ap (λ (w : Values A). w .value) e)
+      let l : v .line ≡ 0 = rw (f .1) at (ap (λ (w : Values A). w .line) e) in (
+        inl (omega arith),
+        (λ h. absurd (omega arith), λ h. absurd (omega (arith, h .0))),
+        λ m. ap
+            (λ (w : Values A). w .value) e,
+      )
   by-fault r e (inr f) =
       let range = first-fault-range sheet r (f .1) in
       let many = f .1 .line in
@@ -71,7 +75,8 @@ module _ {A : Type 0} (nothing : A) (sheet : List ℕ) (own : List Own) (v : Val
         lines = t .1;
         at-fault = λ r f. refused r (refused-iff sheet r .1 f);
         exactly = λ Γ reads.
-            rw (← reads .network) (settled-exactly nothing own (read sheet .network) v above (accepted (reads .accepted)));
+            rw (← reads .network)
+            (settled-exactly nothing own (read sheet .network) v above (accepted (reads .accepted)));
         refusal-empty = t .2;
       }
 
@@ -85,7 +90,8 @@ line-short {A} {nothing} sheet own v above a = by-outcome (read sheet .outcome) 
     by-fault r e (inr f) = omega (arith, ap (λ (w : Values A). w .line) e, f .0, first-fault-near sheet r (f .1))
 
     by-number : (v .number ≡ 0) ⊎ OneOf own (v .number) → v .line ≡ 0
-    by-number (inl z) = elim (eq-or-ne (v .line) 0) [ inl l ↦ l | inr n ↦ absurd (omega (arith, a .lines .0 (omega arith) .0)) ]
+    by-number (inl z) =
+        elim (eq-or-ne (v .line) 0) [ inl l ↦ l | inr n ↦ absurd (omega (arith, a .lines .0 (omega arith) .0)) ]
     by-number (inr m) =
         elim (eq-or-ne (v .line) 0) [
           | inl l ↦ l

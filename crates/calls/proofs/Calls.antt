@@ -21,7 +21,8 @@ use Rattle.solver.specs.Solve.{solve}
 use Rattle.listing.specs.Listing.{listing}
 use Rattle.tighten.specs.Tightest.{remainingOf}
 use Rattle.canonical.specs.House.{houseText}
-use Rattle.calls.specs.Calls.{withoutLine, summaryFor, summary, judgementFor, judgement, writtenValues, Left, kept, written}
+use Rattle.calls.specs.Calls.{withoutLine, summaryFor, summary, judgementFor, judgement, writtenValues, Left}
+use Rattle.calls.specs.Calls.{kept, written}
 use Rattle.calls.specs.Calls.{solvedFor, solvingFor, solving, listingFor, listed, fit, houseFor, housed}
 use Rattle.calls.specs.Answers.{Reads, Wrote}
 use Rattle.calls.specs.declared.Judgement.the-variants as J
@@ -51,7 +52,8 @@ module _ (sheet : List ℕ) (g : Reading) (e : g ≡ read sheet) where
   pub solving-of : (o : Outcome) → g .outcome ≡ o → (m : List ℕ) → solvingFor (g .network) o m ≡ solving sheet m
   solving-of o p m = rw (← p, e)
 
-  pub listed-of : (o : Outcome) → g .outcome ≡ o → (t m : List ℕ) → listingFor sheet (g .network) o t m ≡ listed sheet t m
+  pub listed-of : (o : Outcome) → g .outcome ≡ o → (t m : List ℕ)
+      → listingFor sheet (g .network) o t m ≡ listed sheet t m
   listed-of o p t m = rw (← p, e)
 
   pub judged-wrong : g .outcome ≡ Accepted → (t : List ℕ) → (length t ≡ cells (g .network) → ⊥)
@@ -79,8 +81,10 @@ module _ (sheet : List ℕ) (g : Reading) (e : g ≡ read sheet) where
         → solvedFor (solve (g .network) .end) (solve (g .network) .reached) m ≡ solving sheet m
     solving-room m h = rw (le-leb (cells (g .network)) (length m) h, solvingFor) at (solving-of Accepted a m)
 
-    pub listing-right : (t m : List ℕ) → length t ≡ cells (g .network) → written (listing sheet (g .network) t) m ≡ listed sheet t m
-    listing-right t m sized = rw (eq-eqb (length t) (cells (g .network)) sized, listingFor) at (listed-of Accepted a t m)
+    pub listing-right : (t m : List ℕ) → length t ≡ cells (g .network)
+        → written (listing sheet (g .network) t) m ≡ listed sheet t m
+    listing-right t m sized =
+        rw (eq-eqb (length t) (cells (g .network)) sized, listingFor) at (listed-of Accepted a t m)
 
     -- the rows that remain fit a sheet, or they do not
     pub house-many : (m : List ℕ) → fit (remainingOf (g .network)) ≡ false

@@ -7,7 +7,8 @@ use native.Mathlib.Omega.{arith}
 use Rattle.pairs.specs.Pairs.{minutesOf}
 use Rattle.calls.specs.Values.{Values}
 use Rattle.calls.specs.Calls.{writtenValues, Left}
-use Rattle.calls.specs.Bench.{benchJudgement, benchSolving, Said, nothingSaid, judgementValues, refused, packed, packedCount, packedWritten}
+use Rattle.calls.specs.Bench.{benchJudgement, benchSolving, Said, nothingSaid, judgementValues, refused, packed}
+use Rattle.calls.specs.Bench.{packedCount, packedWritten}
 use Rattle.calls.specs.Answers.{OneOf, Answers, Writes}
 use Rattle.calls.specs.Numbers.{judgesBytes, solvesBytes, Numbers}
 use Rattle.calls.specs.Header.{JudgeHolds, SolverHolds}

@@ -59,7 +59,8 @@ second-pass sheet f m Γ form l = let own = again sheet f Γ form in all-written
 tables : (sheet f : List ℕ) (Γ Δ : Network) → Form sheet Γ f → Reads f Δ → SameTables Γ Δ
 tables sheet f Γ Δ form reads =
     by-sheet (λ sheet Γ f. (Δ : Network) → read f .network ≡ Δ → SameTables Γ Δ)
-    (λ sheet a few Δ n. rw (← n) (let good = form-tables sheet a few in record { good = good; least = same-least good; none = same-inconsistent good }))
+    (λ sheet a few Δ n. rw (← n)
+    (let good = form-tables sheet a few in record { good = good; least = same-least good; none = same-inconsistent good }))
     sheet f Γ form Δ (reads .network)
 
 equal : (sheet other f g : List ℕ) (Γ Δ : Network) → Form sheet Γ f → Form other Δ g → (f ≡ g) ↔ Same sheet Γ other Δ

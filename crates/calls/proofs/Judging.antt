@@ -1,5 +1,5 @@
--- The judge's answers in the papers' numbers: values tell the verdict, so a pass is a good table and a breach the first.
--- One argument for tables of minutes and of bytes. Assumes nothing.
+-- The judge's answers in the papers' numbers: values tell the verdict, so a pass is a good table and a breach the
+-- first. One argument for tables of minutes and of bytes. Assumes nothing.
 use mathlib.Core.Path.{_≡_, refl, sym, _∙_, ap}
 use mathlib.Core.Logic.{_⊎_, inl, inr, _↔_}
 use mathlib.Core.Bool.{cond}
@@ -28,7 +28,8 @@ use Rattle.checker.proofs.Judged.{judged}
 use Rattle.checker.proofs.First.{breach-iff}
 use Rattle.calls.specs.Values.{Values}
 use Rattle.calls.specs.Calls.{withoutLine, judgement}
-use Rattle.calls.specs.Bench.{benchJudgement, Said, nothingSaid, passed, breachValues, verdictValues, judgementValues}
+use Rattle.calls.specs.Bench.{benchJudgement, Said, nothingSaid, passed, breachValues, verdictValues}
+use Rattle.calls.specs.Bench.{judgementValues}
 use Rattle.calls.specs.declared.Judgement.{Judgement}
 use Rattle.calls.specs.declared.Judgement.the-variants as J
 use Rattle.calls.proofs.Settled.{number-of, Settles}
@@ -40,7 +41,8 @@ abbrev verdictOf : Said → Verdict
 verdictOf x =
     cond (eqb (x .word) 0) Pass
     (cond (eqb (x .word) 1) (Breached (Late (x .first) (x .second)))
-    (cond (eqb (x .word) 2) (Breached (Rule (x .first) (x .second))) (Breached (Unheard (x .first) (x .second) (x .third)))))
+    (cond (eqb (x .word) 2) (Breached (Rule (x .first) (x .second)))
+    (Breached (Unheard (x .first) (x .second) (x .third)))))
 
 told-back : (v : Verdict) → verdictOf (verdictValues v .value) ≡ v
 told-back Pass = refl
@@ -60,7 +62,8 @@ no-refusal (Breached (Unheard s r u)) = (refl, refl)
 
 -- a table that is the right one is judged, and any other refused
 abbrev pub Judges : Type 0 → Network → List ℕ → Judgement → Type 0
-Judges Right Γ σ j = (Right × (J.Judged (verdict Γ σ) ≡ j)) ⊎ ((Right → ⊥) × (J.Refused (withoutLine C.WrongTableLength) ≡ j))
+Judges Right Γ σ j =
+    (Right × (J.Judged (verdict Γ σ) ≡ j)) ⊎ ((Right → ⊥) × (J.Refused (withoutLine C.WrongTableLength) ≡ j))
 
 module _ (Right : Type 0) (Γ : Network) (σ : List ℕ) (j : Judgement) (judges : Judges Right Γ σ j) where
   pub judge-settles : Settles nothingSaid (record { number = 11; cause = λ _. Right → ⊥ } ∷ []) Γ (judgementValues j)
@@ -74,7 +77,8 @@ module _ (Right : Type 0) (Γ : Network) (σ : List ℕ) (j : Judgement) (judges
   judged-by v e =
       elim judges [
         | inl g ↦ (g .0, told-apart (verdict Γ σ) v (ap judgementValues (g .1) ∙ e))
-        | inr g ↦ absurd (let z : 11 ≡ verdictValues v .number = ap number-of (ap judgementValues (g .1) ∙ e) in omega (arith, no-refusal v .0))
+        | inr g ↦ absurd (let z : 11 ≡ verdictValues v .number =
+            ap number-of (ap judgementValues (g .1) ∙ e) in omega (arith, no-refusal v .0))
       ]
 
   judged-so : Right → (v : Verdict) → verdict Γ σ ≡ v → judgementValues j ≡ verdictValues v
@@ -119,15 +123,18 @@ module _ (sheet : List ℕ) (a : read sheet .outcome ≡ Accepted) where
       let p = judge-passes (length t ≡ cells net) net t (judgement sheet t) (judge-judges t) (λ e. e) in
       (λ e. p .0 e .1, λ s. p .1 (s .sized, s))
 
-  pub breaches : (t : List ℕ) (b : Breach) → length t ≡ cells net → (judgementValues (judgement sheet t) ≡ breachValues b) ↔ First net t b
+  pub breaches : (t : List ℕ) (b : Breach) → length t ≡ cells net
+      → (judgementValues (judgement sheet t) ≡ breachValues b) ↔ First net t b
   breaches t b l = judge-breaches (length t ≡ cells net) net t (judgement sheet t) (judge-judges t) l b
 
   module _ (b : List ℕ) where
-    pub bench-passes : (judgementValues (benchJudgement sheet b) ≡ passed) ↔ ((length b ≡ 2 * cells net) × Solution net (minutesOf b))
+    pub bench-passes : (judgementValues (benchJudgement sheet b) ≡ passed)
+        ↔ ((length b ≡ 2 * cells net) × Solution net (minutesOf b))
     bench-passes =
         judge-passes (length b ≡ 2 * cells net) net (minutesOf b) (benchJudgement sheet b) (bench-judges b)
         (λ e. omega (arith, length-minutesOf b))
 
     pub bench-breaches : (x : Breach) → length b ≡ 2 * cells net
         → (judgementValues (benchJudgement sheet b) ≡ breachValues x) ↔ First net (minutesOf b) x
-    bench-breaches x l = judge-breaches (length b ≡ 2 * cells net) net (minutesOf b) (benchJudgement sheet b) (bench-judges b) l x
+    bench-breaches x l =
+        judge-breaches (length b ≡ 2 * cells net) net (minutesOf b) (benchJudgement sheet b) (bench-judges b) l x

@@ -19,7 +19,8 @@ use Rattle.listing.specs.Listing.{listing}
 use Rattle.tighten.specs.Tightest.{remainingOf}
 use Rattle.canonical.specs.House.{houseText}
 use Rattle.calls.specs.Values.{Values}
-use Rattle.calls.specs.Calls.{withoutLine, writtenValues, Left, kept, written, solvedFor, solvingFor, solving, listingFor, listed, fit, houseFor, housed}
+use Rattle.calls.specs.Calls.{withoutLine, writtenValues, Left, kept, written, solvedFor, solvingFor, solving}
+use Rattle.calls.specs.Calls.{listingFor, listed, fit, houseFor, housed}
 use Rattle.calls.specs.Bench.{pairsAfter, benchSolving}
 use Rattle.calls.specs.declared.Written.{Written}
 use Rattle.calls.specs.declared.Written.the-variants as W
@@ -30,14 +31,17 @@ Keeps m l = (writtenValues (l .answer) .number ≡ 0 → ⊥) → l .memory ≡ 
 kept-keeps : (a : Written) (m : List ℕ) → Keeps m (kept a m)
 kept-keeps a m n = refl
 
-either-keeps : (m : List ℕ) (b : Bool) (l k : Left) → Keeps m l → Keeps m k → Keeps m (elim b as (λ _. Left) [ true ↦ l | false ↦ k ])
+either-keeps : (m : List ℕ) (b : Bool) (l k : Left) → Keeps m l → Keeps m k
+    → Keeps m (elim b as (λ _. Left) [ true ↦ l | false ↦ k ])
 either-keeps m true l k f g = f
 either-keeps m false l k f g = g
 
 written-keeps : (text m : List ℕ) → Keeps m (written text m)
 written-keeps text m =
-    either-keeps m (leb (length text) (length m)) (record { answer = W.Count (length text); memory = text ++ drop (length text) m })
-    (kept (W.Refused (withoutLine BufferTooShort)) m) (λ n. absurd (n refl)) (kept-keeps (W.Refused (withoutLine BufferTooShort)) m)
+    either-keeps m (leb (length text) (length m))
+    (record { answer = W.Count (length text); memory = text ++ drop (length text) m })
+    (kept (W.Refused (withoutLine BufferTooShort)) m) (λ n. absurd (n refl))
+    (kept-keeps (W.Refused (withoutLine BufferTooShort)) m)
 
 solved-keeps : (end : End) (σ m : List ℕ) → Keeps m (solvedFor end σ m)
 solved-keeps Rests σ m = written-keeps σ m
@@ -53,7 +57,8 @@ module _ (sheet m : List ℕ) where
     where
       by-outcome : (o : Outcome) → Keeps m (solvingFor net o m)
       by-outcome Accepted =
-          either-keeps m (leb (cells net) (length m)) (solvedFor (solve net .end) (solve net .reached) m) (kept (W.Refused (withoutLine BufferTooShort)) m)
+          either-keeps m (leb (cells net) (length m)) (solvedFor (solve net .end) (solve net .reached) m)
+          (kept (W.Refused (withoutLine BufferTooShort)) m)
           (solved-keeps (solve net .end) (solve net .reached) m) (kept-keeps (W.Refused (withoutLine BufferTooShort)) m)
       by-outcome (Refused r) = kept-keeps (W.Refused r) m
 
@@ -62,7 +67,8 @@ module _ (sheet m : List ℕ) where
     where
       by-outcome : (o : Outcome) → Keeps m (listingFor sheet net o t m)
       by-outcome Accepted =
-          either-keeps m (eqb (length t) (cells net)) (written (listing sheet net t) m) (kept (W.Refused (withoutLine WrongTableLength)) m)
+          either-keeps m (eqb (length t) (cells net)) (written (listing sheet net t) m)
+          (kept (W.Refused (withoutLine WrongTableLength)) m)
           (written-keeps (listing sheet net t) m) (kept-keeps (W.Refused (withoutLine WrongTableLength)) m)
       by-outcome (Refused r) = kept-keeps (W.Refused r) m
 
@@ -71,7 +77,8 @@ module _ (sheet m : List ℕ) where
     where
       by-outcome : (o : Outcome) → Keeps m (houseFor sheet net o m)
       by-outcome Accepted =
-          either-keeps m (fit (remainingOf net)) (written (houseText sheet net) m) (kept (W.Refused (withoutLine TooManyRows)) m)
+          either-keeps m (fit (remainingOf net)) (written (houseText sheet net) m)
+          (kept (W.Refused (withoutLine TooManyRows)) m)
           (written-keeps (houseText sheet net) m) (kept-keeps (W.Refused (withoutLine TooManyRows)) m)
       by-outcome (Refused r) = kept-keeps (W.Refused r) m
 

@@ -20,11 +20,13 @@ use Rattle.listing.specs.Listing.{listing}
 use Rattle.tighten.specs.Tightest.{remainingOf}
 use Rattle.canonical.specs.House.{houseText}
 use Rattle.calls.specs.Values.{Values, done, turnedAway, refusedAs}
-use Rattle.calls.specs.Calls.{summary, noCounts, summaryValues, judgement, writtenValues, Left, written, solving, listed, fit, housed}
+use Rattle.calls.specs.Calls.{summary, noCounts, summaryValues, judgement, writtenValues, Left, written}
+use Rattle.calls.specs.Calls.{solving, listed, fit, housed}
 use Rattle.calls.specs.Bench.{nothingSaid, judgementValues, benchJudgement, benchSolving}
 use Rattle.calls.specs.Play.{eventsDue, eventsDueOn, dueValues}
 use Rattle.calls.specs.Answers.{Own, Writes}
-use Rattle.calls.specs.Numbers.{tooShort, judges, solves, lists, houses, plays, playsOn, judgesBytes, solvesBytes, Numbers}
+use Rattle.calls.specs.Numbers.{tooShort, judges, solves, lists, houses, plays, playsOn, judgesBytes}
+use Rattle.calls.specs.Numbers.{solvesBytes, Numbers}
 use Rattle.calls.proofs.Calls.{written-room, listing-wrong, listing-right, house-many, house-few}
 use Rattle.calls.proofs.Fit.{fit-few, not-fit-many}
 use Rattle.calls.proofs.Settled.{areOwn, Settles, settles-as}
@@ -92,17 +94,21 @@ writes-by sheet m l own above refused accepted keeps = record {
 
 pub numbers : Numbers
 numbers = record {
-  reader = λ sheet. answers-by noCounts sheet [] (summaryValues (summary sheet)) refl (λ r e. rw e) (λ a. rw a (refl, refl));
+  reader =
+      λ sheet. answers-by noCounts sheet [] (summaryValues (summary sheet)) refl (λ r e. rw e) (λ a. rw a (refl, refl));
   judge = λ sheet t.
       answers-by nothingSaid sheet (judges t) (judgementValues (judgement sheet t)) refl (λ r e. rw e)
-      (λ a. judge-settles (length t ≡ cells (read sheet .network)) (read sheet .network) t (judgement sheet t) (judge-judges sheet a t));
+      (λ a. judge-settles (length t ≡ cells (read sheet .network)) (read sheet .network) t (judgement sheet t)
+      (judge-judges sheet a t));
   solver = λ sheet m.
-      writes-by sheet m (solving sheet m) (solves m) refl (λ r e. rw e) (λ a. solver-settles sheet a m) (solving-keeps sheet m);
+      writes-by sheet m (solving sheet m) (solves m) refl (λ r e. rw e) (λ a. solver-settles sheet a m)
+      (solving-keeps sheet m);
   lister = λ sheet t m.
       writes-by sheet m (listed sheet t m) (lists sheet t m) refl (λ r e. rw e) (λ a. lister-settles sheet a t m)
       (listing-keeps sheet m t);
   house-writer = λ sheet m.
-      writes-by sheet m (housed sheet m) (houses sheet m) refl (λ r e. rw e) (λ a. house-settles sheet a m) (house-keeps sheet m);
+      writes-by sheet m (housed sheet m) (houses sheet m) refl (λ r e. rw e) (λ a. house-settles sheet a m)
+      (house-keeps sheet m);
   player = λ sheet t m hs.
       answers-by 0 sheet (plays t m hs) (dueValues (eventsDue sheet t m hs)) refl
       (λ r e. ap dueValues (events-refused sheet t m hs r e)) (λ a. player-settles sheet a t m hs);
@@ -111,7 +117,8 @@ numbers = record {
       (λ r e. ap dueValues (events-refused-on sheet t m x r e)) (λ a. player-on-settles sheet a t m x);
   bench-judge = λ sheet b.
       answers-by nothingSaid sheet (judgesBytes b) (judgementValues (benchJudgement sheet b)) refl (λ r e. rw e)
-      (λ a. judge-settles (length b ≡ 2 * cells (read sheet .network)) (read sheet .network) (minutesOf b) (benchJudgement sheet b) (bench-judges sheet a b));
+      (λ a. judge-settles (length b ≡ 2 * cells (read sheet .network)) (read sheet .network) (minutesOf b)
+      (benchJudgement sheet b) (bench-judges sheet a b));
   bench-solver = λ sheet b.
       writes-by sheet b (benchSolving sheet b) (solvesBytes b) refl (λ r e. rw e)
       (λ a. rw (length-minutesOf b) at (solver-settles sheet a (minutesOf b))) (bench-keeps sheet b);

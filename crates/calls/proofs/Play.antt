@@ -45,12 +45,15 @@ lettered sheet a =
     }
 
 -- by the mask of a list is by the list
-pub events-due-said : (sheet t : List ℕ) (m : ℕ) (hs : List Heard) → eventsDueOn sheet t m (saidFrom 0 hs) ≡ eventsDue sheet t m hs
+pub events-due-said : (sheet t : List ℕ) (m : ℕ) (hs : List Heard)
+    → eventsDueOn sheet t m (saidFrom 0 hs) ≡ eventsDue sheet t m hs
 unfolding eventsDue eventsDueOn
 events-due-said sheet t m hs = by-outcome (read sheet .outcome) refl
   where
-    by-outcome : (o : Outcome) → read sheet .outcome ≡ o → eventsDueOn sheet t m (saidFrom 0 hs) ≡ eventsDue sheet t m hs
-    by-outcome Accepted a = ap (playedFor (judgement sheet t)) (due-said (read sheet .network) t m hs (lettered sheet a))
+    by-outcome : (o : Outcome) → read sheet .outcome ≡ o
+        → eventsDueOn sheet t m (saidFrom 0 hs) ≡ eventsDue sheet t m hs
+    by-outcome Accepted a =
+        ap (playedFor (judgement sheet t)) (due-said (read sheet .network) t m hs (lettered sheet a))
     by-outcome (Refused r) a = rw a
 
 -- a sheet's own refusal comes first
@@ -77,9 +80,11 @@ module _ (sheet : List ℕ) (g : Reading) (e : g ≡ read sheet) (t : List ℕ) 
     pub due-lettered : Lettered (g .network)
     due-lettered = rw e (lettered sheet (sym (ap (λ (y : Reading). y .outcome) e) ∙ a))
 
-    pub due-wrong : (length t ≡ cells (g .network) → ⊥) → D.Refused (withoutLine WrongTableLength) ≡ eventsDueOn sheet t m x
+    pub due-wrong : (length t ≡ cells (g .network) → ⊥)
+        → D.Refused (withoutLine WrongTableLength) ≡ eventsDueOn sheet t m x
     due-wrong n = played-by (J.Refused (withoutLine WrongTableLength)) (judged-wrong sheet g e a t n)
 
     module _ (sized : length t ≡ cells (g .network)) where
-      pub due-judged : (w : Verdict) → w ≡ verdict (g .network) t → playedFor (J.Judged w) (dueOn (g .network) t m x) ≡ eventsDueOn sheet t m x
+      pub due-judged : (w : Verdict) → w ≡ verdict (g .network) t
+          → playedFor (J.Judged w) (dueOn (g .network) t m x) ≡ eventsDueOn sheet t m x
       due-judged w p = played-by (J.Judged w) (ap J.Judged p ∙ judged-as sheet g e a t sized)

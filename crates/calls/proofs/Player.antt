@@ -49,7 +49,11 @@ module _ (Γ : Network) (t : List ℕ) (misnamed unheard : Network → Type 0) w
   heard good (D.Events x) h =
       inr (
         λ n. n (good .sized),
-        inr (λ n. n good, inr (λ n. named (h .misnames n), inr (λ n. named (h .misnames (h .unhears n never)), (refl, refl)))),
+        inr (
+          λ n. n good,
+          inr
+              (λ n. named (h .misnames n), inr (λ n. named (h .misnames (h .unhears n never)), (refl, refl))),
+        ),
       )
     where
       named : D.Events x ≡ D.Misnamed → ⊥
@@ -79,7 +83,8 @@ module _ (sheet : List ℕ) (a : read sheet .outcome ≡ Accepted) (t : List ℕ
   abbrev net : Network
   net = read sheet .network
 
-  list-told : (hs : List Heard) → Told (due net t m hs) (WellNamed net hs → ⊥) ((s : ℕ) → s < scenarios net → History net t m hs s → ⊥)
+  list-told : (hs : List Heard)
+      → Told (due net t m hs) (WellNamed net hs → ⊥) ((s : ℕ) → s < scenarios net → History net t m hs s → ⊥)
   list-told hs =
       let fifteen = due-misnamed net t m (lettered sheet a) hs in
       let sixteen = due-never net t m (lettered sheet a) hs in
@@ -93,7 +98,8 @@ module _ (sheet : List ℕ) (a : read sheet .outcome ≡ Accepted) (t : List ℕ
   pub player-settles : (hs : List Heard) → Settles 0 (plays t m hs) net (dueValues (eventsDue sheet t m hs))
   unfolding eventsDue
   player-settles hs =
-      played net t (λ Γ. WellNamed Γ hs → ⊥) (λ Γ. (s : ℕ) → s < scenarios Γ → History Γ t m hs s → ⊥) (judgement sheet t)
+      played net t (λ Γ. WellNamed Γ hs → ⊥) (λ Γ. (s : ℕ) → s < scenarios Γ → History Γ t m hs s → ⊥)
+      (judgement sheet t)
       (judge-judges sheet a t) (due net t m hs) (list-told hs)
 
   -- a mask that is well named is that of a list with good names
@@ -120,5 +126,6 @@ module _ (sheet : List ℕ) (a : read sheet .outcome ≡ Accepted) (t : List ℕ
   unfolding eventsDueOn
   player-on-settles x =
       played net t (λ Γ. (hs : List Heard) → saidFrom 0 hs ≡ x → WellNamed Γ hs → ⊥)
-      (λ Γ. (hs : List Heard) → saidFrom 0 hs ≡ x → (s : ℕ) → s < scenarios Γ → History Γ t m hs s → ⊥) (judgement sheet t)
+      (λ Γ. (hs : List Heard) → saidFrom 0 hs ≡ x → (s : ℕ) → s < scenarios Γ → History Γ t m hs s → ⊥)
+      (judgement sheet t)
       (judge-judges sheet a t) (dueOn net t m x) (mask-told x)

@@ -46,7 +46,8 @@ played-at : (sheet t : List ℕ) → read sheet .outcome ≡ Accepted → length
     → eventsDue sheet t m hs ≡ playedFor (J.Judged w) (due (read sheet .network) t m hs)
 unfolding eventsDue
 played-at sheet t a sized m hs w p =
-    ap (λ (j : Judgement). playedFor j (due (read sheet .network) t m hs)) (sym (ap J.Judged p ∙ judged-as sheet (read sheet) refl a t sized))
+    ap (λ (j : Judgement). playedFor j (due (read sheet .network) t m hs))
+    (sym (ap J.Judged p ∙ judged-as sheet (read sheet) refl a t sized))
 
 module _ (sheet t : List ℕ) (Γ : Network) (reads : Reads sheet Γ) where
   wf : WellFormed Γ
@@ -74,7 +75,8 @@ module _ (sheet t : List ℕ) (Γ : Network) (reads : Reads sheet Γ) where
     due-at : (m s u : ℕ) → u < Γ .events → truth (dueIn (Γ .events) t m s) u ≡ eqb (at s u) m
     due-at m s u k = truth-mask (λ v. eqb (at s v) m) (Γ .events) u k (omega (arith, wf .events))
 
-    row-at : (m : ℕ) (hs : List Heard) (s : ℕ) → s < scenarios Γ → History Γ t m hs s → RowAt Γ t m s (answer sheet t m hs)
+    row-at : (m : ℕ) (hs : List Heard) (s : ℕ) → s < scenarios Γ → History Γ t m hs s
+        → RowAt Γ t m s (answer sheet t m hs)
     row-at m hs s h l = rw (events-are m hs s h l) (record {
       number = refl;
       line = refl;
@@ -87,7 +89,8 @@ module _ (sheet t : List ℕ) (Γ : Network) (reads : Reads sheet Γ) where
 
     heard : (m s p : ℕ) → s < scenarios Γ → p < Γ .signals
         → (known Γ t s p m ≡ true)
-        ↔ ((i : ℕ) × (i + reaction Γ p ≤ m) × (truth (answer sheet t i (historyOf Γ t i s) .value) (observation Γ p) ≡ true))
+        ↔ ((i : ℕ) × (i + reaction Γ p ≤ m) ×
+        (truth (answer sheet t i (historyOf Γ t i s) .value) (observation Γ p) ≡ true))
     heard m s p h l =
         let o = observation Γ p in
         let told : (i : ℕ) → truth (answer sheet t i (historyOf Γ t i s) .value) o ≡ eqb (at s o) i =

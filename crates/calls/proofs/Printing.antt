@@ -42,19 +42,24 @@ use Rattle.calls.proofs.Fit.{few-fit, many-do-not}
 use Rattle.calls.proofs.Solving.{solves-least, refuses-none}
 
 -- a call that wrote n, and one that refused
-wrote-on : (l : Left) (n : ℕ) (next : List ℕ → List ℕ) → l .answer ≡ W.Count n → orRefused l next ≡ next (take n (l .memory))
+wrote-on : (l : Left) (n : ℕ) (next : List ℕ → List ℕ) → l .answer ≡ W.Count n
+    → orRefused l next ≡ next (take n (l .memory))
 wrote-on l n next e = ap (λ (w : Written). orRefused (record { answer = w; memory = l .memory }) next) e
 
-refused-on : (l : Left) (r : Refusal) (next : List ℕ → List ℕ) → l .answer ≡ W.Refused r → orRefused l next ≡ refusedText (turnedAway 0 r)
+refused-on : (l : Left) (r : Refusal) (next : List ℕ → List ℕ) → l .answer ≡ W.Refused r
+    → orRefused l next ≡ refusedText (turnedAway 0 r)
 refused-on l r next e =
     ap (λ (w : Written). orRefused (record { answer = w; memory = l .memory }) next) e
-    ∙ ap (λ (b : Bool). elim b as (λ _. List ℕ) [ true ↦ next (take 0 (l .memory)) | false ↦ refusedText (turnedAway 0 r) ])
+    ∙ ap (λ (b : Bool). elim b as (λ _. List ℕ) [
+      | true ↦ next (take 0 (l .memory))
+      | false ↦ refusedText (turnedAway 0 r)
+    ])
     (ne-eqb (numberOf (r .cause)) 0 (numbered (r .cause)))
 
 -- a text that there is room for
 text-on : (l : Left) (text m : List ℕ) → written text m ≡ l → length text ≤ length m → orRefused l (λ t. t) ≡ text
 text-on l text m e h =
-    let w : l ≡ record { answer = W.Count (length text); memory = text ++ drop (length text) m } = sym e ∙ written-room text m h in
+    let w = sym e ∙ written-room text m h in
     wrote-on l (length text) (λ t. t) (ap (λ (k : Left). k .answer) w)
     ∙ ap (λ (k : Left). take (length text) (k .memory)) w
     ∙ take-at text (drop (length text) m) (length text) refl
@@ -72,30 +77,36 @@ module _ (sheet : List ℕ) (a : read sheet .outcome ≡ Accepted) where
       let times : (s u : ℕ) → s < scenarios net → u < net .events → time (net .events) σ s u ≤ 65535 =
       λ s u l k. omega (arith, good .on-time s u l k .in-horizon, formed .0 .horizon) in
       let short = listing-short sheet net σ (formed .0) (formed .1) times in
-      text-on (listed sheet σ page) (listing sheet net σ) page (listing-right sheet (read sheet) refl a σ page (good .sized))
+      text-on (listed sheet σ page) (listing sheet net σ) page
+      (listing-right sheet (read sheet) refl a σ page (good .sized))
       (omega (arith, short))
 
-  table-on : (σ m page : List ℕ) → Least net σ → L.cells ≤ length m → mostListing ≤ length page → tableOn m page sheet ≡ listing sheet net σ
+  table-on : (σ m page : List ℕ) → Least net σ → L.cells ≤ length m → mostListing ≤ length page
+      → tableOn m page sheet ≡ listing sheet net σ
   table-on σ m page least h k =
       let room : cells net ≤ length m = omega (arith, cells-few (formed .0)) in
       let s = solves-least sheet a m room (λ i. i .none σ (least .solves)) in
       let same : s .0 ≡ σ = least-unique (s .1) least in
       let front : take (cells net) (solving sheet m .memory) ≡ s .0 =
-      ap (λ (x : List ℕ). take (cells net) x) (s .3) ∙ take-at (s .0) (drop (cells net) m) (cells net) (s .1 .solves .sized) in
+      ap (λ (x : List ℕ). take (cells net) x) (s .3)
+      ∙ take-at (s .0) (drop (cells net) m) (cells net) (s .1 .solves .sized) in
       wrote-on (solving sheet m) (cells net) (listingOn page sheet) (s .2)
       ∙ ap (listingOn page sheet) (front ∙ same)
       ∙ listed-on σ page least k
 
-  none-on : (m page : List ℕ) → Inconsistent net → L.cells ≤ length m → tableOn m page sheet ≡ refusedText (refusedAs 13)
+  none-on : (m page : List ℕ) → Inconsistent net → L.cells ≤ length m
+      → tableOn m page sheet ≡ refusedText (refusedAs 13)
   none-on m page i h =
-      refused-on (solving sheet m) _ (listingOn page sheet) (refuses-none sheet a m (omega (arith, cells-few (formed .0))) i)
+      refused-on (solving sheet m) _ (listingOn page sheet)
+      (refuses-none sheet a m (omega (arith, cells-few (formed .0))) i)
 
   many-on : (page : List ℕ) → L.rules < length (remainingOf net) → formOn page sheet ≡ refusedText (refusedAs 17)
   many-on page h =
       refused-on (housed sheet page) _ (λ t. t)
       (sym (ap (λ (l : Left). l .answer) (house-many sheet (read sheet) refl a page (many-do-not (remainingOf net) h))))
 
-  form-on : (page : List ℕ) → length (remainingOf net) ≤ L.rules → longest ≤ length page → formOn page sheet ≡ houseText sheet net
+  form-on : (page : List ℕ) → length (remainingOf net) ≤ L.rules → longest ≤ length page
+      → formOn page sheet ≡ houseText sheet net
   form-on page few h =
       text-on (housed sheet page) (houseText sheet net) page
       (house-few sheet (read sheet) refl a page (few-fit (remainingOf net) few))
@@ -109,16 +120,24 @@ page n = replicate n 0
 
 pub printing : Printing
 printing = record {
-  table-refused = λ sheet r f. let e = refused-iff sheet r .1 f in refused-on (solving sheet minutes) r (listingOn (page mostListing) sheet) (rw e);
-  house-refused = λ sheet r f. let e = refused-iff sheet r .1 f in refused-on (housed sheet (page longest)) r (λ t. t) (rw e);
-  none = λ sheet Γ r. rw (← r .network) (λ i. none-on sheet (r .accepted) minutes (page mostListing) i (omega (arith, length-replicate {A = ℕ} L.cells 0)));
+  table-refused = λ sheet r f.
+      let e = refused-iff sheet r .1 f in
+      refused-on (solving sheet minutes) r (listingOn (page mostListing) sheet) (rw e);
+  house-refused = λ sheet r f.
+      let e = refused-iff sheet r .1 f in
+      refused-on (housed sheet (page longest)) r (λ t. t) (rw e);
+  none = λ sheet Γ r. rw (← r .network)
+      (λ i. none-on sheet (r .accepted) minutes (page mostListing) i
+      (omega (arith, length-replicate {A = ℕ} L.cells 0)));
   many = λ sheet Γ r. rw (← r .network) (many-on sheet (r .accepted) (page longest));
   table = λ sheet σ Γ r. rw (← r .network)
       (λ least.
-      table-on sheet (r .accepted) σ minutes (page mostListing) least (omega (arith, length-replicate {A = ℕ} L.cells 0))
+      table-on sheet (r .accepted) σ minutes (page mostListing) least
+      (omega (arith, length-replicate {A = ℕ} L.cells 0))
       (omega (arith, length-replicate {A = ℕ} mostListing 0)));
   house = λ sheet f Γ form.
       let n = form .reads .network in
       rw (form .form, ← n)
-      (form-on sheet (form .reads .accepted) (page longest) (rw (← n) at (form .few)) (omega (arith, length-replicate {A = ℕ} longest 0)));
+      (form-on sheet (form .reads .accepted) (page longest) (rw (← n) at (form .few))
+      (omega (arith, length-replicate {A = ℕ} longest 0)));
 }

@@ -1,5 +1,5 @@
--- What it means that a call's own refusals decide its answer to an accepted sheet, and that each number then comes exactly
--- where its cause holds. Assumes nothing.
+-- What it means that a call's own refusals decide its answer to an accepted sheet, and that each number then comes
+-- exactly where its cause holds. Assumes nothing.
 use mathlib.Core.Path.{_≡_, refl, ap}
 use mathlib.Core.Logic.{_⊎_, inl, inr}
 use mathlib.Core.Bool.{Bool, true, false, _&&_, _||_, not}
@@ -65,12 +65,18 @@ module _ {A : Type 0} (nothing : A) where
   abbrev pub Settles : List Own → Network → Values A → Type 0
   Settles [] Γ v = (v .number ≡ 0) × (v .line ≡ 0)
   Settles (o ∷ os) Γ v =
-      (o .cause Γ × (v ≡ record { number = o .number; line = 0; value = nothing })) ⊎ ((o .cause Γ → ⊥) × Settles os Γ v)
+      (o .cause Γ × (v ≡ record {
+        number =
+            o .number;
+        line = 0;
+        value = nothing;
+      })) ⊎ ((o .cause Γ → ⊥) × Settles os Γ v)
 
   pub settles-as : {v w : Values A} (own : List Own) (Γ : Network) → v ≡ w → Settles own Γ w → Settles own Γ v
   settles-as own Γ e s = rw e s
 
-  pub settled-one : (own : List Own) (Γ : Network) (v : Values A) → Settles own Γ v → (v .number ≡ 0) ⊎ OneOf own (v .number)
+  pub settled-one : (own : List Own) (Γ : Network) (v : Values A) → Settles own Γ v
+      → (v .number ≡ 0) ⊎ OneOf own (v .number)
   settled-one [] Γ v s = inl (s .0)
   settled-one (o ∷ os) Γ v (inl s) = inr (inl (ap number-of (s .1)))
   settled-one (o ∷ os) Γ v (inr s) = elim (settled-one os Γ v (s .1)) [ inl z ↦ inl z | inr m ↦ inr (inr m) ]
@@ -80,12 +86,14 @@ module _ {A : Type 0} (nothing : A) where
   settled-line (o ∷ os) Γ v (inl s) = ap (λ (w : Values A). w .line) (s .1)
   settled-line (o ∷ os) Γ v (inr s) = settled-line os Γ v (s .1)
 
-  pub settled-empty : (own : List Own) (Γ : Network) (v : Values A) → Settles own Γ v → (v .number ≡ 0 → ⊥) → v .value ≡ nothing
+  pub settled-empty : (own : List Own) (Γ : Network) (v : Values A) → Settles own Γ v → (v .number ≡ 0 → ⊥)
+      → v .value ≡ nothing
   settled-empty [] Γ v s n = absurd (n (s .0))
   settled-empty (o ∷ os) Γ v (inl s) n = ap (λ (w : Values A). w .value) (s .1)
   settled-empty (o ∷ os) Γ v (inr s) n = settled-empty os Γ v (s .1) n
 
-  pub settled-exactly : (own : List Own) (Γ : Network) (v : Values A) → areOwn own ≡ true → Settles own Γ v → Exactly own Γ (v .number)
+  pub settled-exactly : (own : List Own) (Γ : Network) (v : Values A) → areOwn own ≡ true → Settles own Γ v
+      → Exactly own Γ (v .number)
   settled-exactly [] Γ v a s = s .0
   settled-exactly (o ∷ os) Γ v a (inl s) = ((λ e. s .0, λ c. ap number-of (s .1)), λ no. absurd (no (s .0)))
   settled-exactly (o ∷ os) Γ v a (inr s) =

@@ -72,7 +72,10 @@ module _ (sheet : List ℕ) where
       Γ = read sheet .network
 
       by-length : WellFormed Γ → (b : Bool)
-          → elim b as (λ _. Judgement) [ true ↦ J.Judged (verdict Γ t) | false ↦ J.Refused (withoutLine WrongTableLength) ] ≡ J.Judged v → Small (verdictValues v)
+          → elim b as (λ _. Judgement) [
+            | true ↦ J.Judged (verdict Γ t)
+            | false ↦ J.Refused (withoutLine WrongTableLength)
+          ] ≡ J.Judged v → Small (verdictValues v)
       by-length w true e = let q : verdict Γ t ≡ v = cc in rw (← q) (verdict-small Γ t w)
       by-length w false e = not-judged _ v e
 
@@ -83,7 +86,11 @@ module _ (sheet : List ℕ) where
   pub bench-judgement-small : (b : List ℕ) (v : Verdict) → benchJudgement sheet b ≡ J.Judged v → Small (verdictValues v)
   bench-judgement-small b v = by-outcome (read sheet .outcome)
     where
-      by-odd : (odd : Bool) → elim odd as (λ _. Judgement) [ true ↦ J.Refused (withoutLine WrongTableLength) | false ↦ judgement sheet (minutesOf b) ] ≡ J.Judged v → Small (verdictValues v)
+      by-odd : (odd : Bool)
+          → elim odd as (λ _. Judgement) [
+            | true ↦ J.Refused (withoutLine WrongTableLength)
+            | false ↦ judgement sheet (minutesOf b)
+          ] ≡ J.Judged v → Small (verdictValues v)
       by-odd true e = not-judged _ v e
       by-odd false e = judgement-small (minutesOf b) v e
 
@@ -112,7 +119,8 @@ module _ (sheet : List ℕ) where
       by-room h false e = not-counted _ n e
 
       by-end : WellFormed Γ → (end : End) → solve Γ .end ≡ end → solvedFor end σ m .answer ≡ W.Count n → n ≤ 256
-      by-end w Rests p e = by-room (omega (arith, solve-least Γ w p .solves .sized, cells-few w)) (leb (length σ) (length m)) e
+      by-end w Rests p e =
+          by-room (omega (arith, solve-least Γ w p .solves .sized, cells-few w)) (leb (length σ) (length m)) e
       by-end w Passes p e = not-counted _ n e
       by-end w Spent p e = not-counted _ n e
 

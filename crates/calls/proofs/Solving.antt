@@ -56,7 +56,8 @@ module _ (sheet : List ℕ) (a : read sheet .outcome ≡ Accepted) (m : List ℕ
 
   module _ (room : cells net ≤ length m) where
     ends : (end : End) → solve net .end ≡ end → solvedFor end (solve net .reached) m ≡ solving sheet m
-    ends end p = ap (λ (x : End). solvedFor x (solve net .reached) m) (sym p) ∙ solving-room sheet (read sheet) refl a m room
+    ends end p =
+        ap (λ (x : End). solvedFor x (solve net .reached) m) (sym p) ∙ solving-room sheet (read sheet) refl a m room
 
     solved-or-not : Solved ⊎ Unsolved
     solved-or-not = by-end (solve net .end) refl
@@ -75,7 +76,8 @@ module _ (sheet : List ℕ) (a : read sheet .outcome ≡ Accepted) (m : List ℕ
         by-end Spent p = inr (solve-none net wf (unlike-rests (inr p)), ends Spent p)
 
     pub solves-least : (L.Inconsistent net → ⊥)
-        → (σ : List ℕ) × Least net σ × (solving sheet m .answer ≡ W.Count (cells net)) × (solving sheet m .memory ≡ σ ++ drop (cells net) m)
+        → (σ : List ℕ) × Least net σ × (solving sheet m .answer ≡ W.Count (cells net))
+        × (solving sheet m .memory ≡ σ ++ drop (cells net) m)
     solves-least n =
         elim solved-or-not [
           | inl s ↦ (
@@ -105,30 +107,35 @@ module _ (sheet : List ℕ) (a : read sheet .outcome ≡ Accepted) (m : List ℕ
     )
 
     pub solves-done : (L.Inconsistent net → ⊥)
-        → (σ : List ℕ) × Least net σ × (writtenValues (solving sheet m .answer) ≡ done (cells net)) × (solving sheet m .memory ≡ σ ++ drop (cells net) m)
+        → (σ : List ℕ) × Least net σ × (writtenValues (solving sheet m .answer) ≡ done (cells net))
+        × (solving sheet m .memory ≡ σ ++ drop (cells net) m)
     solves-done n = let s = solves-least n in (s .0, s .1, ap writtenValues (s .2), s .3)
 
   pub solver-settles : Settles 0 (solves m) net (writtenValues (solving sheet m .answer))
   solver-settles =
       elim (lt-or-ge (length m) (cells net)) [
-        | inl l ↦ settles-as 0 (solves m) net (sym (ap answer-of (solving-short sheet (read sheet) refl a m l))) (inl (l, refl))
+        | inl l ↦ settles-as 0 (solves m) net (sym (ap answer-of (solving-short sheet (read sheet) refl a m l)))
+            (inl (l, refl))
         | inr l ↦ elim (solved-or-not l) [
           | inl s ↦
               settles-as 0 (solves m) net (sym (ap answer-of (s .left)))
               (inr (λ h. omega (arith, h), inr (λ i. i .none (s .table) (s .least .solves), (refl, refl))))
-          | inr s ↦ settles-as 0 (solves m) net (sym (ap answer-of (s .1))) (inr (λ h. omega (arith, h), inl (s .0, refl)))
+          | inr s ↦ settles-as 0 (solves m) net (sym (ap answer-of (s .1)))
+              (inr (λ h. omega (arith, h), inl (s .0, refl)))
         ]
       ]
 
 -- into bytes: on the minutes of the whole pairs
-module _ (sheet : List ℕ) (a : read sheet .outcome ≡ Accepted) (b : List ℕ) (room : cells (read sheet .network) ≤ length b / 2) where
+module _ (sheet : List ℕ) (a : read sheet .outcome ≡ Accepted) (b : List ℕ)
+    (room : cells (read sheet .network) ≤ length b / 2) where
   abbrev count : ℕ
   count = cells (read sheet .network)
 
   enough : count ≤ length (minutesOf b)
   enough = rw (length-minutesOf b) room
 
-  pub bench-refuses-13 : (writtenValues (benchSolving sheet b .answer) ≡ refusedAs 13) ↔ L.Inconsistent (read sheet .network)
+  pub bench-refuses-13 : (writtenValues (benchSolving sheet b .answer) ≡ refusedAs 13)
+      ↔ L.Inconsistent (read sheet .network)
   bench-refuses-13 = refuses-13 sheet a (minutesOf b) enough
 
   pub bench-solves : (L.Inconsistent (read sheet .network) → ⊥)

@@ -31,7 +31,8 @@ use Rattle.solver.specs.Solve.{solve}
 use Rattle.listing.specs.Listing.{listing}
 use Rattle.calls.specs.Values.{done, refusedAs}
 use Rattle.calls.specs.Calls.{countsOf, summary, summaryValues, judgement, writtenValues, solving, listed}
-use Rattle.calls.specs.Bench.{benchJudgement, benchSolving, passed, breachValues, judgementValues, packed, packedWritten}
+use Rattle.calls.specs.Bench.{benchJudgement, benchSolving, passed, breachValues, judgementValues, packed}
+use Rattle.calls.specs.Bench.{packedWritten}
 use Rattle.calls.specs.Header.{JudgeHolds, SolverHolds}
 use Rattle.calls.specs.Answers.{Reads, Wrote}
 use Rattle.calls.specs.Numbers.{Numbers}
@@ -52,9 +53,11 @@ pub record Demands : Type 0 where
   pub lowest : (sheet : List ℕ) (r : Refusal) (f : FirstFault sheet r) (c : Cause) → Fails (tests sheet (f .above)) c
       → numberOf (r .cause) ≤ numberOf c
   -- "The judge passes a table for an accepted sheet exactly when the three points of a good table hold"
-  pub judged : (sheet σ : List ℕ) (Γ : Network) → Reads sheet Γ → length σ ≡ cells Γ → (verdict Γ σ ≡ Pass) ↔ Solution Γ σ
+  pub judged : (sheet σ : List ℕ) (Γ : Network) → Reads sheet Γ → length σ ≡ cells Γ
+      → (verdict Γ σ ≡ Pass) ↔ Solution Γ σ
   -- and it names a breach exactly where that is the first in document 01's order
-  pub breach-first : (sheet σ : List ℕ) (Γ : Network) (b : Breach) → Reads sheet Γ → (verdict Γ σ ≡ Breached b) ↔ First Γ σ b
+  pub breach-first : (sheet σ : List ℕ) (Γ : Network) (b : Breach) → Reads sheet Γ
+      → (verdict Γ σ ≡ Breached b) ↔ First Γ σ b
   -- point 3 and the hyperarcs agree
   pub agree : (sheet σ : List ℕ) (Γ : Network) → Reads sheet Γ → Dynamic Γ σ ↔ Hyperarcs Γ σ
   -- demand 3: the run ends in "a good table in which each event, in each case, is no later than in any other good
@@ -63,7 +66,8 @@ pub record Demands : Type 0 where
   -- or at none, "exactly when the sheet has no good table"
   pub none : (sheet : List ℕ) (Γ : Network) → Reads sheet Γ → (solve Γ .end ≡ Rests → ⊥) ↔ L.Inconsistent Γ
   -- of the judge's call: it passes a table for an accepted sheet exactly when it is a good table
-  pub passes : (sheet t : List ℕ) (Γ : Network) → Reads sheet Γ → (judgementValues (judgement sheet t) ≡ passed) ↔ Solution Γ t
+  pub passes : (sheet t : List ℕ) (Γ : Network) → Reads sheet Γ
+      → (judgementValues (judgement sheet t) ≡ passed) ↔ Solution Γ t
   -- and of a table of the right length it tells the first breach
   pub breaches : (sheet t : List ℕ) (Γ : Network) (b : Breach) → Reads sheet Γ → length t ≡ cells Γ
       → (judgementValues (judgement sheet t) ≡ breachValues b) ↔ First Γ t b
@@ -74,9 +78,11 @@ pub record Demands : Type 0 where
   -- "otherwise it writes a good table in which each event, in each case, is no later than in any other good table, and
   -- leaves everything behind it unaltered"
   pub solved : (sheet m : List ℕ) (Γ : Network) → Reads sheet Γ → cells Γ ≤ length m → (L.Inconsistent Γ → ⊥)
-      → (σ : List ℕ) × Least Γ σ × (writtenValues (solving sheet m .answer) ≡ done (cells Γ)) × (solving sheet m .memory ≡ σ ++ drop (cells Γ) m)
+      → (σ : List ℕ) × Least Γ σ × (writtenValues (solving sheet m .answer) ≡ done (cells Γ))
+      × (solving sheet m .memory ≡ σ ++ drop (cells Γ) m)
   -- of the listing's call, where there is room: the listing, and everything behind it unaltered
-  pub lists : (sheet t m : List ℕ) (Γ : Network) → Reads sheet Γ → length t ≡ cells Γ → length (listing sheet Γ t) ≤ length m
+  pub lists : (sheet t m : List ℕ) (Γ : Network) → Reads sheet Γ → length t ≡ cells Γ
+      → length (listing sheet Γ t) ≤ length m
       → Wrote (listing sheet Γ t) m (listed sheet t m)
   -- of the bench's calls: demands 2 and 3 on the minutes of the bytes
   pub bench-passes : (sheet b : List ℕ) (Γ : Network) → Reads sheet Γ
@@ -90,4 +96,5 @@ pub record Demands : Type 0 where
       × (benchSolving sheet b .memory ≡ bytesOf σ ++ drop (2 * cells Γ) b)
   -- and the header's functions, as `Header` has them, give back the values that were packed
   pub header-judge : (sheet b : List ℕ) → let v = judgementValues (benchJudgement sheet b) in JudgeHolds (packed v) v
-  pub header-solver : (sheet b : List ℕ) → let w = benchSolving sheet b .answer in SolverHolds (packedWritten w) (writtenValues w)
+  pub header-solver : (sheet b : List ℕ)
+      → let w = benchSolving sheet b .answer in SolverHolds (packedWritten w) (writtenValues w)

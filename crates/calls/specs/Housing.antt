@@ -36,7 +36,8 @@ pub record Housing : Type 0 where
       → Wrote f m (housed sheet m)
   -- the rows in it are those that remain of the sheet's, in document 02's words, and no other list is
   pub rows : (sheet : List ℕ) (Γ : Network) → Reads sheet Γ → Remaining (rowsOf Γ) (remainingOf Γ)
-  pub rows-alone : (sheet : List ℕ) (Γ : Network) (rs : List Constraint) → Reads sheet Γ → Remaining (rowsOf Γ) rs → rs ≡ remainingOf Γ
+  pub rows-alone : (sheet : List ℕ) (Γ : Network) (rs : List Constraint) → Reads sheet Γ → Remaining (rowsOf Γ) rs
+      → rs ≡ remainingOf Γ
   -- the form is a sheet that is accepted, and it is its own form
   pub again : (sheet f : List ℕ) (Γ : Network) → Form sheet Γ f → (Δ : Network) × Form f Δ f
   -- "a second pass changes no byte": the call on the form writes the form
@@ -45,4 +46,5 @@ pub record Housing : Type 0 where
   -- "The form reads back to the same good tables"
   pub tables : (sheet f : List ℕ) (Γ Δ : Network) → Form sheet Γ f → Reads f Δ → SameTables Γ Δ
   -- "Two sheets give equal bytes if and only if their horizons, event lists, signal lists and remaining rows are equal"
-  pub equal : (sheet other f g : List ℕ) (Γ Δ : Network) → Form sheet Γ f → Form other Δ g → (f ≡ g) ↔ Same sheet Γ other Δ
+  pub equal : (sheet other f g : List ℕ) (Γ Δ : Network) → Form sheet Γ f → Form other Δ g
+      → (f ≡ g) ↔ Same sheet Γ other Δ

@@ -81,7 +81,9 @@ pub record Numbers : Type 0 where
   pub solver : (sheet m : List ℕ) → Writes sheet (solves m) (solving sheet m) m
   pub lister : (sheet t m : List ℕ) → Writes sheet (lists sheet t m) (listed sheet t m) m
   pub house-writer : (sheet m : List ℕ) → Writes sheet (houses sheet m) (housed sheet m) m
-  pub player : (sheet t : List ℕ) (m : ℕ) (hs : List Heard) → Answers sheet (plays t m hs) 0 (dueValues (eventsDue sheet t m hs))
+  pub player : (sheet t : List ℕ) (m : ℕ) (hs : List Heard)
+      → Answers sheet (plays t m hs) 0 (dueValues (eventsDue sheet t m hs))
   pub player-on : (sheet t : List ℕ) (m x : ℕ) → Answers sheet (playsOn t m x) 0 (dueValues (eventsDueOn sheet t m x))
-  pub bench-judge : (sheet b : List ℕ) → Answers sheet (judgesBytes b) nothingSaid (judgementValues (benchJudgement sheet b))
+  pub bench-judge : (sheet b : List ℕ)
+      → Answers sheet (judgesBytes b) nothingSaid (judgementValues (benchJudgement sheet b))
   pub bench-solver : (sheet b : List ℕ) → Writes sheet (solvesBytes b) (benchSolving sheet b) b

@@ -19,7 +19,8 @@ pub record Printing : Type 0 where
   -- "or `refused N line L` with the number and the line": the sheet's own refusal, then 13 and 17
   pub table-refused : (sheet : List ℕ) (r : Refusal) → Fault sheet r → tableText sheet ≡ refusedText (turnedAway 0 r)
   pub house-refused : (sheet : List ℕ) (r : Refusal) → Fault sheet r → formText sheet ≡ refusedText (turnedAway 0 r)
-  pub none : (sheet : List ℕ) (Γ : Network) → Reads sheet Γ → Inconsistent Γ → tableText sheet ≡ refusedText (refusedAs 13)
+  pub none : (sheet : List ℕ) (Γ : Network) → Reads sheet Γ → Inconsistent Γ
+      → tableText sheet ≡ refusedText (refusedAs 13)
   pub many : (sheet : List ℕ) (Γ : Network) → Reads sheet Γ → L.rules < length (remainingOf Γ)
       → formText sheet ≡ refusedText (refusedAs 17)
   -- "the solver's listing": that of the least good table

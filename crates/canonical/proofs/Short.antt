@@ -22,7 +22,8 @@ use Rattle.network.specs.declared.Kind.{Kind}
 use Rattle.network.specs.declared.Kind.the-variants.{Max, Min, Fix}
 use Rattle.names.specs.Names.{isName, Literal}
 use Rattle.names.proofs.Tokens.{name-short}
-use Rattle.layout.specs.Layout.{Signal, Rule, Contents, KeepsSignal, KeepsRule, Keeps, noSignal, noRule, signedText, signText}
+use Rattle.layout.specs.Layout.{Signal, Rule, Contents, KeepsSignal, KeepsRule, Keeps, noSignal, noRule, signedText}
+use Rattle.layout.specs.Layout.{signText}
 use Rattle.layout.specs.Layout.{literalsText, labelText, kindText, line, lines, section, signalLine, ruleLine, textOf}
 use Rattle.canonical.specs.Most.{mostCount, mostEvents, mostSignals, mostLabel, mostRule, mostRules, mostForm}
 

@@ -7,7 +7,8 @@ use mathlib.Core.Bool.{Bool, true}
 use mathlib.Core.Option.{Option, none, some}
 use Prim.Native.Nat.{ℕ, _<_}
 use Rattle.prelude.specs.Search.{firstBelow, unless}
-use Rattle.prelude.proofs.Search.{none-of-firstBelow, firstBelow-none, some-of-firstBelow, true-of-unless, unless-true, unless-some}
+use Rattle.prelude.proofs.Search.{none-of-firstBelow, firstBelow-none, some-of-firstBelow, true-of-unless}
+use Rattle.prelude.proofs.Search.{unless-true, unless-some}
 use Rattle.prelude.proofs.Tests.{clash}
 use Rattle.checker.specs.First.{Before}
 

@@ -6,7 +6,8 @@
 use mathlib.Core.Path.{_≡_, refl, sym, _∙_}
 use mathlib.Core.Logic.{inl, inr}
 use mathlib.Core.Bool.{Bool, true, false, _&&_, _||_, not, Bool·beq, and-assoc}
-use mathlib.Core.Bool.{and-true as and-true-right, and-false as and-false-right, or-true as or-true-right, or-false as or-false-right}
+use mathlib.Core.Bool.{and-true as and-true-right, and-false as and-false-right, or-true as or-true-right}
+use mathlib.Core.Bool.{or-false as or-false-right}
 use mathlib.Core.List.{List, [], _∷_}
 use Prim.Native.Nat.{ℕ}
 use native.Mathlib.Omega.{arith}

@@ -11,7 +11,8 @@ use lib.IntN.{ℤ, pos, negsuc, negℤ}
 use lib.ListN.{length, getD}
 use Rattle.prelude.specs.Bytes.{every}
 use Rattle.prelude.proofs.Tests.{either, clash, and-true, by-cond}
-use Rattle.text.specs.Number.{isDigit, isNatural, isNegative, unsigned, isNumber, inRange, magnitude, valueOf, valueFrom}
+use Rattle.text.specs.Number.{isDigit, isNatural, isNegative, unsigned, isNumber, inRange, magnitude, valueOf}
+use Rattle.text.specs.Number.{valueFrom}
 use Rattle.text.specs.Decimal.{decimal}
 use Rattle.text.proofs.RoundTrip.{valueFrom-decimal, isNatural-decimal, decimal-valueFrom}
 use Rattle.network.specs.Limits as L

@@ -31,7 +31,8 @@ use Rattle.names.specs.Found.{foundOf, isFound}
 use Rattle.names.specs.declared.Found.{Found}
 use Rattle.names.proofs.Finds.{found-answers}
 use Rattle.line.specs.Rows.{eventOf, eventRefusal, signalRefusal, isObservation, kindOf, ruleRefusal, ruleOf}
-use Rattle.line.specs.Answers.{givesFound, checkOf, kindFound, limitOf, wordRefusal, rowAnswer, endsRefusal, endsAnswer}
+use Rattle.line.specs.Answers.{givesFound, checkOf, kindFound, limitOf, wordRefusal, rowAnswer, endsRefusal}
+use Rattle.line.specs.Answers.{endsAnswer}
 use Rattle.line.specs.declared.Check.the-variants as K
 use Rattle.line.specs.declared.KindField.the-variants as F
 use Rattle.line.specs.declared.Limit.the-variants as M

@@ -3,7 +3,8 @@ ghost use mathlib.Core.Path.{_≡_};
 ghost use mathlib.Core.Bool.{false, _||_};
 ghost use lib.ListN.{getD};
 ghost use Rattle.text.specs.Number.{isDigit};
-ghost use Rattle.names.specs.Names.{isLetter, isName, isOneLetter, areLiterals, isDash, isLabel, literals, labelOf};
+ghost use Rattle.names.specs.Names.{isLetter, isName, isOneLetter, areLiterals, isDash, isLabel, literals};
+ghost use Rattle.names.specs.Names.{labelOf};
 ghost use Rattle.names.specs.Scan.{mayFollow};
 
 // Lower-case letters.

@@ -30,10 +30,17 @@ use Rattle.opening.proofs.Leaves.{found-not-none, solving-short-left, s
 
 -- a refusal of the solver leaves the bytes, and a table is written as pairs
 module _ (sheet b : List ℕ) where
-  pub bench-kept : (x : Refusal) (m : List ℕ) → Leaves (solving sheet (minutesOf b)) (W.Refused x) m → Leaves (benchSolving sheet b) (W.Refused x) b
-  bench-kept x m h = record { answer = h .answer; memory = sym (ap (λ w. pairsAfter w (solving sheet (minutesOf b) .memory) b) (sym (h .answer))) }
+  pub bench-kept : (x : Refusal) (m : List ℕ) → Leaves (solving sheet (minutesOf b)) (W.Refused x) m
+      → Leaves (benchSolving sheet b) (W.Refused x) b
+  bench-kept x m h =
+      record {
+        answer =
+            h .answer;
+        memory = sym (ap (λ w. pairsAfter w (solving sheet (minutesOf b) .memory) b) (sym (h .answer)));
+      }
 
-  pub bench-found : (n : ℕ) (x y : List ℕ) → Leaves (solving sheet (minutesOf b)) (W.Count n) x → y ≡ bytesOf (take n x) ++ drop (2 * n) b
+  pub bench-found : (n : ℕ) (x y : List ℕ) → Leaves (solving sheet (minutesOf b)) (W.Count n) x
+      → y ≡ bytesOf (take n x) ++ drop (2 * n) b
       → Leaves (benchSolving sheet b) (W.Count n) y
   bench-found n x y h q = record {
     answer = h .answer;
@@ -43,7 +50,8 @@ module _ (sheet b : List ℕ) where
   }
 
 -- what the solver leaves in the front of a table is what the run reached, whatever stood there
-module _ (Γ : Network) (w : WellFormed Γ) (m x : List ℕ) (s : Solved) (is : SolvedIs Γ m x s) (n : ℕ) (found : s ≡ Found n) where
+module _ (Γ : Network) (w : WellFormed Γ) (m x : List ℕ) (s : Solved) (is : SolvedIs Γ m x s) (n : ℕ)
+    (found : s ≡ Found n) where
   reached-sized : solve Γ .end ≡ Rests → length (solve Γ .reached) ≡ cells Γ
   reached-sized p = solve-least Γ w p .solves .sized
 
@@ -60,7 +68,8 @@ module _ (Γ : Network) (w : WellFormed Γ) (m x : List ℕ) (s : Solved) (is : 
 
   pub solved-front : take (cells Γ) x ≡ solve Γ .reached
   solved-front =
-      let whole : x ≡ solve Γ .reached ++ drop (length (solve Γ .reached)) m = is .table ∙ rw (solved-rests, tableAfter) in
+      let whole : x ≡ solve Γ .reached ++ drop (length (solve Γ .reached)) m = is .table
+      ∙ rw (solved-rests, tableAfter) in
       rw whole (take-at (solve Γ .reached) (drop (length (solve Γ .reached)) m) (cells Γ) (reached-sized solved-rests))
 
 -- solving into bytes
@@ -73,15 +82,18 @@ module _ (sheet : List ℕ) (g : Reading) (e : g ≡ read sheet) (a : g .outcome
       → SolvedIs (g .network) (minutesOf b) (tableAfter (solve (g .network)) (minutesOf b)) s
   as-minutes m x s is = record { answer = is .answer; table = refl }
 
-  pub bench-short : length b / 2 < cells (g .network) → Leaves (benchSolving sheet b) (W.Refused (withoutLine BufferTooShort)) b
+  pub bench-short : length b / 2 < cells (g .network)
+      → Leaves (benchSolving sheet b) (W.Refused (withoutLine BufferTooShort)) b
   bench-short h = bench-kept sheet b _ _ (solving-short-left sheet g e a (minutesOf b) (rw (length-minutesOf b) h))
 
-  pub bench-none : (m x : List ℕ) (s : Solved) (n : ℕ) → cells (g .network) ≤ length b / 2 → SolvedIs (g .network) m x s → s ≡ None n
+  pub bench-none : (m x : List ℕ) (s : Solved) (n : ℕ) → cells (g .network) ≤ length b / 2
+      → SolvedIs (g .network) m x s → s ≡ None n
       → Leaves (benchSolving sheet b) (W.Refused (withoutLine Inconsistent)) b
   bench-none m x s n h is q =
       bench-kept sheet b _ _ (solving-none sheet g e a (minutesOf b) _ s n (room h) (as-minutes m x s is) q)
 
-  pub bench-solved : (m x y : List ℕ) (s : Solved) (n : ℕ) → cells (g .network) ≤ length b / 2 → SolvedIs (g .network) m x s → s ≡ Found n
+  pub bench-solved : (m x y : List ℕ) (s : Solved) (n : ℕ) → cells (g .network) ≤ length b / 2
+      → SolvedIs (g .network) m x s → s ≡ Found n
       → y ≡ bytesOf (take (cells (g .network)) x) ++ drop (2 * length (take (cells (g .network)) x)) b
       → Leaves (benchSolving sheet b) (W.Count (cells (g .network))) y
   bench-solved m x y s n h is q z =
@@ -90,8 +102,10 @@ module _ (sheet : List ℕ) (g : Reading) (e : g ≡ read sheet) (a : g .outcome
       let front = solved-front (g .network) w m x s is n q in
       let size : length (solve (g .network) .reached) ≡ cells (g .network) =
       reached-sized (g .network) w m x s is n q (solved-rests (g .network) w m x s is n q) in
-      let same : take (cells (g .network)) x ≡ take (cells (g .network)) (tableAfter (solve (g .network)) (minutesOf b)) =
-      front ∙ sym (solved-front (g .network) w (minutesOf b) (tableAfter (solve (g .network)) (minutesOf b)) s mine n q) in
+      let same : take (cells (g .network)) x ≡ take (cells (g .network))
+      (tableAfter (solve (g .network)) (minutesOf b)) =
+      front ∙ sym (solved-front (g .network) w (minutesOf b)
+      (tableAfter (solve (g .network)) (minutesOf b)) s mine n q) in
       let count : length (take (cells (g .network)) x) ≡ cells (g .network) = rw front size in
       bench-found sheet b (cells (g .network)) _ y (solving-found sheet g e a (minutesOf b) _ s n (room h) mine q)
       (z ∙ rw (count, same))
@@ -111,13 +125,16 @@ module _ (b t x : List ℕ) (n : ℕ) (even : length b ≡ 2 * n) (is : x ≡ mi
   unpacked-sized = rw unpacked-front minutes-sized
 
 -- the front of a solved table has the network's size, and the table is at least as long
-module _ (Γ : Network) (w : WellFormed Γ) (m x : List ℕ) (s : Solved) (is : SolvedIs Γ m x s) (n : ℕ) (found : s ≡ Found n) where
+module _ (Γ : Network) (w : WellFormed Γ) (m x : List ℕ) (s : Solved) (is : SolvedIs Γ m x s) (n : ℕ)
+    (found : s ≡ Found n) where
   pub solved-sized : length (take (cells Γ) x) ≡ cells Γ
-  solved-sized = rw (solved-front Γ w m x s is n found) (reached-sized Γ w m x s is n found (solved-rests Γ w m x s is n found))
+  solved-sized =
+      rw (solved-front Γ w m x s is n found) (reached-sized Γ w m x s is n found (solved-rests Γ w m x s is n found))
 
   pub solved-long : cells Γ ≤ length x
   solved-long =
-      let whole : x ≡ solve Γ .reached ++ drop (length (solve Γ .reached)) m = is .table ∙ rw (solved-rests Γ w m x s is n found, tableAfter) in
+      let whole : x ≡ solve Γ .reached ++ drop (length (solve Γ .reached)) m = is .table
+      ∙ rw (solved-rests Γ w m x s is n found, tableAfter) in
       rw whole
       (omega (
         arith,

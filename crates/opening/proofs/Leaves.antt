@@ -30,7 +30,8 @@ use Rattle.canonical.specs.House.{houseText}
 use Rattle.calls.specs.Calls.{withoutLine, Left, Leaves, kept, written, handedOut, solvedFor, solving, listed, housed}
 use Rattle.calls.specs.declared.Written.{Written}
 use Rattle.calls.specs.declared.Written.the-variants as W
-use Rattle.calls.proofs.Calls.{written-room, well-formed, solving-of, solving-short, solving-room, listed-of, listing-wrong, listing-right}
+use Rattle.calls.proofs.Calls.{written-room, well-formed, solving-of, solving-short, solving-room, listed-of}
+use Rattle.calls.proofs.Calls.{listing-wrong, listing-right}
 use Rattle.calls.proofs.Calls.{house-of, house-many, house-few}
 
 -- found is not none
@@ -71,7 +72,8 @@ module _ (sheet : List ℕ) (g : Reading) (e : g ≡ read sheet) where
     house-refused = kept-left (W.Refused x) m (house-of sheet g e (Refused x) p m)
 
   module _ (a : g .outcome ≡ Accepted) (m : List ℕ) where
-    pub solving-short-left : length m < cells (g .network) → Leaves (solving sheet m) (W.Refused (withoutLine BufferTooShort)) m
+    pub solving-short-left : length m < cells (g .network)
+        → Leaves (solving sheet m) (W.Refused (withoutLine BufferTooShort)) m
     solving-short-left h = kept-left _ m (solving-short sheet g e a m h)
 
     pub listing-wrong-left : (t : List ℕ) → (length t ≡ cells (g .network) → ⊥)
@@ -91,7 +93,8 @@ module _ (sheet : List ℕ) (g : Reading) (e : g ≡ read sheet) where
         → WrittenIs (houseText sheet (g .network)) m x w → Leaves (housed sheet m) (handedOut w) x
     house-written h x w is = leaves-as (house-few sheet g e a m h) (written-by _ m x w is)
 
-    pub solving-found : (x : List ℕ) (s : Solved) (n : ℕ) → cells (g .network) ≤ length m → SolvedIs (g .network) m x s → s ≡ Found n
+    pub solving-found : (x : List ℕ) (s : Solved) (n : ℕ) → cells (g .network) ≤ length m → SolvedIs (g .network) m x s
+        → s ≡ Found n
         → Leaves (solving sheet m) (W.Count (cells (g .network))) x
     solving-found x s n h is found = by-end (solve (g .network) .end) refl
       where
@@ -106,26 +109,35 @@ module _ (sheet : List ℕ) (g : Reading) (e : g ≡ read sheet) where
             let size : length (solve (g .network) .reached) ≡ cells (g .network) =
             solve-least (g .network) (well-formed sheet g e a .0) p .solves .sized in
             let σ = solve (g .network) .reached in
-            let room : solvedFor (solve (g .network) .end) σ m ≡ record { answer = W.Count (length σ); memory = σ ++ drop (length σ) m } =
+            let room : solvedFor (solve (g .network) .end) σ m ≡ record {
+              answer = W.Count
+                  (length σ);
+              memory = σ ++ drop (length σ) m;
+            } =
             ap (λ (x : End). solvedFor x σ m) p ∙ written-room σ m (rw size h) in
-            leaves-as (sym room ∙ solving-room sheet g e a m h) (record { answer = ap W.Count (sym size); memory = is .table ∙ rw (p, tableAfter) })
+            leaves-as (sym room ∙ solving-room sheet g e a m h)
+            (record { answer = ap W.Count (sym size); memory = is .table ∙ rw (p, tableAfter) })
         by-end Passes p = absurd (found-not-none n _ (sym found ∙ is .answer ∙ by-passes p))
         by-end Spent p = absurd (found-not-none n _ (sym found ∙ is .answer ∙ by-spent p))
 
-    pub solving-none : (x : List ℕ) (s : Solved) (n : ℕ) → cells (g .network) ≤ length m → SolvedIs (g .network) m x s → s ≡ None n
+    pub solving-none : (x : List ℕ) (s : Solved) (n : ℕ) → cells (g .network) ≤ length m → SolvedIs (g .network) m x s
+        → s ≡ None n
         → Leaves (solving sheet m) (W.Refused (withoutLine Inconsistent)) x
     solving-none x s n h is none = by-end (solve (g .network) .end) refl
       where
-        unsolved : (end : End) → solve (g .network) .end ≡ end → solvedFor end (solve (g .network) .reached) m ≡ kept (W.Refused (withoutLine Inconsistent)) m
+        unsolved : (end : End) → solve (g .network) .end ≡ end
+            → solvedFor end (solve (g .network) .reached) m ≡ kept (W.Refused (withoutLine Inconsistent)) m
             → x ≡ m → Leaves (solving sheet m) (W.Refused (withoutLine Inconsistent)) x
         unsolved end p k same =
-            leaves-as (sym (ap (λ (y : End). solvedFor y (solve (g .network) .reached) m) p ∙ k) ∙ solving-room sheet g e a m h)
+            leaves-as (sym (ap (λ (y : End). solvedFor y (solve (g .network) .reached) m) p ∙ k)
+            ∙ solving-room sheet g e a m h)
             (record { answer = refl; memory = same })
 
         by-rests : solve (g .network) .end ≡ Rests → solvedOf (solve (g .network)) ≡ Found (solve (g .network) .rounds)
         by-rests p = rw (p, solvedOf)
 
-        by-end : (end : End) → solve (g .network) .end ≡ end → Leaves (solving sheet m) (W.Refused (withoutLine Inconsistent)) x
+        by-end : (end : End) → solve (g .network) .end ≡ end
+            → Leaves (solving sheet m) (W.Refused (withoutLine Inconsistent)) x
         by-end Rests p = absurd (found-not-none _ n (sym (by-rests p) ∙ sym (is .answer) ∙ none))
         by-end Passes p = unsolved Passes p refl (is .table ∙ rw (p, tableAfter))
         by-end Spent p = unsolved Spent p refl (is .table ∙ rw (p, tableAfter))

@@ -5,7 +5,8 @@ use Prim.Native.Nat.{ℕ, _+_, _≤_, _<_}
 use native.Mathlib.Numerals.{add-one}
 use native.Mathlib.Omega.{arith}
 use lib.ListN.{length, take, drop, set, length-append, length-set, take-append-drop}
-use lib.Seq.{paste, length-paste, take-length, take-at, drop-append-add, drop-drop, length-take-le, set-split, append-snoc}
+use lib.Seq.{paste, length-paste, take-length, take-at, drop-append-add, drop-drop, length-take-le, set-split}
+use lib.Seq.{append-snoc}
 use Rattle.page.specs.Appended.{Appended}
 
 pub append-nothing : (b : List ℕ) (at : ℕ) → at ≤ length b → Appended 0 b at [] b at

@@ -21,9 +21,11 @@ use Rattle.network.specs.Strategy.{time}
 use Rattle.network.specs.Solution.{Holds}
 use Rattle.network.specs.WellFormed.{WellFormed}
 use Rattle.network.specs.declared.Network.{Network}
-use Rattle.rounds.specs.Propagate.{isUpper, isLower, upperBound, lowerBound, leastKnown, hyperarc, raised, propagate}
+use Rattle.rounds.specs.Propagate.{isUpper, isLower, upperBound, lowerBound, leastKnown, hyperarc, raised}
+use Rattle.rounds.specs.Propagate.{propagate}
 use Rattle.rounds.specs.Hyperarcs.{Hyperarcs}
-use Rattle.rounds.proofs.Bounds.{leastFrom-near, leastTo-near, cond-near, upper-of-holds, lower-of-holds, holds-of-bounds}
+use Rattle.rounds.proofs.Bounds.{leastFrom-near, leastTo-near, cond-near, upper-of-holds, lower-of-holds}
+use Rattle.rounds.proofs.Bounds.{holds-of-bounds}
 
 -- what one constraint asks, by both halves
 abbrev asks : Network → List ℕ → ℕ → ℕ → ℕ → ℕ

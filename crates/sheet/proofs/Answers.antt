@@ -37,7 +37,7 @@ module _ (sheet : List ℕ) where
           all-hold sheet (a .above)
           (rw (a .is) (record { over = refl; end = ltb-false at (length sheet) e })) (a .pass)
 
-  then-ends : (p : Progress) → Comes sheet NoMore p → Ends (andThen p (readEnd sheet))
+  then-ends : (p : Progress) → Comes sheet (λ at. NoMore) p → Ends (andThen p (readEnd sheet))
   then-ends (Stop r) c = c
   then-ends (Go Γ at k) c = end-comes Γ at k c
 

@@ -25,13 +25,15 @@ use Rattle.line.specs.declared.Section.the-variants.{Events, Signals, Rules}
 use Rattle.sheet.specs.Reading.{Progress, Stop, Go, andThen, readRows, readHorizon, readEvents, readSignals}
 use Rattle.sheet.specs.Reading.{readRules}
 use Rattle.sheet.specs.Sections.{readOf}
-use Rattle.sheet.specs.Place.{Due, Horizon, Heading, Entry, NoMore, behind, entries, Place, testsAt, dueAfter, definedAfter}
-use Rattle.sheet.specs.Place.{next, place, tests}
+use Rattle.sheet.specs.Place.{Due, Horizon, Heading, Entry, NoMore, behind, entries, Place, testsAt, dueAfter}
+use Rattle.sheet.specs.Place.{definedAfter}
+use Rattle.sheet.specs.Place.{follows, next, place, tests}
 use Rattle.sheet.specs.Fault.{FirstFault}
 use Rattle.sheet.proofs.Whole.{toEvents, toSignals, toRules}
 
 -- the refusal of a line is its first test to fail
-section-refusal : (word : String) (lo hi : ℕ) (fs : List (List ℕ)) → sectionRefusal word lo hi fs ≡ firstFailing (sectionTests word lo hi fs)
+section-refusal : (word : String) (lo hi : ℕ) (fs : List (List ℕ))
+    → sectionRefusal word lo hi fs ≡ firstFailing (sectionTests word lo hi fs)
 unfolding sectionRefusal
 section-refusal word lo hi fs = refl
 
@@ -50,10 +52,14 @@ module _ (sheet : List ℕ) where
     pub is : place sheet above ≡ record { due = d; network = Γ; at = at }
     pub pass : (j : ℕ) → j < above → Hold (tests sheet j)
 
-  -- the reading has come so far, or it has stopped at the first fault
-  abbrev pub Comes : Due → Progress → Type 0
+  -- the reading has come so far, to where this is due, or it has stopped at the first fault
+  abbrev pub Comes : (ℕ → Due) → Progress → Type 0
   Comes d (Stop r) = FirstFault sheet r
-  Comes d (Go Γ at k) = At d Γ at k
+  Comes d (Go Γ at k) = At (d at) Γ at k
+
+  -- what is due behind a section that ends here
+  abbrev next-of : Section → ℕ → Due
+  next-of s at = behind s (follows sheet at)
 
   module _ (d : Due) (Γ : Network) (at k : ℕ) (a : At d Γ at k) where
     own-tests : tests sheet (a .above) ≡ testsAt sheet d Γ at
@@ -71,7 +77,8 @@ module _ (sheet : List ℕ) where
 
     goes-on : Hold (testsAt sheet d Γ at)
         → let fs = fields (lineAt sheet at) in
-        At (dueAfter d fs) (definedAfter sheet d Γ at fs) (afterLine sheet at) (suc k)
+        At (dueAfter d (follows sheet (afterLine sheet at)) fs) (definedAfter sheet d Γ at fs) (afterLine sheet at)
+        (suc k)
     goes-on h = record {
       above = suc (a .above);
       number = ap suc (a .number);
@@ -80,7 +87,7 @@ module _ (sheet : List ℕ) where
     }
 
   -- a line by its two tests
-  by-line : (d : Due) (k : ℕ) (b : Bool) (o : Option Cause) (ts : Tests) (p : Progress) → o ≡ firstFailing ts
+  by-line : (d : ℕ → Due) (k : ℕ) (b : Bool) (o : Option Cause) (ts : Tests) (p : Progress) → o ≡ firstFailing ts
       → ((c : Cause) → FirstFails ((b, C.MissingLine) ∷ ts) c → FirstFault sheet (refusal c k))
       → (Hold ((b, C.MissingLine) ∷ ts) → Comes d p)
       → Comes d (elim b as (λ _. Progress) [
@@ -91,43 +98,53 @@ module _ (sheet : List ℕ) where
   by-line d k true none ts p e stop go = go (refl, hold ts (sym e))
   by-line d k true (some c) ts p e stop go = stop c (inr (refl, first-fails ts c (sym e)))
 
-  rows-come : (s : Section) (m : ℕ) (Γ : Network) (at k : ℕ) → At (entries s m) Γ at k
-      → Comes (behind s) (readRows sheet (rowsOf sheet s) m Γ at k)
+  rows-come : (s : Section) (m : ℕ) (Γ : Network) (at k : ℕ) → At (entries s (follows sheet at) m) Γ at k
+      → Comes (next-of s) (readRows sheet (rowsOf sheet s) m Γ at k)
   rows-come s zero Γ at k a = a
   rows-come s (suc m) Γ at k a =
       let fs = fields (lineAt sheet at) in
-      by-line (behind s) k (endsAt sheet at) (rowsOf sheet s .refusal Γ fs) (testsOf sheet s Γ fs) _ (row-refusal sheet s Γ fs)
+      by-line (next-of s) k (endsAt sheet at) (rowsOf sheet s .refusal Γ fs) (testsOf sheet s Γ fs) _
+      (row-refusal sheet s Γ fs)
       (stops (Entry s m) Γ at k a)
       (λ h. rows-come s m (rowsOf sheet s .add Γ at fs) (afterLine sheet at) (suc k) (goes-on (Entry s m) Γ at k a h))
 
-  section-comes : (s : Section) (Γ : Network) (at k : ℕ) → At (Heading s) Γ at k → Comes (behind s) (readOf sheet s Γ at k)
+  section-comes : (s : Section) (Γ : Network) (at k : ℕ) → At (Heading s) Γ at k
+      → Comes (next-of s) (readOf sheet s Γ at k)
   section-comes s Γ at k a =
       let fs = fields (lineAt sheet at) in
       let head = headingOf s in
-      by-line (behind s) k (endsAt sheet at) (sectionRefusal (head .word) (head .least) (head .most) fs)
-      (sectionTests (head .word) (head .least) (head .most) fs) _ (section-refusal (head .word) (head .least) (head .most) fs)
+      by-line (next-of s) k (endsAt sheet at) (sectionRefusal (head .word) (head .least) (head .most) fs)
+      (sectionTests (head .word) (head .least) (head .most) fs) _
+      (section-refusal (head .word) (head .least) (head .most) fs)
       (stops (Heading s) Γ at k a)
       (λ h. rows-come s (sectionCount fs) Γ (afterLine sheet at) (suc k) (goes-on (Heading s) Γ at k a h))
 
-  horizon-comes : Comes (Heading Events) (readHorizon sheet)
+  horizon-comes : Comes (λ at. Heading Events) (readHorizon sheet)
   horizon-comes =
       let fs = fields (lineAt sheet 0) in
-      let a : At Horizon (empty 0) 0 1 = record { above = 0; number = refl; is = refl; pass = λ j l. absurd (omega arith) } in
-      by-line (Heading Events) 1 (endsAt sheet 0) (sectionRefusal "horizon" 0 L.horizon fs) (sectionTests "horizon" 0 L.horizon fs) _
+      let a : At Horizon (empty 0) 0 1 = record {
+        above = 0;
+        number = refl;
+        is = refl;
+        pass = λ j l. absurd
+            (omega arith);
+      } in
+      by-line (λ at. Heading Events) 1 (endsAt sheet 0) (sectionRefusal "horizon" 0 L.horizon fs)
+      (sectionTests "horizon" 0 L.horizon fs) _
       (section-refusal "horizon" 0 L.horizon fs)
       (stops Horizon (empty 0) 0 1 a)
       (goes-on Horizon (empty 0) 0 1 a)
 
-  then-comes : (d e : Due) (p : Progress) (f : Network → ℕ → ℕ → Progress) → Comes d p
-      → ((Γ : Network) (at k : ℕ) → At d Γ at k → Comes e (f Γ at k)) → Comes e (andThen p f)
+  then-comes : (d e : ℕ → Due) (p : Progress) (f : Network → ℕ → ℕ → Progress) → Comes d p
+      → ((Γ : Network) (at k : ℕ) → At (d at) Γ at k → Comes e (f Γ at k)) → Comes e (andThen p f)
   then-comes d e (Stop r) f c g = c
   then-comes d e (Go Γ at k) f c g = g Γ at k c
 
-  pub sections-come : Comes NoMore (toRules sheet)
+  pub sections-come : Comes (λ at. NoMore) (toRules sheet)
   sections-come =
-      then-comes (Heading Rules) NoMore (toSignals sheet) (readRules sheet)
-      (then-comes (Heading Signals) (Heading Rules) (toEvents sheet) (readSignals sheet)
-      (then-comes (Heading Events) (Heading Signals) (readHorizon sheet) (readEvents sheet) horizon-comes
+      then-comes (λ at. Heading Rules) (λ at. NoMore) (toSignals sheet) (readRules sheet)
+      (then-comes (λ at. Heading Signals) (λ at. Heading Rules) (toEvents sheet) (readSignals sheet)
+      (then-comes (λ at. Heading Events) (λ at. Heading Signals) (readHorizon sheet) (readEvents sheet) horizon-comes
       (section-comes Events))
       (section-comes Signals))
       (section-comes Rules)

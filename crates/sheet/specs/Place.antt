@@ -1,5 +1,5 @@
 -- What is due on each line of a sheet, and the tests of that place (01, The sheet and Refused sheets and calls).
-use mathlib.Core.Bool.{not}
+use mathlib.Core.Bool.{Bool, not}
 use mathlib.Core.List.{List, [], _∷_}
 use Prim.Native.Nat.{ℕ, zero, suc}
 use lib.Dec.{ltb}
@@ -22,23 +22,24 @@ pub data Due : Type 0 where
   Entry : Section → ℕ → Due
   NoMore : Due
 
--- "Sections stand in this order, each after its count" (01, The sheet)
-abbrev pub behind : Section → Due
-behind Events = Heading Signals
-behind Signals = Heading Rules
-behind Rules = NoMore
+-- "Sections stand in this order, each after its count" (01, The sheet). What is due behind a section is told whether
+-- bytes follow, since a section may be absent (02, points 3 and 6); of these three none may
+abbrev pub behind : Section → Bool → Due
+behind Events more = Heading Signals
+behind Signals more = Heading Rules
+behind Rules more = NoMore
 
 -- so many lines of a section, and then what is behind it
-abbrev pub entries : Section → ℕ → Due
-entries s zero = behind s
-entries s (suc m) = Entry s m
+abbrev pub entries : Section → Bool → ℕ → Due
+entries s more zero = behind s more
+entries s more (suc m) = Entry s m
 
 -- what is due behind a line with these fields
-abbrev pub dueAfter : Due → List (List ℕ) → Due
-dueAfter Horizon fs = Heading Events
-dueAfter (Heading s) fs = entries s (sectionCount fs)
-dueAfter (Entry s m) fs = entries s m
-dueAfter NoMore fs = NoMore
+abbrev pub dueAfter : Due → Bool → List (List ℕ) → Due
+dueAfter Horizon more fs = Heading Events
+dueAfter (Heading s) more fs = entries s more (sectionCount fs)
+dueAfter (Entry s m) more fs = entries s more m
+dueAfter NoMore more fs = NoMore
 
 -- what is due on a line, what the lines above it have defined, and where it begins
 pub record Place : Type 0 where
@@ -51,6 +52,10 @@ abbrev pub top : Place
 top = record { due = Horizon; network = empty 0; at = 0 }
 
 module _ (sheet : List ℕ) where
+  -- bytes stand from here on
+  abbrev pub follows : ℕ → Bool
+  follows at = ltb at (length sheet)
+
   -- a line that begins here: it has its line feed, and its fields pass
   abbrev pub lineTests : ℕ → (List (List ℕ) → Tests) → Tests
   lineTests at ts = (endsAt sheet at, C.MissingLine) ∷ ts (fields (lineAt sheet at))
@@ -60,7 +65,7 @@ module _ (sheet : List ℕ) where
   testsAt Horizon Γ at = lineTests at (sectionTests "horizon" 0 L.horizon)
   testsAt (Heading s) Γ at = lineTests at (sectionTests (headingOf s .word) (headingOf s .least) (headingOf s .most))
   testsAt (Entry s m) Γ at = lineTests at (testsOf sheet s Γ)
-  testsAt NoMore Γ at = (not (ltb at (length sheet)), C.TrailingBytes) ∷ []
+  testsAt NoMore Γ at = (not (follows at), C.TrailingBytes) ∷ []
 
   -- what is defined behind a line with these fields that begins here
   abbrev pub definedAfter : Due → Network → ℕ → List (List ℕ) → Network
@@ -73,7 +78,7 @@ module _ (sheet : List ℕ) where
   next p =
       let fs = fields (lineAt sheet (p .at)) in
       record {
-        due = dueAfter (p .due) fs;
+        due = dueAfter (p .due) (follows (afterLine sheet (p .at))) fs;
         network = definedAfter (p .due) (p .network) (p .at) fs;
         at = afterLine sheet (p .at);
       }

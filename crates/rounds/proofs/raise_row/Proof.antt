@@ -12,7 +12,8 @@ use Rattle.rows.specs.Rows.{Few, Row, rowOf}
 use Rattle.rows.proofs.Packed.{row-is}
 use Rattle.rows.proofs.First.{first-few}
 use Rattle.rounds.specs.Compiled.{raisedAt}
-use Rattle.rounds.proofs.Raise.{across, ruled, ruled-is, across-start, across-next, rises, raised-row, stored-ext}
+use Rattle.rounds.proofs.Raise.{across, ruled, ruled-is, across-start, across-next, rises, raised-row}
+use Rattle.rounds.proofs.Raise.{stored-ext}
 use Rattle.rounds.proofs.Usable.{powers, signals-in, scenarios-in, observed-in, lists-in, short-in}
 use Rattle.rounds.proofs.Usable.{other-in, row-few, raising-few}
 use Rattle.rounds.proofs.raise_row.Statement.{statement}

@@ -9,7 +9,8 @@ use borrow.Author.Needs.{needs}
 use lib.ListN.{length}
 use Rattle.rounds.proofs.Usable.{scenarios-in}
 use Rattle.rounds.proofs.Turns.{rounded-as}
-use Rattle.solver.proofs.Underway.{Underway, underway-start, underway-turn, underway-leapt, all-of, ended-passing, ended-resting, ended-later, ended-spent}
+use Rattle.solver.proofs.Underway.{Underway, underway-start, underway-turn, underway-leapt, all-of}
+use Rattle.solver.proofs.Underway.{ended-passing, ended-resting, ended-later, ended-spent}
 use Rattle.solver.proofs.run.Statement.{statement}
 use Rattle.solver.proofs.run.Tie as tie
 

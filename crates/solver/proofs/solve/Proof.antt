@@ -4,7 +4,8 @@ use mathlib.Core.Path.{refl}
 use native.Mathlib.Omega.{arith}
 use borrow.Author.Needs.{needs}
 use Rattle.bounds.proofs.Halves.{scenarios-few}
-use Rattle.solver.proofs.Solving.{zeros-at, zero-times, zero-lists, solved-resting, solved-passing, solved-spent, run-as, cells-framed, copied-framed, copied-length}
+use Rattle.solver.proofs.Solving.{zeros-at, zero-times, zero-lists, solved-resting, solved-passing}
+use Rattle.solver.proofs.Solving.{solved-spent, run-as, cells-framed, copied-framed, copied-length}
 use Rattle.solver.proofs.solve.Statement.{statement}
 use Rattle.solver.proofs.solve.Tie as tie
 

@@ -8,7 +8,8 @@ use borrow.Author.Tests.{not-true, not-false}
 use lib.ListN.{length, drop}
 use Rattle.prelude.specs.Bytes.{every}
 use Rattle.names.specs.Names.{isName}
-use Rattle.names.proofs.Tokens.{isLater, name-empty, name-long, name-first, name-rest, every-on, every-stop, every-end}
+use Rattle.names.proofs.Tokens.{isLater, name-empty, name-long, name-first, name-rest, every-on, every-stop}
+use Rattle.names.proofs.Tokens.{every-end}
 use Rattle.names.proofs.token.is_name.Statement.{statement}
 use Rattle.names.proofs.token.is_name.Tie as tie
 
