@@ -49,8 +49,8 @@ houses sheet m =
     ∷ tooShort (length m) (λ Γ. length (houseText sheet Γ))
     ∷ []
 
--- "the table does not pass the judge; a letter in the list is undefined or stands twice; no case has heard exactly this
--- list"
+-- "14, the table does not pass the judge; 15, a letter in the list is undefined or stands twice; 16, no case has heard
+-- exactly this list"
 abbrev pub playing : List ℕ → (Network → Type 0) → (Network → Type 0) → List Own
 playing t misnamed unheard =
     wrongLength t
