@@ -5,13 +5,12 @@ use mathlib.Core.List.{List}
 use Prim.Native.Nat.{ℕ, suc, _≤_, _<_}
 use native.Mathlib.Omega.{arith}
 use lib.ListN.{length}
-use Rattle.prelude.specs.Checks.{Hold}
 use Rattle.prelude.proofs.Checks.{fails-not-hold, first-fails-unique}
 use Rattle.prelude.proofs.Tests.{lt-or-ge, eq-or-ne}
 use Rattle.refusal.specs.Refusal.{numberOf}
 use Rattle.refusal.specs.declared.Cause.{Cause}
 use Rattle.refusal.specs.declared.Refusal.{Refusal}
-use Rattle.sheet.specs.Reading.{longest, read}
+use Rattle.sheet.specs.Reading.{read}
 use Rattle.sheet.specs.Place.{place, tests}
 use Rattle.sheet.specs.Fault.{FirstFault, Fails, Fault}
 use Rattle.sheet.specs.declared.Outcome.{Outcome}
@@ -77,7 +76,3 @@ refused-iff sheet r = (λ e. rw e at (answers sheet), λ f. by-outcome (read she
     by-outcome : (o : Outcome) → Answers sheet o → Fault sheet r → o ≡ Refused r
     by-outcome (Refused q) a f = ap Refused (fault-unique sheet q r a f)
     by-outcome Accepted a f = absurd (no-fault sheet r a f)
-
--- and accepted where it is short enough and each line passes
-pub accepted-holds : (sheet : List ℕ) → read sheet .outcome ≡ Accepted → (length sheet ≤ longest) × ((j : ℕ) → Hold (tests sheet j))
-accepted-holds sheet e = rw e at (answers sheet)
