@@ -4,8 +4,8 @@ use mathlib.Core.Path.{_≡_, refl, sym, _∙_, ap}
 use mathlib.Core.Logic.{inl, inr}
 use mathlib.Core.List.{List}
 use Prim.Native.Nat.{ℕ, _<_}
-use native.Mathlib.Omega.{arith}
 use lib.ListN.{length}
+use Rattle.prelude.proofs.Tests.{zero-is-one}
 use Rattle.network.specs.Build.{scenarios, cells}
 use Rattle.network.specs.Solution.{Solution}
 use Rattle.network.specs.declared.Network.{Network}
@@ -57,10 +57,10 @@ module _ (Γ : Network) (t : List ℕ) (misnamed unheard : Network → Type 0) w
       )
     where
       named : D.Events x ≡ D.Misnamed → ⊥
-      named q = let z : _≡_ {A = ℕ} 0 1 = cc in omega arith
+      named q = zero-is-one cc
 
       never : D.Events x ≡ D.NeverHeard → ⊥
-      never q = let z : _≡_ {A = ℕ} 0 1 = cc in omega arith
+      never q = zero-is-one cc
   heard good D.Misnamed h = inr (λ n. n (good .sized), inr (λ n. n good, inl (h .fifteen refl, refl)))
   heard good D.NeverHeard h =
       let k = h .sixteen refl in
@@ -72,7 +72,7 @@ module _ (Γ : Network) (t : List ℕ) (misnamed unheard : Network → Type 0) w
   by-verdict e (Breached b) p d h = inr (λ n. n e, inl (λ good. unlike (sym p ∙ judged Γ t e .1 good), refl))
     where
       unlike : Breached b ≡ Pass → ⊥
-      unlike q = let z : _≡_ {A = ℕ} 0 1 = cc in omega arith
+      unlike q = zero-is-one cc
 
   played : (j : Judgement) → Judges (length t ≡ cells Γ) Γ t j → (d : Dispatched) → Told d (misnamed Γ) (unheard Γ)
       → Settles 0 (playing t misnamed unheard) Γ (dueValues (playedFor j d))
@@ -120,7 +120,7 @@ module _ (sheet : List ℕ) (a : read sheet .outcome ≡ Accepted) (t : List ℕ
       }
     where
       unlike : D.NeverHeard ≡ D.Misnamed → ⊥
-      unlike q = let z : _≡_ {A = ℕ} 0 1 = cc in omega arith
+      unlike q = zero-is-one cc
 
   pub player-on-settles : (x : ℕ) → Settles 0 (playsOn t m x) net (dueValues (eventsDueOn sheet t m x))
   unfolding eventsDueOn

@@ -8,6 +8,7 @@ use native.Mathlib.Omega.{arith}
 use lib.Dec.{eqb, leb}
 use lib.ListN.{length, drop}
 use lib.Pow.{pow-mono}
+use Rattle.prelude.proofs.Tests.{zero-is-one}
 use Rattle.pairs.specs.Pairs.{minutesOf}
 use Rattle.refusal.specs.declared.Cause.the-variants.{WrongTableLength, BufferTooShort}
 use Rattle.refusal.specs.declared.Refusal.{Refusal}
@@ -62,7 +63,7 @@ module _ (Γ : Network) (σ : List ℕ) (w : WellFormed Γ) where
       by-verdict (Breached b) e = breach-small b (breach-first Γ σ b e)
 
 not-judged {ℓ} : {A : Type ℓ} (r : Refusal) (v : Verdict) → J.Refused r ≡ J.Judged v → A
-not-judged r v e = absurd (let z : _≡_ {A = ℕ} 0 1 = cc in omega arith)
+not-judged r v e = zero-is-one cc
 
 module _ (sheet : List ℕ) where
   judgement-small : (t : List ℕ) (v : Verdict) → judgement sheet t ≡ J.Judged v → Small (verdictValues v)
@@ -100,7 +101,7 @@ module _ (sheet : List ℕ) where
 
   -- a solved table's count
   not-counted : (r : Refusal) (n : ℕ) → W.Refused r ≡ W.Count n → n ≤ 256
-  not-counted r n e = absurd (let z : _≡_ {A = ℕ} 0 1 = cc in omega arith)
+  not-counted r n e = zero-is-one cc
 
   pub count-few : (m : List ℕ) (n : ℕ) → solving sheet m .answer ≡ W.Count n → n ≤ 256
   count-few m n = by-outcome (read sheet .outcome) refl

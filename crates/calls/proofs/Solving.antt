@@ -6,7 +6,7 @@ use Prim.Native.Nat.{ℕ, _*_, _/_, _≤_}
 use native.Mathlib.Omega.{arith}
 use lib.ListN.{length, take, drop}
 use lib.Seq.{take-at}
-use Rattle.prelude.proofs.Tests.{lt-or-ge}
+use Rattle.prelude.proofs.Tests.{zero-is-one, lt-or-ge}
 use Rattle.pairs.specs.Pairs.{minutesOf, bytesOf}
 use Rattle.pairs.proofs.Packing.{length-minutesOf}
 use Rattle.refusal.specs.declared.Cause.the-variants.{Inconsistent}
@@ -35,8 +35,8 @@ answer-of l = writtenValues (l .answer)
 
 -- an end that is not a rest
 unlike-rests : {end : End} → (end ≡ Passes) ⊎ (end ≡ Spent) → end ≡ Rests → ⊥
-unlike-rests (inl p) q = let z : _≡_ {A = ℕ} 0 1 = cc in omega arith
-unlike-rests (inr p) q = let z : _≡_ {A = ℕ} 0 1 = cc in omega arith
+unlike-rests (inl p) q = zero-is-one cc
+unlike-rests (inr p) q = zero-is-one cc
 
 module _ (sheet : List ℕ) (a : read sheet .outcome ≡ Accepted) (m : List ℕ) where
   abbrev net : Network

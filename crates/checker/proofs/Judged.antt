@@ -6,10 +6,10 @@ use mathlib.Core.Logic.{inl, inr, _↔_}
 use mathlib.Core.Option.{Option, none, some}
 use mathlib.Core.List.{List}
 use Prim.Native.Nat.{ℕ, _<_}
-use native.Mathlib.Omega.{arith}
 use lib.ListN.{length}
 use Rattle.prelude.specs.Search.{orElse}
 use Rattle.prelude.proofs.Search.{orElse-none, orElse-some, some-of-firstBelow, none-of-firstBelow, firstBelow-none}
+use Rattle.prelude.proofs.Tests.{zero-is-one}
 use Rattle.network.specs.Build.{constraint, scenarios, cells}
 use Rattle.network.specs.Solution.{OnTime, Holds, Alike, Solution}
 use Rattle.network.specs.declared.Network.{Network}
@@ -25,10 +25,10 @@ use Rattle.checker.proofs.Nested.{Decided, decided}
 -- a pass has no breach, and a breach is the one that was found
 none-of-pass : (o : Option Breach) → verdictOf o ≡ Pass → o ≡ none
 none-of-pass none e = refl
-none-of-pass (some b) e = absurd (let z : _≡_ {A = ℕ} 0 1 = cc in omega arith)
+none-of-pass (some b) e = zero-is-one cc
 
 some-of-breached : (o : Option Breach) (b : Breach) → verdictOf o ≡ Breached b → o ≡ some b
-some-of-breached none b e = absurd (let z : _≡_ {A = ℕ} 0 1 = cc in omega arith)
+some-of-breached none b e = zero-is-one cc
 some-of-breached (some a) b e = cc
 
 module _ (Γ : Network) (σ : List ℕ) where

@@ -4,9 +4,9 @@
 use mathlib.Core.Path.{_≡_, refl, sym, _∙_, ap}
 use mathlib.Core.Option.{Option, none, some}
 use Prim.Native.Nat.{ℕ, _+_, _≤_, _<_}
-use native.Mathlib.Omega.{arith}
 use Rattle.prelude.specs.Search.{firstBelow}
 use Rattle.prelude.proofs.Search.{Searching, searching-start, searching-on, found-at, found-nothing}
+use Rattle.prelude.proofs.Tests.{zero-is-one}
 use Rattle.checker.specs.Found.{foundOf}
 use Rattle.checker.specs.declared.Breach.{Breach}
 use Rattle.checker.specs.declared.Found.{Found}
@@ -14,12 +14,12 @@ use Rattle.checker.specs.declared.Found.the-variants.{Nothing, At}
 
 -- what a search of the code answers tells what its definition found
 pub some-of-found : (o : Option Breach) (b : Breach) → foundOf o ≡ At b → o ≡ some b
-some-of-found none b e = absurd (let z : _≡_ {A = ℕ} 0 1 = cc in omega arith)
+some-of-found none b e = zero-is-one cc
 some-of-found (some a) b e = cc
 
 pub none-of-found : (o : Option Breach) → foundOf o ≡ Nothing → o ≡ none
 none-of-found none e = refl
-none-of-found (some a) e = absurd (let z : _≡_ {A = ℕ} 0 1 = cc in omega arith)
+none-of-found (some a) e = zero-is-one cc
 
 pub record Seeking (f : ℕ → Option Breach) (n i : ℕ) (found : Found) : Type 0 where
   pub search : Searching f n i

@@ -4,7 +4,7 @@ use mathlib.Core.Path.{_≡_, refl, ap}
 use mathlib.Core.Logic.{_↔_}
 use mathlib.Core.List.{List}
 use Prim.Native.Nat.{ℕ}
-use native.Mathlib.Omega.{arith}
+use Rattle.prelude.proofs.Tests.{zero-is-one}
 use Rattle.network.specs.declared.Network.{Network}
 use Rattle.sheet.specs.Reading.{Progress, Stop, Go, progress, answered, read}
 use Rattle.sheet.specs.declared.Outcome.the-variants.{Accepted}
@@ -16,7 +16,7 @@ use Rattle.layout.proofs.Read.{layout-read}
 -- what is accepted is a reading that has come to its end
 by-accepted : {A : Type 0} (p : Progress) → answered p .outcome ≡ Accepted
     → ((Γ : Network) (at k : ℕ) → p ≡ Go Γ at k → A) → A
-by-accepted (Stop r) e f = absurd (let z : _≡_ {A = ℕ} 0 1 = cc in omega arith)
+by-accepted (Stop r) e f = zero-is-one cc
 by-accepted (Go Γ at k) e f = f Γ at k refl
 
 pub accepted-iff : (sheet : List ℕ) → (read sheet .outcome ≡ Accepted) ↔ Layout sheet

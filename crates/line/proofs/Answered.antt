@@ -3,8 +3,8 @@ use mathlib.Core.Path.{_≡_, refl, sym, _∙_, ap}
 use mathlib.Core.Option.{Option, none, some}
 use mathlib.Core.List.{List, []}
 use Prim.Native.Nat.{ℕ, _-_}
-use native.Mathlib.Omega.{arith}
 use lib.ListN.{length, take, drop}
+use Rattle.prelude.proofs.Tests.{zero-is-one}
 use Rattle.text.specs.Lines.{lineFeed, upTo, fields, field, lineAt}
 use Rattle.text.proofs.Lines.{take-drop}
 use Rattle.refusal.specs.declared.Cause.{Cause}
@@ -21,13 +21,13 @@ use Rattle.line.proofs.Refusals.{line-ends, line-is}
 
 -- an answer is a refusal, or what the line holds
 pub row-answer-refused : (o : Option Cause) (x : Entry) (n : ℕ) (c : Cause) → rowAnswer o x n ≡ R.Refused c → o ≡ some c
-row-answer-refused none x n c e = absurd (let z : _≡_ {A = ℕ} 0 1 = cc in omega arith)
+row-answer-refused none x n c e = zero-is-one cc
 row-answer-refused (some d) x n c e = cc
 
 pub row-answer : (o : Option Cause) (x : Entry) (n : ℕ) (y : Entry) (m : ℕ) → rowAnswer o x n ≡ R.Holds y m
     → (o ≡ none) × (x ≡ y) × (n ≡ m)
 row-answer none x n y m e = (refl, cc, cc)
-row-answer (some d) x n y m e = absurd (let z : _≡_ {A = ℕ} 0 1 = cc in omega arith)
+row-answer (some d) x n y m e = zero-is-one cc
 
 -- the part of the sheet that begins at a place
 abbrev pub partAt : List ℕ → ℕ → List ℕ

@@ -13,7 +13,7 @@ use mir.Syntax.{w32}
 use mir.Val.{SFits, toZ, ofZ}
 use mir.ValLaws.{toZ-pos, toZ-ofZ}
 use Rattle.prelude.specs.Checks.{firstFailing}
-use Rattle.prelude.proofs.Tests.{lt-or-ge, by-cond}
+use Rattle.prelude.proofs.Tests.{zero-is-one, lt-or-ge, by-cond}
 use Rattle.text.specs.Number.{isNumber, isNegative, inRange, magnitude, valueOf}
 use Rattle.text.specs.ReadNumber.{capped, numberOf}
 use Rattle.text.specs.declared.Number.the-variants as Num
@@ -31,20 +31,20 @@ pub record ReadAs (most : ℕ) (f : List ℕ) (negative : Bool) (v : ℕ) : Type
 
 by-ill : (k m : Bool) (a : ℕ) → cond k (cond m (Num.Minus a) (Num.Plus a)) Num.IllFormed ≡ Num.IllFormed → k ≡ false
 by-ill false m a e = refl
-by-ill true true a e = absurd (let z : _≡_ {A = ℕ} 0 1 = cc in omega arith)
-by-ill true false a e = absurd (let z : _≡_ {A = ℕ} 0 1 = cc in omega arith)
+by-ill true true a e = zero-is-one cc
+by-ill true false a e = zero-is-one cc
 
 by-plus : (k m : Bool) (a v : ℕ) → cond k (cond m (Num.Minus a) (Num.Plus a)) Num.IllFormed ≡ Num.Plus v
     → (k ≡ true) × (m ≡ false) × (a ≡ v)
-by-plus false m a v e = absurd (let z : _≡_ {A = ℕ} 0 1 = cc in omega arith)
-by-plus true true a v e = absurd (let z : _≡_ {A = ℕ} 0 1 = cc in omega arith)
+by-plus false m a v e = zero-is-one cc
+by-plus true true a v e = zero-is-one cc
 by-plus true false a v e = (refl, refl, cc)
 
 by-minus : (k m : Bool) (a v : ℕ) → cond k (cond m (Num.Minus a) (Num.Plus a)) Num.IllFormed ≡ Num.Minus v
     → (k ≡ true) × (m ≡ true) × (a ≡ v)
-by-minus false m a v e = absurd (let z : _≡_ {A = ℕ} 0 1 = cc in omega arith)
+by-minus false m a v e = zero-is-one cc
 by-minus true true a v e = (refl, refl, cc)
-by-minus true false a v e = absurd (let z : _≡_ {A = ℕ} 0 1 = cc in omega arith)
+by-minus true false a v e = zero-is-one cc
 
 module _ (most : ℕ) (f : List ℕ) where
   pub number-ill : numberOf most f ≡ Num.IllFormed → isNumber f ≡ false

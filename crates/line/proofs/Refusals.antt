@@ -24,7 +24,7 @@ use Rattle.network.specs.Limits as L
 use Rattle.network.specs.declared.Kind.{Kind}
 use Rattle.network.specs.declared.Kind.the-variants.{Max}
 use Rattle.network.specs.declared.Network.{Network}
-use Rattle.prelude.proofs.Tests.{and-true as both}
+use Rattle.prelude.proofs.Tests.{zero-is-one, and-true as both}
 use Rattle.names.specs.Names.{isName, isOneLetter, isLabel, literals, labelOf, lettersOf}
 use Rattle.names.specs.Defined.{placeOf, allDefined, maskOf}
 use Rattle.names.specs.Found.{foundOf, isFound}
@@ -56,12 +56,12 @@ module _ (rest : List ℕ) (e : ℕ) (is : e ≡ length (upTo lineFeed rest)) wh
 
 -- what a check says of its tests
 pub check-refused : (o : Option Cause) (c : Cause) → checkOf o ≡ K.Refused c → o ≡ some c
-check-refused none c e = absurd (let z : _≡_ {A = ℕ} 0 1 = cc in omega arith)
+check-refused none c e = zero-is-one cc
 check-refused (some d) c e = cc
 
 pub check-passed : (o : Option Cause) → checkOf o ≡ K.Passed → o ≡ none
 check-passed none e = refl
-check-passed (some d) e = absurd (let z : _≡_ {A = ℕ} 0 1 = cc in omega arith)
+check-passed (some d) e = zero-is-one cc
 
 -- a section's line
 module _ (word : List ℕ) (lo hi : ℕ) (fs : List (List ℕ)) where
@@ -146,12 +146,12 @@ module _ (sheet : List ℕ) (Γ : Network) (fs : List (List ℕ)) where
 
 -- what a kind that was found says of its field
 pub kind-some : (o : Option Kind) (k : Kind) → kindFound o ≡ F.Is k → o ≡ some k
-kind-some none k e = absurd (let z : _≡_ {A = ℕ} 0 1 = cc in omega arith)
+kind-some none k e = zero-is-one cc
 kind-some (some j) k e = cc
 
 pub kind-none : (o : Option Kind) → kindFound o ≡ F.Other → o ≡ none
 kind-none none e = refl
-kind-none (some j) e = absurd (let z : _≡_ {A = ℕ} 0 1 = cc in omega arith)
+kind-none (some j) e = zero-is-one cc
 
 -- what a limit that was read says of its field
 pub record LimitIs (f : List ℕ) (z : ℤ) : Type 0 where
@@ -161,19 +161,19 @@ pub record LimitIs (f : List ℕ) (z : ℤ) : Type 0 where
 
 by-minutes : (a b : Bool) (x z : ℤ) → cond a (cond b (M.Minutes x) M.Beyond) M.IllFormed ≡ M.Minutes z
     → (a ≡ true) × (b ≡ true) × (x ≡ z)
-by-minutes false b x z e = absurd (let z : _≡_ {A = ℕ} 0 1 = cc in omega arith)
-by-minutes true false x z e = absurd (let z : _≡_ {A = ℕ} 0 1 = cc in omega arith)
+by-minutes false b x z e = zero-is-one cc
+by-minutes true false x z e = zero-is-one cc
 by-minutes true true x z e = (refl, refl, cc)
 
 by-beyond : (a b : Bool) (x : ℤ) → cond a (cond b (M.Minutes x) M.Beyond) M.IllFormed ≡ M.Beyond → (a ≡ true) × (b ≡ false)
-by-beyond false b x e = absurd (let z : _≡_ {A = ℕ} 0 1 = cc in omega arith)
+by-beyond false b x e = zero-is-one cc
 by-beyond true false x e = (refl, refl)
-by-beyond true true x e = absurd (let z : _≡_ {A = ℕ} 0 1 = cc in omega arith)
+by-beyond true true x e = zero-is-one cc
 
 by-ill : (a b : Bool) (x : ℤ) → cond a (cond b (M.Minutes x) M.Beyond) M.IllFormed ≡ M.IllFormed → a ≡ false
 by-ill false b x e = refl
-by-ill true false x e = absurd (let z : _≡_ {A = ℕ} 0 1 = cc in omega arith)
-by-ill true true x e = absurd (let z : _≡_ {A = ℕ} 0 1 = cc in omega arith)
+by-ill true false x e = zero-is-one cc
+by-ill true true x e = zero-is-one cc
 
 module _ (f : List ℕ) where
   pub limit-minutes : (z : ℤ) → limitOf f ≡ M.Minutes z → LimitIs f z

@@ -4,10 +4,10 @@ use mathlib.Core.Bool.{Bool, true, false}
 use mathlib.Core.Option.{Option, none, some, Option·getD}
 use mathlib.Core.List.{List}
 use Prim.Native.Nat.{ℕ, _+_, _≤_, _<_}
-use native.Mathlib.Omega.{arith}
 use Rattle.prelude.specs.Search.{firstBelow, when, answers}
 use Rattle.prelude.proofs.Search.{Searching, searching-on, found-at, found-nothing}
 use Rattle.prelude.proofs.Search.{some-of-firstBelow, none-of-firstBelow, when-some, when-none, answered, unanswered}
+use Rattle.prelude.proofs.Tests.{zero-is-one}
 use Rattle.names.specs.Defined.{eventNamed}
 use Rattle.names.specs.Found.{foundOf, isFound, placeOr}
 use Rattle.names.specs.declared.Found.{Found}
@@ -56,12 +56,12 @@ found-place none = refl
 found-place (some u) = refl
 
 pub found-some : (o : Option ℕ) (u : ℕ) → foundOf o ≡ At u → o ≡ some u
-found-some none u e = absurd (let z : _≡_ {A = ℕ} 0 1 = cc in omega arith)
+found-some none u e = zero-is-one cc
 found-some (some v) u e = cc
 
 pub found-none : (o : Option ℕ) → foundOf o ≡ Nothing → o ≡ none
 found-none none e = refl
-found-none (some v) e = absurd (let z : _≡_ {A = ℕ} 0 1 = cc in omega arith)
+found-none (some v) e = zero-is-one cc
 
 -- the event that a field names, found by a part of the line
 module _ (sheet : List ℕ) (n : ℕ) (starts lengths f g : List ℕ) (same : g ≡ f) (r : Found) where

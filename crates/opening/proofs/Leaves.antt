@@ -4,9 +4,9 @@ use mathlib.Core.Path.{_≡_, refl, sym, _∙_, ap}
 use mathlib.Core.Bool.{Bool, true, false}
 use mathlib.Core.List.{List, _++_}
 use Prim.Native.Nat.{ℕ, _≤_, _<_}
-use native.Mathlib.Omega.{arith}
 use lib.Dec.{leb}
 use lib.ListN.{length, drop}
+use Rattle.prelude.proofs.Tests.{zero-is-one}
 use Rattle.page.specs.Written.{isRoom, writtenOf, bufferAfter, WrittenIs}
 use Rattle.page.specs.declared.Written as PD
 use Rattle.page.specs.declared.Written.the-variants as PW
@@ -36,7 +36,7 @@ use Rattle.calls.proofs.Calls.{house-of, house-many, house-few}
 
 -- found is not none
 pub found-not-none : (n k : ℕ) → _≡_ {A = Solved} (Found n) (None k) → ⊥
-found-not-none n k e = let z : _≡_ {A = ℕ} 0 1 = cc in omega arith
+found-not-none n k e = zero-is-one cc
 
 -- what was promised of one definition is promised of an equal one
 pub leaves-as : {l k : Left} {r : _} {m : List ℕ} → l ≡ k → Leaves l r m → Leaves k r m

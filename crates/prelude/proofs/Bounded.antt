@@ -8,7 +8,7 @@ use native.Mathlib.Numerals.{add-one}
 use native.Mathlib.Omega.{arith}
 use lib.ListN.{length, getD}
 use Rattle.prelude.specs.Bounded.{allBelow, maxBelow, sumBelow, tabulateFrom, tabulate}
-use Rattle.prelude.proofs.Tests.{clash, false-of-not-true, and-true, and-both, and-false, eq-or-ne}
+use Rattle.prelude.proofs.Tests.{zero-is-one, clash, false-of-not-true, and-true, and-both, and-false, eq-or-ne}
 
 module _ (f : ℕ → Bool) where
   pub true-of-allBelow : (n : ℕ) → allBelow n f ≡ true → (k : ℕ) → k < n → f k ≡ true
@@ -24,7 +24,7 @@ module _ (f : ℕ → Bool) where
 
   -- where it fails, it fails somewhere
   pub allBelow-false : (n : ℕ) → allBelow n f ≡ false → (k : ℕ) × (k < n) × (f k ≡ false)
-  allBelow-false zero e = absurd (let z : _≡_ {A = ℕ} 0 1 = cc in omega arith)
+  allBelow-false zero e = zero-is-one cc
   allBelow-false (suc n) e =
       elim (and-false (allBelow n f) (f n) e) [
         | inl p ↦ let w = allBelow-false n p in (w .0, omega (arith, w .1), w .2)

@@ -3,6 +3,7 @@ pub mod Tests
 pub mod Search
 pub mod Checks
 pub mod Bounded
+pub mod Minima
 pub mod Parts
 pub mod Gather
 pub mod Listed

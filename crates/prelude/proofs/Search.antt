@@ -11,7 +11,7 @@ use native.Mathlib.Nat.{sub-zero}
 use native.Mathlib.Numerals.{add-one}
 use native.Mathlib.Omega.{arith}
 use Rattle.prelude.specs.Search.{orElse, firstFrom, firstBelow, when, unless, answers}
-use Rattle.prelude.proofs.Tests.{eq-or-ne}
+use Rattle.prelude.proofs.Tests.{zero-is-one, eq-or-ne}
 
 -- an answer or none
 pub some-or-none : {A : Type 0} (o : Option A) → ((a : A) × (o ≡ some a)) ⊎ (o ≡ none)
@@ -20,7 +20,7 @@ some-or-none (some a) = inl (a, refl)
 
 -- no answer is none
 pub some-not-none {ℓ} : {A : Type 0} {B : Type ℓ} (a : A) → _≡_ {A = Option A} (some a) none → B
-some-not-none a e = absurd (let z : _≡_ {A = ℕ} 0 1 = cc in omega arith)
+some-not-none a e = zero-is-one cc
 
 pub none-not-some {ℓ} : {A : Type 0} {B : Type ℓ} (a : A) → _≡_ {A = Option A} none (some a) → B
 none-not-some a e = some-not-none a (sym e)
@@ -143,9 +143,9 @@ module _ {A : Type 0} where
 
   -- what answers has an answer
   pub answered : (o : Option A) → answers o ≡ true → (a : A) × (o ≡ some a)
-  answered none e = absurd (let z : _≡_ {A = ℕ} 0 1 = cc in omega arith)
+  answered none e = zero-is-one cc
   answered (some a) e = (a, refl)
 
   pub unanswered : (o : Option A) → answers o ≡ false → o ≡ none
   unanswered none e = refl
-  unanswered (some a) e = absurd (let z : _≡_ {A = ℕ} 0 1 = cc in omega arith)
+  unanswered (some a) e = zero-is-one cc

@@ -3,8 +3,13 @@ use mathlib.Core.Path.{_≡_, refl, sym, _∙_}
 use mathlib.Core.Logic.{_⊎_, inl, inr}
 use mathlib.Core.Bool.{Bool, true, false, _&&_, _||_, not, Bool·beq, cond, true≢false}
 use Prim.Native.Nat.{ℕ, _≤_, _<_}
+use native.Mathlib.Omega.{arith}
 use borrow.Author.Tests.{ltb-true, ltb-false, eqb-true, eqb-false, eq-eqb}
 use lib.Dec.{eqb, ltb}
+
+-- two values that are built otherwise are not equal: if they were, then by congruence 0 would be 1
+pub zero-is-one {ℓ} : {A : Type ℓ} → _≡_ {A = ℕ} 0 1 → A
+zero-is-one e = absurd (omega (arith, e))
 
 pub either : (a : Bool) → (a ≡ true) ⊎ (a ≡ false)
 either true = inl refl

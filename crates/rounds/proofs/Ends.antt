@@ -11,7 +11,7 @@ use lib.ListN.{length, getD}
 use lib.Seq.{ext-getD}
 use Rattle.prelude.specs.Bounded.{maxBelow}
 use Rattle.prelude.specs.Bytes.{same}
-use Rattle.prelude.proofs.Tests.{lt-or-ge, false-of-not-true}
+use Rattle.prelude.proofs.Tests.{zero-is-one, lt-or-ge, false-of-not-true}
 use Rattle.prelude.proofs.Bounded.{le-maxBelow, maxBelow-le}
 use Rattle.prelude.proofs.Bytes.{same-true, same-of-eq}
 use Rattle.prelude.proofs.Cells.{by-cell}
@@ -149,13 +149,13 @@ module _ {Γ : Network} {frame : Frame} {counts lists t new climb highest : List
       false-of-not-true (within (cap Γ) (propagate Γ σ)) (λ e.
       elim p [ inl q ↦ omega (arith, highest-of e) | inr q ↦ omega (arith, origin-of e) ])
       in
-      rounded Passes (rw out) (λ e. absurd (let z : _≡_ {A = ℕ} 0 1 = cc in omega arith))
+      rounded Passes (rw out) (λ e. zero-is-one cc)
 
   module _ (low : greatest highest ≤ Γ .horizon) (zeros : getD highest 0 0 ≤ 0) where
     pub ends-resting : greatest climb ≡ 0 → Rounded Γ t new Rests
     unfolding outcomeOf
     ends-resting e = rounded Rests (rw (within-is low zeros, same-is e))
-        (λ e. absurd (let z : _≡_ {A = ℕ} 0 1 = cc in omega arith))
+        (λ e. zero-is-one cc)
 
     pub ends-rising : (greatest climb ≡ 0 → ⊥) → Rounded Γ t new Rises
     unfolding outcomeOf

@@ -15,7 +15,7 @@ use Prim.Native.Nat.{ℕ, zero, suc, _≤_, _<_, min}
 use native.Mathlib.Omega.{arith}
 use borrow.Author.Tests.{not-true, not-false}
 use Rattle.prelude.specs.Bounded.{allBelow}
-use Rattle.prelude.proofs.Tests.{either, or-true, or-false, by-cond, lt-or-ge, eq-or-ne}
+use Rattle.prelude.proofs.Tests.{zero-is-one, either, or-true, or-false, by-cond, lt-or-ge, eq-or-ne}
 use Rattle.prelude.proofs.Bounded.{true-of-allBelow, allBelow-false}
 use Rattle.network.specs.Build.{observation, scenarios}
 use Rattle.network.specs.Scenario.{agree}
@@ -106,7 +106,7 @@ module _ (Γ : Network) (σ : List ℕ) where
       test p = agree s r p || not (known Γ σ s p (at Γ σ s u))
 
       differ : (p : ℕ) → agree s r p ≡ true → agree s r p ≡ false → ⊥
-      differ p a b = let z : _≡_ {A = ℕ} 0 1 = cc in omega arith
+      differ p a b = zero-is-one cc
 
   pub hyperarcs-of-dynamic : Dynamic Γ σ → Hyperarcs Γ σ
   hyperarcs-of-dynamic d = record {

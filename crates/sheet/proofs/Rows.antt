@@ -4,8 +4,8 @@ use mathlib.Core.Bool.{Bool, true, false}
 use mathlib.Core.Option.{Option, none, some}
 use mathlib.Core.List.{List}
 use Prim.Native.Nat.{ℕ, zero, suc}
-use native.Mathlib.Omega.{arith}
 use lib.ListN.{drop}
+use Rattle.prelude.proofs.Tests.{zero-is-one}
 use Rattle.text.specs.Lines.{lineAt, endsAt, afterLine, fields}
 use Rattle.refusal.specs.Refusal.{refusal}
 use Rattle.refusal.specs.declared.Cause.{Cause}
@@ -18,7 +18,7 @@ use Rattle.sheet.specs.Reading.{Progress, Stop, Go, andThen, readLine, r
 
 -- a refusal is no network
 pub stop-not-go {ℓ} : {A : Type ℓ} (r : Refusal) (Γ : Network) (at k : ℕ) → Stop r ≡ Go Γ at k → A
-stop-not-go r Γ at k e = absurd (let z : _≡_ {A = ℕ} 0 1 = cc in omega arith)
+stop-not-go r Γ at k e = zero-is-one cc
 
 -- what follows a section that was read
 pub record Came (p : Progress) (next : Network → ℕ → ℕ → Progress) (q : Progress) : Type 0 where
@@ -47,7 +47,7 @@ module _ (sheet : List ℕ) (at k : ℕ) (refuses : List (List ℕ) → Option C
 
   passing-line : (b : Bool) (o : Option Cause) → endsOr b o ≡ none → (b ≡ true) × (o ≡ none)
   passing-line true o e = (refl, e)
-  passing-line false o e = absurd (let z : _≡_ {A = ℕ} 0 1 = cc in omega arith)
+  passing-line false o e = zero-is-one cc
 
   pub passes : refusalAt ≡ none → Passes
   passes e = let w = passing-line (endsAt sheet at) (refuses fs) e in record { ends = w .0; accepted = w .1 }
@@ -63,13 +63,13 @@ module _ (sheet : List ℕ) (at k : ℕ) (refuses : List (List ℕ) → Option C
     stops : (b : Bool) (o : Option Cause) (c : Cause) → endsOr b o ≡ some c
         → arms b o ≡ Stop (refusal c k)
     stops false o c e = ap (λ (c : Cause). Stop (refusal c k)) (cc)
-    stops true none c e = absurd (let z : _≡_ {A = ℕ} 0 1 = cc in omega arith)
+    stops true none c e = zero-is-one cc
     stops true (some d) c e = ap (λ (c : Cause). Stop (refusal c k)) (cc)
 
     runs-on : (b : Bool) (o : Option Cause) → endsOr b o ≡ none → arms b o ≡ next fs
-    runs-on false o e = absurd (let z : _≡_ {A = ℕ} 0 1 = cc in omega arith)
+    runs-on false o e = zero-is-one cc
     runs-on true none e = refl
-    runs-on true (some d) e = absurd (let z : _≡_ {A = ℕ} 0 1 = cc in omega arith)
+    runs-on true (some d) e = zero-is-one cc
 
     pub readLine-stop : (c : Cause) → refusalAt ≡ some c → readLine sheet at k refuses next ≡ Stop (refusal c k)
     readLine-stop c e = stops (endsAt sheet at) (refuses fs) c e

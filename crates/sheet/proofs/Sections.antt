@@ -9,6 +9,7 @@ use native.Mathlib.Numerals.{add-one}
 use native.Mathlib.Omega.{arith}
 use lib.ListN.{length, drop}
 use Rattle.prelude.specs.Bytes.{ascii}
+use Rattle.prelude.proofs.Tests.{zero-is-one}
 use Rattle.text.specs.Lines.{fields, lineAt, endsAt, afterLine}
 use Rattle.refusal.specs.Refusal.{refusal}
 use Rattle.refusal.specs.declared.Cause.{Cause}
@@ -32,12 +33,12 @@ use Rattle.sheet.proofs.RowTests.{counted}
 use Rattle.sheet.proofs.Stages.{stage-section}
 
 section-answer-refused : (o : Option Cause) (m n : ℕ) (c : Cause) → sectionAnswer o m n ≡ S.Refused c → o ≡ some c
-section-answer-refused none m n c e = absurd (let z : _≡_ {A = ℕ} 0 1 = cc in omega arith)
+section-answer-refused none m n c e = zero-is-one cc
 section-answer-refused (some d) m n c e = cc
 
 section-answer : (o : Option Cause) (m n a b : ℕ) → sectionAnswer o m n ≡ S.Count a b → (o ≡ none) × (m ≡ a) × (n ≡ b)
 section-answer none m n a b e = (refl, cc, cc)
-section-answer (some d) m n a b e = absurd (let z : _≡_ {A = ℕ} 0 1 = cc in omega arith)
+section-answer (some d) m n a b e = zero-is-one cc
 
 -- the line at a place of the sheet, whose remaining part is given
 module _ (sheet : List ℕ) (at k : ℕ) (word : String) (lo hi : ℕ) (rest : List ℕ) (is : rest ≡ drop at sheet) where

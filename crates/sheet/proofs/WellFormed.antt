@@ -7,6 +7,7 @@ use Prim.Native.Nat.{ℕ, suc, _≤_}
 use native.Mathlib.Omega.{arith}
 use lib.Dec.{ltb}
 use lib.ListN.{length}
+use Rattle.prelude.proofs.Tests.{zero-is-one}
 use Rattle.text.specs.Lines.{lineAt, afterLine, fields}
 use Rattle.refusal.specs.Refusal.{refusal}
 use Rattle.refusal.specs.declared.Cause.the-variants as C
@@ -126,5 +127,5 @@ accepted-well-formed sheet e = by-progress (progress sheet) refl e
   where
     by-progress : (p : Progress) → progress sheet ≡ p → answered p .outcome ≡ Accepted
         → WellFormed (answered p .network) × Named sheet (answered p .network)
-    by-progress (Stop r) h e = absurd (let z : _≡_ {A = ℕ} 0 1 = cc in omega arith)
+    by-progress (Stop r) h e = zero-is-one cc
     by-progress (Go Γ at k) h e = read-well-formed sheet Γ at k h

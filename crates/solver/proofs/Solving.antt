@@ -8,6 +8,7 @@ use lib.ListN.{length, getD, drop, replicate, length-replicate, length-append, l
 use lib.Seq.{ext-getD}
 use Rattle.prelude.specs.Bounded.{sumBelow}
 use Rattle.prelude.proofs.Cells.{by-cell}
+use Rattle.prelude.proofs.Tests.{zero-is-one}
 use Rattle.fixpoint.specs.Run.{room, End, Rests, Passes, Spent}
 use Rattle.fixpoint.proofs.Budget.{enough}
 use Rattle.network.specs.Build.{scenarios, cells}
@@ -116,7 +117,7 @@ module _ (Γ : Network) (W : WellFormed Γ) where
       let rests : solve Γ .end ≡ Rests = rw (run-solves A) at (w .0) in
       let count : k ≡ solve Γ .rounds = rw (run-solves A) at (w .1) in
       let here : held Γ exit ≡ solve Γ .reached = rw (run-solves A) at (A .reached (λ e.
-      let y : _≡_ {A = End} Rests Passes = sym (w .0) ∙ e in let z : _≡_ {A = ℕ} 0 1 = cc in omega arith)) in
+      let y : _≡_ {A = End} Rests Passes = sym (w .0) ∙ e in zero-is-one cc)) in
       let size : length (solve Γ .reached) ≡ Γ .events * scenarios Γ =
       ap length (sym here) ∙ length-packed (Γ .events) (scenarios Γ) exit in
       record {
@@ -130,7 +131,7 @@ module _ (Γ : Network) (W : WellFormed Γ) where
   solved-passing {k = k} {j} A =
       let w = ended-passes (A .run .end) (A .run .rounds) (A .turns) k j (A .answer) in
       solved-none Γ Passes k (rw (run-solves A) at (w .0)) (rw (run-solves A) at (w .1))
-      (λ e. let z : _≡_ {A = ℕ} 0 1 = cc in omega arith)
+      (λ e. zero-is-one cc)
 
   pub solved-spent : {exit : List ℕ} {k j : ℕ} → RunIs Γ 2580481 (replicate 256 0) exit (ended.Spent k j)
       → (table : List ℕ)
@@ -138,7 +139,7 @@ module _ (Γ : Network) (W : WellFormed Γ) where
   solved-spent {k = k} {j} A =
       let w = ended-spent (A .run .end) (A .run .rounds) (A .turns) k j (A .answer) in
       solved-none Γ Spent k (rw (run-solves A) at (w .0)) (rw (run-solves A) at (w .1))
-      (λ e. let z : _≡_ {A = ℕ} 0 1 = cc in omega arith)
+      (λ e. zero-is-one cc)
 
 -- an answer that is told
 pub run-as : {Γ : Network} {n : ℕ} {t t′ : List ℕ} {r r′ : Ended} → r ≡ r′ → RunIs Γ n t t′ r → RunIs Γ n t t′ r′

@@ -8,7 +8,7 @@ use Prim.Native.Nat.{ℕ, _+_, _≤_, _<_}
 use native.Mathlib.Omega.{arith}
 use borrow.Author.Tests.{le-leb, leb-true}
 use lib.Dec.{leb}
-use Rattle.prelude.proofs.Tests.{either, clash, false-of-not-true}
+use Rattle.prelude.proofs.Tests.{zero-is-one, either, clash, false-of-not-true}
 use Rattle.text.specs.Number.{isNumber, isNegative, magnitude, inRange}
 use Rattle.text.specs.ReadNumber.{capped, numberOf}
 use Rattle.text.specs.declared.Number.{Number}
@@ -27,17 +27,17 @@ module _ (most : ℕ) (f : List ℕ) where
 
   ill : (ok m : Bool) (v : ℕ) → answer ok m v ≡ Num.IllFormed → ok ≡ false
   ill false m v e = refl
-  ill true true v e = absurd (let z : _≡_ {A = ℕ} 0 1 = cc in omega arith)
-  ill true false v e = absurd (let z : _≡_ {A = ℕ} 0 1 = cc in omega arith)
+  ill true true v e = zero-is-one cc
+  ill true false v e = zero-is-one cc
 
   positive : (ok m : Bool) (v w : ℕ) → answer ok m v ≡ Num.Plus w → (ok ≡ true) × (m ≡ false) × (w ≡ v)
-  positive false m v w e = absurd (let z : _≡_ {A = ℕ} 0 1 = cc in omega arith)
-  positive true true v w e = absurd (let z : _≡_ {A = ℕ} 0 1 = cc in omega arith)
+  positive false m v w e = zero-is-one cc
+  positive true true v w e = zero-is-one cc
   positive true false v w e = (refl, refl, cc)
 
   negative : (ok m : Bool) (v w : ℕ) → answer ok m v ≡ Num.Minus w → (ok ≡ true) × (m ≡ true) × (w ≡ v)
-  negative false m v w e = absurd (let z : _≡_ {A = ℕ} 0 1 = cc in omega arith)
-  negative true false v w e = absurd (let z : _≡_ {A = ℕ} 0 1 = cc in omega arith)
+  negative false m v w e = zero-is-one cc
+  negative true false v w e = zero-is-one cc
   negative true true v w e = (refl, refl, cc)
 
   pub of-ill : numberOf most f ≡ Num.IllFormed → isNumber f ≡ false

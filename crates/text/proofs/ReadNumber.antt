@@ -9,7 +9,7 @@ use native.Mathlib.Omega.{arith}
 use borrow.Author.Tests.{eq-eqb, ne-eqb, le-leb, lt-leb}
 use lib.ListN.{length, getD, drop}
 use Rattle.prelude.specs.Bytes.{every}
-use Rattle.prelude.proofs.Tests.{either, lt-or-ge, eq-or-ne}
+use Rattle.prelude.proofs.Tests.{zero-is-one, either, lt-or-ge, eq-or-ne}
 use Rattle.text.specs.Number.{isDigit, isNatural, valueFrom, isNumber, isNegative}
 use Rattle.text.specs.ReadNumber.{capped, sized, digitsOf, naturalOf, numberOf}
 use Rattle.text.specs.declared.Natural.{Natural}
@@ -76,7 +76,7 @@ module _ (most : ℕ) where
   natural-zero (b ∷ s) h e = rw (eq-eqb b 48 e, ne-eqb (length s) 0 (λ z. h (ap suc z)), and-false)
 
   pub natural-some : (f : List ℕ) (v : ℕ) → naturalOf most f ≡ Nat.Size v → 0 < length f
-  natural-some [] v e = absurd (let z : _≡_ {A = ℕ} 0 1 = cc in omega arith)
+  natural-some [] v e = zero-is-one cc
   natural-some (b ∷ s) v e = omega arith
 
 -- the sign, by the first byte

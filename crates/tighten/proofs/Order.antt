@@ -7,6 +7,7 @@ use borrow.Author.Tests.{leb-false}
 use lib.Dec.{leb→le, le→leb}
 use lib.IntN.{ℤ, pos, negsuc}
 use lib.Signed.{leZ, _≤ℤ_}
+use Rattle.prelude.proofs.Tests.{zero-is-one}
 
 pub le-of-test : (v w : ℤ) → leZ v w ≡ true → v ≤ℤ w
 le-of-test v w e = record { le = rw e tt }
@@ -14,7 +15,7 @@ le-of-test v w e = record { le = rw e tt }
 pub ge-of-test : (v w : ℤ) → leZ v w ≡ false → w ≤ℤ v
 ge-of-test (pos v) (pos w) e = record { le = le→leb w v (omega (arith, leb-false v w e)) }
 ge-of-test (pos v) (negsuc w) e = record { le = tt }
-ge-of-test (negsuc v) (pos w) e = absurd (let z : _≡_ {A = ℕ} 0 1 = cc in omega arith)
+ge-of-test (negsuc v) (pos w) e = zero-is-one cc
 ge-of-test (negsuc v) (negsuc w) e = record { le = le→leb v w (omega (arith, leb-false w v e)) }
 
 pub ≤ℤ-trans : (u v w : ℤ) → u ≤ℤ v → v ≤ℤ w → u ≤ℤ w
