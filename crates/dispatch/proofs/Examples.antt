@@ -28,10 +28,10 @@ table = 0 ∷ 5 ∷ 6 ∷ 0 ∷ 5 ∷ 20 ∷ 0 ∷ 5 ∷ 6 ∷ 0 ∷ 5 ∷ 20 �
 abbrev is : ℕ → Bool → Heard
 is l v = record { letter = l; truth = v }
 
-abbrev p : Bool → Heard
+abbrev pub p : Bool → Heard
 p v = is (code "p") v
 
-abbrev q : Bool → Heard
+abbrev pub q : Bool → Heard
 q v = is (code "q") v
 
 -- a minute, a list, and what is due

@@ -1,7 +1,7 @@
 -- Laws of what is due: what a list tells; cases that differ only in what is not heard yet are alike; what each list
 -- is answered; records in the order of the signals, and the list of what a case has heard; examples. Then the list as a
 -- mask: bits, the bits of letters, one record at a time, the records that a mask names; the code's loops; and what all
--- this says of masks.
+-- this says of masks. Then the list as text, with examples.
 pub mod Told
 pub mod Alike
 pub mod Answers
@@ -14,3 +14,5 @@ pub mod Fold
 pub mod Again
 pub mod Core
 pub mod Mask
+pub mod Written
+pub mod Texts

@@ -14,6 +14,8 @@ ghost use Rattle.dispatch.specs.Due as D;
 ghost use Rattle.dispatch.specs.Said as M;
 use network::Network;
 
+pub mod text;
+
 // A signal that has been heard: its letter and its truth.
 pub struct Heard {
     pub letter: u8,

@@ -1,0 +1,56 @@
+-- `said_by` meets its contract. The invariant: the records of what is left, after a bang or none, make of the mask
+-- that of all. The measure is what is left of the bytes. Assumes nothing.
+use mathlib.Core.Logic.{⊎-elim}
+use Prim.Native.Nat.{_-_}
+use borrow.Author.Needs.{needs}
+use lib.ListN.{length}
+use Rattle.dispatch.proofs.Written.{Saying, saying-start, saying-bang, saying-letter, saying-end}
+use Rattle.dispatch.proofs.text.said_by.Statement.{statement}
+use Rattle.dispatch.proofs.text.said_by.Tie as tie
+
+abbrev Inv-loop : tie.InvT-loop
+Inv-loop t said₀ bang₀ i₀ said bang i = Saying t said bang i
+
+abbrev μ-loop : tie.MeasureT-loop
+μ-loop t said₀ bang₀ i₀ said bang i = length t - i
+
+loop-holds : tie.Need-loop-holds Inv-loop μ-loop
+loop-holds c = saying-start _
+
+shared-slice-read-b : tie.Need-shared-slice-read-b Inv-loop μ-loop
+shared-slice-read-b c = search needs
+
+add-requires : tie.Need-add-requires Inv-loop μ-loop
+add-requires c κs = search needs
+
+add-i : tie.Need-add-i Inv-loop μ-loop
+add-i c = search needs
+
+loop-less : tie.Need-loop-less Inv-loop μ-loop
+loop-less c = search needs
+
+loop-again : tie.Need-loop-again Inv-loop μ-loop
+loop-again c =
+    let in-loop = c .before .before in
+    let inv = in-loop .before .loop .inv in
+    ⊎-elim
+    (λ w. rw (w .2, w .1 .ensures) (saying-letter inv (in-loop .loop-test .taken) (w .0 .taken)))
+    (λ w. rw (w .1) (saying-bang inv (in-loop .loop-test .taken) (w .0 .left)))
+    (c .if1 .came)
+
+returns : tie.Need-returns Inv-loop μ-loop
+returns c = saying-end (c .before .loop .inv) (c .loop-test .left)
+
+pub said-by-spec : {M : Type 1} → statement M
+said-by-spec =
+    tie.close
+    (tie.spec
+    Inv-loop
+    μ-loop
+    loop-holds
+    shared-slice-read-b
+    add-requires
+    add-i
+    loop-less
+    loop-again
+    returns)
