@@ -1,5 +1,5 @@
 -- The demands hold: each is cited from where it is proved. Assumes nothing.
-use mathlib.Core.Path.{refl}
+use mathlib.Core.Path.{refl, sym}
 use Rattle.network.specs.declared.Network.{Network}
 use Rattle.sheet.specs.Reading.{read}
 use Rattle.sheet.proofs.Fault.{refused-iff, fault-lowest}
@@ -11,11 +11,15 @@ use Rattle.rounds.proofs.Hyperarcs.{hyperarcs-agree}
 use Rattle.solver.proofs.Least.{solve-least, solve-none}
 use Rattle.calls.specs.Answers.{Reads}
 use Rattle.calls.specs.Demands.{Demands}
-use Rattle.calls.proofs.Calls.{wrote-text, listing-right, reads-well-formed}
-use Rattle.calls.proofs.Judging.{passes, breaches, bench-passes, bench-breaches}
-use Rattle.calls.proofs.Solving.{refuses-13, solves-done, bench-refuses-13, bench-solves}
-use Rattle.calls.proofs.Header.{header-judge, header-solver}
+use Rattle.calls.specs.Lent.{asMinutes, inPlace}
+use Rattle.calls.specs.Numbers.{minutes}
+use Rattle.calls.proofs.Call.{reads-well-formed}
+use Rattle.calls.proofs.Handed.{minutes-rightly}
+use Rattle.calls.proofs.Judging.{judge-passes, judge-breaches}
+use Rattle.calls.proofs.Solving.{refuses-13, solves-least}
+use Rattle.calls.proofs.Writing.{wrote, listing-wrote}
 use Rattle.calls.proofs.Numbers.{numbers}
+use Rattle.calls.proofs.Benched.{benched}
 
 pub demands : Demands
 demands = record {
@@ -33,16 +37,15 @@ demands = record {
     λ n. solve-none Γ (reads-well-formed r) n,
     λ i e. i .none (solve Γ .reached) (solve-least Γ (reads-well-formed r) e .solves),
   );
-  passes = λ sheet t Γ r. rw (← r .network) (passes sheet (r .accepted) t);
-  breaches = λ sheet t Γ b r. rw (← r .network) (breaches sheet (r .accepted) t b);
-  refused = λ sheet m Γ r. rw (← r .network) (λ h. refuses-13 sheet (r .accepted) m h);
-  solved = λ sheet m Γ r. rw (← r .network) (λ h. solves-done sheet (r .accepted) m h);
+  passes = λ sheet t Γ r. rw (← r .network)
+      (let p = judge-passes sheet (asMinutes t) (minutes t) (r .accepted) (minutes-rightly t (read sheet .network)) in
+      (λ e. p .0 e .1, λ g. p .1 (g .sized, g)));
+  breaches = λ sheet t Γ b r. rw (← r .network)
+      (λ e. judge-breaches sheet (asMinutes t) (minutes t) (r .accepted) (minutes-rightly t (read sheet .network)) e b);
+  refused = λ sheet m Γ r. rw (← r .network) (λ room. refuses-13 sheet (inPlace m) (r .accepted) room);
+  solved = λ sheet m Γ r. rw (← r .network)
+      (λ room n. let s = solves-least sheet (inPlace m) (r .accepted) room n in (s .0, s .1, wrote (s .0) m (sym (s .2))));
   lists = λ sheet t m Γ r. rw (← r .network)
-      (λ sized room. wrote-text _ m (listing-right sheet (read sheet) refl (r .accepted) t m sized) room);
-  bench-passes = λ sheet b Γ r. rw (← r .network) (bench-passes sheet (r .accepted) b);
-  bench-breaches = λ sheet b Γ x r. rw (← r .network) (bench-breaches sheet (r .accepted) b x);
-  bench-refused = λ sheet b Γ r. rw (← r .network) (bench-refuses-13 sheet (r .accepted) b);
-  bench-solved = λ sheet b Γ r. rw (← r .network) (bench-solves sheet (r .accepted) b);
-  header-judge = header-judge;
-  header-solver = header-solver;
+      (λ e. listing-wrote sheet (asMinutes t) (minutes t) m (r .accepted) (minutes-rightly t (read sheet .network)) e);
+  bench = benched;
 }

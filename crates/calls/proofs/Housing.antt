@@ -1,8 +1,6 @@
--- What holds of the house form: where the rows fit it is written, by the call's definition; the rest is cited from the
--- crates that prove it. Assumes nothing.
-use mathlib.Core.Path.{_≡_, refl, sym, _∙_, ap}
+-- What holds of the house form, cited from where it is proved. Assumes nothing.
+use mathlib.Core.Path.{_≡_, refl, sym}
 use mathlib.Core.Logic.{_↔_}
-use mathlib.Core.Bool.{true}
 use mathlib.Core.List.{List}
 use Prim.Native.Nat.{ℕ, _≤_}
 use lib.ListN.{length}
@@ -19,17 +17,11 @@ use Rattle.canonical.specs.House.{houseText}
 use Rattle.canonical.specs.Same.{Same}
 use Rattle.canonical.proofs.Again.{form-accepted, form-again, form-few, form-tables}
 use Rattle.canonical.proofs.Forms.{forms-equal}
-use Rattle.calls.specs.Calls.{written, fit, housed}
+use Rattle.calls.specs.Calls.{housed}
 use Rattle.calls.specs.Answers.{Reads, Wrote}
 use Rattle.calls.specs.Housing.{Form, SameTables, Housing}
-use Rattle.calls.proofs.Calls.{wrote-text, house-few, reads-well-formed}
-use Rattle.calls.proofs.Fit.{few-fit}
-
-all-written : (sheet m f : List ℕ) (Γ : Network) → Form sheet Γ f → length f ≤ length m → Wrote f m (housed sheet m)
-all-written sheet m f Γ form l =
-    let fits : fit (remainingOf Γ) ≡ true → written (houseText sheet Γ) m ≡ housed sheet m =
-    rw (← form .reads .network) (house-few sheet (read sheet) refl (form .reads .accepted) m) in
-    wrote-text f m (ap (λ (t : List ℕ). written t m) (form .form) ∙ fits (few-fit (remainingOf Γ) (form .few))) l
+use Rattle.calls.proofs.Call.{reads-well-formed}
+use Rattle.calls.proofs.Writing.{house-wrote}
 
 -- a form by its sheet alone: the network and the bytes are told by it
 by-sheet {ℓ} : (P : List ℕ → Network → List ℕ → Type ℓ)
@@ -39,6 +31,11 @@ by-sheet {ℓ} : (P : List ℕ → Network → List ℕ → Type ℓ)
 by-sheet P h sheet f Γ form =
     let n = form .reads .network in
     rw (form .form, ← n) (h sheet (form .reads .accepted) (rw (← n) at (form .few)))
+
+all-written : (sheet m f : List ℕ) (Γ : Network) → Form sheet Γ f → length f ≤ length m → Wrote f m (housed sheet m)
+all-written sheet m f Γ form =
+    by-sheet (λ sheet Γ f. length f ≤ length m → Wrote f m (housed sheet m)) (λ sheet a. house-wrote sheet m a) sheet f Γ
+    form
 
 again : (sheet f : List ℕ) (Γ : Network) → Form sheet Γ f → (Δ : Network) × Form f Δ f
 again =

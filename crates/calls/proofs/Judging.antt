@@ -1,17 +1,16 @@
 -- The judge's answers in the papers' numbers: values tell the verdict, so a pass is a good table and a breach the
 -- first. One argument for tables of minutes and of bytes. Assumes nothing.
 use mathlib.Core.Path.{_≡_, refl, sym, _∙_, ap}
-use mathlib.Core.Logic.{_⊎_, inl, inr, _↔_}
+use mathlib.Core.Logic.{inl, inr, _↔_}
 use mathlib.Core.Bool.{cond}
-use mathlib.Core.List.{List, [], _∷_}
-use Prim.Native.Nat.{ℕ, _*_}
+use mathlib.Core.List.{List}
+use Prim.Native.Nat.{ℕ}
 use native.Mathlib.Omega.{arith}
 use lib.Dec.{eqb}
 use lib.ListN.{length}
-use Rattle.prelude.proofs.Tests.{eq-or-ne}
-use Rattle.pairs.specs.Pairs.{minutesOf}
-use Rattle.pairs.proofs.Packing.{length-minutesOf}
-use Rattle.refusal.specs.declared.Cause.the-variants as C
+use Rattle.refusal.specs.declared.Refusal.{Refusal}
+use Rattle.refusal.specs.Refusal.{numberOf}
+use Rattle.refusal.proofs.Numbered.{numbered}
 use Rattle.network.specs.Build.{cells}
 use Rattle.network.specs.Solution.{Solution}
 use Rattle.network.specs.declared.Network.{Network}
@@ -27,14 +26,18 @@ use Rattle.checker.specs.declared.Verdict.the-variants.{Pass, Breach as Breache
 use Rattle.checker.proofs.Judged.{judged}
 use Rattle.checker.proofs.First.{breach-iff}
 use Rattle.calls.specs.Values.{Values}
-use Rattle.calls.specs.Calls.{withoutLine, judgement}
-use Rattle.calls.specs.Bench.{benchJudgement, Said, nothingSaid, passed, breachValues, verdictValues}
-use Rattle.calls.specs.Bench.{judgementValues}
+use Rattle.calls.specs.Call.{withoutLine}
+use Rattle.calls.specs.Lent.{Handed}
+use Rattle.calls.specs.Calls.{judgingTests, judging}
+use Rattle.calls.specs.Bench.{Said, nothingSaid, passed, breachValues, verdictValues, judgementValues}
+use Rattle.calls.specs.Answers.{Answers}
+use Rattle.calls.specs.Numbers.{judges}
 use Rattle.calls.specs.declared.Judgement.{Judgement}
 use Rattle.calls.specs.declared.Judgement.the-variants as J
-use Rattle.calls.proofs.Settled.{number-of, Settles}
-use Rattle.calls.proofs.Calls.{judged-wrong, judged-as}
-use Rattle.calls.proofs.Bytes.{bench-wrong, bench-judged}
+use Rattle.calls.proofs.Call.{Ends, faulty, failed, worked, ends, call-works}
+use Rattle.calls.proofs.Settled.{number-of}
+use Rattle.calls.proofs.Matched.{Matches, answers-call}
+use Rattle.calls.proofs.Handed.{Rightly}
 
 -- the verdict of which these are the values
 abbrev verdictOf : Said → Verdict
@@ -60,81 +63,52 @@ no-refusal (Breached (Late s u)) = (refl, refl)
 no-refusal (Breached (Rule s c)) = (refl, refl)
 no-refusal (Breached (Unheard s r u)) = (refl, refl)
 
--- a table that is the right one is judged, and any other refused
-abbrev pub Judges : Type 0 → Network → List ℕ → Judgement → Type 0
-Judges Right Γ σ j =
-    (Right × (J.Judged (verdict Γ σ) ≡ j)) ⊎ ((Right → ⊥) × (J.Refused (withoutLine C.WrongTableLength) ≡ j))
+unlike : (r : Refusal) (v : Verdict) → judgementValues (J.Refused r) ≡ verdictValues v → ⊥
+unlike r v e = numbered (r .cause) (ap number-of e ∙ no-refusal v .0)
 
-module _ (Right : Type 0) (Γ : Network) (σ : List ℕ) (j : Judgement) (judges : Judges Right Γ σ j) where
-  pub judge-settles : Settles nothingSaid (record { number = 11; cause = λ _. Right → ⊥ } ∷ []) Γ (judgementValues j)
-  judge-settles =
-      elim judges [
-        | inl g ↦ let z = no-refusal (verdict Γ σ) in rw (← g .1) (inr (λ n. n (g .0), z))
-        | inr g ↦ rw (← g .1) (inl (g .0, refl))
-      ]
-
-  judged-by : (v : Verdict) → judgementValues j ≡ verdictValues v → Right × (verdict Γ σ ≡ v)
-  judged-by v e =
-      elim judges [
-        | inl g ↦ (g .0, told-apart (verdict Γ σ) v (ap judgementValues (g .1) ∙ e))
-        | inr g ↦ absurd (let z : 11 ≡ verdictValues v .number =
-            ap number-of (ap judgementValues (g .1) ∙ e) in omega (arith, no-refusal v .0))
-      ]
-
-  judged-so : Right → (v : Verdict) → verdict Γ σ ≡ v → judgementValues j ≡ verdictValues v
-  judged-so right v e =
-      elim judges [
-        | inl g ↦ sym (ap judgementValues (g .1)) ∙ ap verdictValues e
-        | inr g ↦ absurd (g .0 right)
-      ]
-
-  pub judge-passes : (Right → length σ ≡ cells Γ) → (judgementValues j ≡ passed) ↔ (Right × Solution Γ σ)
-  judge-passes sized = (
-    λ e. let g = judged-by Pass e in (g .0, judged Γ σ (sized (g .0)) .0 (g .1)),
-    λ s. judged-so (s .0) Pass (judged Γ σ (sized (s .0)) .1 (s .1)),
-  )
-
-  pub judge-breaches : Right → (b : Breach) → (judgementValues j ≡ breachValues b) ↔ First Γ σ b
-  judge-breaches right b = (
-    λ e. breach-iff Γ σ b .0 (judged-by (Breached b) e .1),
-    λ f. judged-so right (Breached b) (breach-iff Γ σ b .1 f),
-  )
-
-module _ (sheet : List ℕ) (a : read sheet .outcome ≡ Accepted) where
+module _ (sheet : List ℕ) (t : Handed) (right : Network → Type 0) where
   abbrev net : Network
   net = read sheet .network
 
-  pub judge-judges : (t : List ℕ) → Judges (length t ≡ cells net) net t (judgement sheet t)
-  judge-judges t =
-      elim (eq-or-ne (length t) (cells net)) [
-        | inl e ↦ inl (e, judged-as sheet (read sheet) refl a t e)
-        | inr n ↦ inr (n, judged-wrong sheet (read sheet) refl a t n)
-      ]
+  abbrev answer : Judgement
+  answer = judging sheet t
 
-  pub bench-judges : (b : List ℕ) → Judges (length b ≡ 2 * cells net) net (minutesOf b) (benchJudgement sheet b)
-  bench-judges b =
-      elim (eq-or-ne (length b) (2 * cells net)) [
-        | inl e ↦ inl (e, bench-judged sheet (read sheet) refl a b e)
-        | inr n ↦ inr (n, bench-wrong sheet (read sheet) refl a b n)
-      ]
+  pub judge-answers : (read sheet .outcome ≡ Accepted → Rightly t right net)
+      → Answers sheet (judges right) nothingSaid (judgementValues answer)
+  judge-answers rightly =
+      answers-call judgementValues nothingSaid J.Refused (λ r. refl) sheet (judgingTests t)
+      (λ Γ. J.Judged (verdict Γ (t .minutes))) (judges right) refl (λ a. (refl, rightly a .no, λ _. tt))
+      (λ Γ. no-refusal (verdict Γ (t .minutes)))
 
-  pub passes : (t : List ℕ) → (judgementValues (judgement sheet t) ≡ passed) ↔ Solution net t
-  passes t =
-      let p = judge-passes (length t ≡ cells net) net t (judgement sheet t) (judge-judges t) (λ e. e) in
-      (λ e. p .0 e .1, λ s. p .1 (s .sized, s))
+  module _ (a : read sheet .outcome ≡ Accepted) (rightly : Rightly t right net) where
+    judged-so : right net → J.Judged (verdict net (t .minutes)) ≡ answer
+    judged-so h =
+        call-works J.Refused sheet (judgingTests t) (λ Γ. J.Judged (verdict Γ (t .minutes))) (read sheet) refl
+        a (rightly .yes .1 h, tt)
 
-  pub breaches : (t : List ℕ) (b : Breach) → length t ≡ cells net
-      → (judgementValues (judgement sheet t) ≡ breachValues b) ↔ First net t b
-  breaches t b l = judge-breaches (length t ≡ cells net) net t (judgement sheet t) (judge-judges t) l b
+    judged-by : (v : Verdict) → judgementValues answer ≡ verdictValues v → right net × (verdict net (t .minutes) ≡ v)
+    judged-by v e =
+        by-end (ends J.Refused sheet (judgingTests t) (λ Γ. J.Judged (verdict Γ (t .minutes))))
+      where
+        by-end : Ends J.Refused sheet (judgingTests t) (λ Γ. J.Judged (verdict Γ (t .minutes)))
+            → right net × (verdict net (t .minutes) ≡ v)
+        by-end (faulty r p q) = absurd (unlike r v (ap judgementValues q ∙ e))
+        by-end (failed p c f q) = absurd (unlike (withoutLine c) v (ap judgementValues q ∙ e))
+        by-end (worked p h q) =
+            (rightly .yes .0 (h .0), told-apart (verdict net (t .minutes)) v (ap judgementValues q ∙ e))
 
-  module _ (b : List ℕ) where
-    pub bench-passes : (judgementValues (benchJudgement sheet b) ≡ passed)
-        ↔ ((length b ≡ 2 * cells net) × Solution net (minutesOf b))
-    bench-passes =
-        judge-passes (length b ≡ 2 * cells net) net (minutesOf b) (benchJudgement sheet b) (bench-judges b)
-        (λ e. omega (arith, length-minutesOf b))
+    told : right net → (v : Verdict) → verdict net (t .minutes) ≡ v → judgementValues answer ≡ verdictValues v
+    told h v e = sym (ap judgementValues (judged-so h)) ∙ ap verdictValues e
 
-    pub bench-breaches : (x : Breach) → length b ≡ 2 * cells net
-        → (judgementValues (benchJudgement sheet b) ≡ breachValues x) ↔ First net (minutesOf b) x
-    bench-breaches x l =
-        judge-breaches (length b ≡ 2 * cells net) net (minutesOf b) (benchJudgement sheet b) (bench-judges b) l x
+    pub judge-passes : (judgementValues answer ≡ passed) ↔ (right net × Solution net (t .minutes))
+    judge-passes = (
+      λ e. let g = judged-by Pass e in (g .0, judged net (t .minutes) (rightly .sized (g .0)) .0 (g .1)),
+      λ s. told (s .0) Pass (judged net (t .minutes) (rightly .sized (s .0)) .1 (s .1)),
+    )
+
+    pub judge-breaches : right net → (b : Breach)
+        → (judgementValues answer ≡ breachValues b) ↔ First net (t .minutes) b
+    judge-breaches h b = (
+      λ e. breach-iff net (t .minutes) b .0 (judged-by (Breached b) e .1),
+      λ f. told h (Breached b) (breach-iff net (t .minutes) b .1 f),
+    )

@@ -1,22 +1,25 @@
--- The calls' definitions and the edge of 17, those of the bench and the player's; what settles an answer; the judge,
--- the solver and the player in the papers' numbers; which numbers and lines each call answers; what the header's
--- functions give back; what holds of playing, of the house form and of what is printed; the demands; and the trial
--- sheets.
-pub mod Calls
-pub mod Fit
-pub mod Bytes
-pub mod Play
-pub mod Small
+-- How a call ends; what settles an answer, and how a call's tests do; tables that are handed in; the edge of 17; the
+-- judge, the solver, the writers and the player in the papers' numbers; which numbers and lines each call answers; what
+-- the header's functions give back; what holds of playing, of the house form and of what is printed; the demands; and
+-- the trial sheets.
+pub mod Call
 pub mod Settled
 pub mod Answers
-pub mod Keeping
+pub mod Matched
+pub mod Handed
+pub mod Fit
 pub mod Judging
 pub mod Solving
+pub mod Writing
+pub mod Alike
+pub mod Play
 pub mod Player
 pub mod Numbers
+pub mod Small
 pub mod Header
 pub mod Playing
 pub mod Housing
 pub mod Printing
+pub mod Benched
 pub mod Demands
 pub mod Trials

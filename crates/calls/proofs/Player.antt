@@ -1,7 +1,8 @@
--- The player's refusals: the table's length, then the judge, then what is heard. One argument for lists and for masks.
--- Assumes nothing.
+-- The player's refusals: the table's length, then the judge, then what is heard. One argument for lists, masks and texts,
+-- and for tables of minutes and of bytes. Assumes nothing.
 use mathlib.Core.Path.{_≡_, refl, sym, _∙_, ap}
-use mathlib.Core.Logic.{inl, inr}
+use mathlib.Core.Logic.{_↔_}
+use mathlib.Core.Bool.{true, false}
 use mathlib.Core.List.{List}
 use Prim.Native.Nat.{ℕ, _<_}
 use lib.ListN.{length}
@@ -16,116 +17,137 @@ use Rattle.checker.specs.Verdict.{verdict}
 use Rattle.checker.specs.declared.Verdict.{Verdict}
 use Rattle.checker.specs.declared.Verdict.the-variants.{Pass, Breach as Breached}
 use Rattle.checker.proofs.Judged.{judged}
-use Rattle.dispatch.specs.Heard.{WellNamed}
+use Rattle.dispatch.specs.Heard.{Lettered, WellNamed}
 use Rattle.dispatch.specs.Due.{due}
 use Rattle.dispatch.specs.Said.{saidFrom, dueOn}
-use Rattle.dispatch.specs.History.{History}
+use Rattle.dispatch.specs.Written.{heardIn, dueText}
 use Rattle.dispatch.specs.declared.Heard.{Heard}
 use Rattle.dispatch.specs.declared.Dispatched.{Dispatched}
-use Rattle.dispatch.specs.declared.Dispatched.the-variants as D
+use Rattle.dispatch.specs.declared.Dispatched.the-variants as P
 use Rattle.dispatch.proofs.Answers.{due-misnamed, due-never}
 use Rattle.dispatch.proofs.Mask.{due-said, due-on-misnamed}
-use Rattle.calls.specs.Values.{Values}
-use Rattle.calls.specs.Calls.{judgement}
-use Rattle.calls.specs.Play.{answerTo, playedFor, eventsDue, eventsDueOn, dueValues}
-use Rattle.calls.specs.Numbers.{playing, plays, playsOn}
-use Rattle.calls.specs.declared.Judgement.{Judgement}
-use Rattle.calls.specs.declared.Judgement.the-variants as J
-use Rattle.calls.proofs.Settled.{Settles}
-use Rattle.calls.proofs.Judging.{Judges, judge-judges}
-use Rattle.calls.proofs.Play.{lettered}
+use Rattle.dispatch.proofs.Written.{text-misnamed, text-never}
+use Rattle.calls.specs.Lent.{Handed}
+use Rattle.calls.specs.Play.{named, everHeard, eventsOf, isPass, playingTests, playing, dueValues}
+use Rattle.calls.specs.Answers.{Answers}
+use Rattle.calls.specs.Numbers.{plays, misnamedBy, unheardBy, misnamedOn, unheardOn, misnamedIn}
+use Rattle.calls.specs.declared.Due.{Due}
+use Rattle.calls.specs.declared.Due.the-variants as D
+use Rattle.calls.proofs.Matched.{answers-call}
+use Rattle.calls.proofs.Handed.{Rightly}
 
--- what the player says of a list or mask: misnamed and unheard are the causes of 15 and 16
-record Told (d : Dispatched) (misnamed unheard : Type 0) : Type 0 where
-  fifteen : d ≡ D.Misnamed → misnamed
-  misnames : misnamed → d ≡ D.Misnamed
-  sixteen : d ≡ D.NeverHeard → (misnamed → ⊥) × unheard
-  unhears : unheard → (d ≡ D.NeverHeard → ⊥) → misnamed
+-- a pass, and no pass
+pub pass-true : (v : Verdict) → (isPass v ≡ true) ↔ (v ≡ Pass)
+pass-true Pass = (λ e. refl, λ e. refl)
+pass-true (Breached b) = (λ e. zero-is-one cc, λ e. zero-is-one cc)
 
-module _ (Γ : Network) (t : List ℕ) (misnamed unheard : Network → Type 0) where
-  -- of a good table
-  heard : (good : Solution Γ t) (d : Dispatched) → Told d (misnamed Γ) (unheard Γ)
-      → Settles 0 (playing t misnamed unheard) Γ (dueValues (answerTo d))
-  heard good (D.Events x) h =
-      inr (
-        λ n. n (good .sized),
-        inr (
-          λ n. n good,
-          inr
-              (λ n. named (h .misnames n), inr (λ n. named (h .misnames (h .unhears n never)), (refl, refl))),
-        ),
-      )
-    where
-      named : D.Events x ≡ D.Misnamed → ⊥
-      named q = zero-is-one cc
+pass-false : (v : Verdict) → (isPass v ≡ false) ↔ (v ≡ Pass → ⊥)
+pass-false Pass = (λ e. zero-is-one cc, λ n. absurd (n refl))
+pass-false (Breached b) = (λ e q. zero-is-one cc, λ n. refl)
 
-      never : D.Events x ≡ D.NeverHeard → ⊥
-      never q = zero-is-one cc
-  heard good D.Misnamed h = inr (λ n. n (good .sized), inr (λ n. n good, inl (h .fifteen refl, refl)))
-  heard good D.NeverHeard h =
-      let k = h .sixteen refl in
-      inr (λ n. n (good .sized), inr (λ n. n good, inr (k .0, inl (k .1, refl))))
+-- what the player says
+named-false : (d : Dispatched) → (named d ≡ false) ↔ (d ≡ P.Misnamed)
+named-false (P.Events x) = (λ e. zero-is-one cc, λ e. zero-is-one cc)
+named-false P.Misnamed = (λ e. refl, λ e. refl)
+named-false P.NeverHeard = (λ e. zero-is-one cc, λ e. zero-is-one cc)
 
-  by-verdict : length t ≡ cells Γ → (w : Verdict) → verdict Γ t ≡ w → (d : Dispatched) → Told d (misnamed Γ) (unheard Γ)
-      → Settles 0 (playing t misnamed unheard) Γ (dueValues (playedFor (J.Judged w) d))
-  by-verdict e Pass p d h = heard (judged Γ t e .0 p) d h
-  by-verdict e (Breached b) p d h = inr (λ n. n e, inl (λ good. unlike (sym p ∙ judged Γ t e .1 good), refl))
-    where
-      unlike : Breached b ≡ Pass → ⊥
-      unlike q = zero-is-one cc
+heard-false : (d : Dispatched) → (everHeard d ≡ false) ↔ (d ≡ P.NeverHeard)
+heard-false (P.Events x) = (λ e. zero-is-one cc, λ e. zero-is-one cc)
+heard-false P.Misnamed = (λ e. zero-is-one cc, λ e. zero-is-one cc)
+heard-false P.NeverHeard = (λ e. refl, λ e. refl)
 
-  played : (j : Judgement) → Judges (length t ≡ cells Γ) Γ t j → (d : Dispatched) → Told d (misnamed Γ) (unheard Γ)
-      → Settles 0 (playing t misnamed unheard) Γ (dueValues (playedFor j d))
-  played j (inl g) d h = rw (← g .1) (by-verdict (g .0) (verdict Γ t) refl d h)
-  played j (inr g) d h = rw (← g .1) (inl (g .0, refl))
+-- misnamed and unheard are the causes of 15 and 16
+pub record Says (d : Dispatched) (misnamed unheard : Type 0) : Type 0 where
+  pub fifteen : (d ≡ P.Misnamed) ↔ misnamed
+  pub sixteen : (d ≡ P.Misnamed → ⊥) → (d ≡ P.NeverHeard) ↔ unheard
 
-module _ (sheet : List ℕ) (a : read sheet .outcome ≡ Accepted) (t : List ℕ) (m : ℕ) where
+module _ (sheet : List ℕ) (t : Handed) (right : Network → Type 0) (said : Network → Dispatched)
+    (misnamed unheard : Network → Type 0) where
   abbrev net : Network
   net = read sheet .network
 
-  list-told : (hs : List Heard)
-      → Told (due net t m hs) (WellNamed net hs → ⊥) ((s : ℕ) → s < scenarios net → History net t m hs s → ⊥)
-  list-told hs =
-      let fifteen = due-misnamed net t m (lettered sheet a) hs in
-      let sixteen = due-never net t m (lettered sheet a) hs in
-      record {
-        fifteen = fifteen .0;
-        misnames = fifteen .1;
-        sixteen = λ e. let w = sixteen .0 e in (λ n. n (w .0), w .1);
-        unhears = λ u n w. n (sixteen .1 (w, u));
-      }
+  failing : Rightly t right net → t .has (cells net) ≡ true
+      → (isPass (verdict net (t .minutes)) ≡ false) ↔ (Solution net (t .minutes) → ⊥)
+  failing rightly h =
+      let sound = judged net (t .minutes) (rightly .sized (rightly .yes .0 h)) in
+      let passes = pass-false (verdict net (t .minutes)) in
+      (λ e s. passes .0 e (sound .1 s), λ n. passes .1 (λ e. n (sound .0 e)))
 
-  pub player-settles : (hs : List Heard) → Settles 0 (plays t m hs) net (dueValues (eventsDue sheet t m hs))
-  unfolding eventsDue
-  player-settles hs =
-      played net t (λ Γ. WellNamed Γ hs → ⊥) (λ Γ. (s : ℕ) → s < scenarios Γ → History Γ t m hs s → ⊥)
-      (judgement sheet t)
-      (judge-judges sheet a t) (due net t m hs) (list-told hs)
+  unheard-iff : Says (said net) (misnamed net) (unheard net) → named (said net) ≡ true
+      → (everHeard (said net) ≡ false) ↔ unheard net
+  unheard-iff s n =
+      let unnamed : said net ≡ P.Misnamed → ⊥ =
+      λ e. let z : named (said net) ≡ false = named-false (said net) .1 e in zero-is-one cc in
+      let k = s .sixteen unnamed in
+      (λ e. k .0 (heard-false (said net) .0 e), λ u. heard-false (said net) .1 (k .1 u))
+
+  pub player-answers : (read sheet .outcome ≡ Accepted → Rightly t right net)
+      → (read sheet .outcome ≡ Accepted → Says (said net) (misnamed net) (unheard net))
+      → Answers sheet (plays right (t .minutes) misnamed unheard) 0 (dueValues (playing sheet t said))
+  player-answers rightly says =
+      answers-call dueValues 0 D.Refused (λ r. refl) sheet (playingTests t said) (λ Γ. D.Events (eventsOf (said Γ)))
+      (plays right (t .minutes) misnamed unheard) refl
+      (λ a. (
+        refl,
+        rightly a .no,
+        λ h. (
+          refl,
+          failing (rightly a) h,
+          λ _. (
+            refl,
+            (
+              λ e. says a .fifteen .0 (named-false (said net) .0 e),
+              λ m. named-false (said net) .1 (says a .fifteen .1 m),
+            ),
+            λ n. (refl, unheard-iff (says a) n, λ _. tt),
+          ),
+        ),
+      ))
+      (λ Γ. (refl, refl))
+
+-- what is neither misnamed nor anything but unheard is unheard
+unheard-left : (d : Dispatched) → (d ≡ P.Misnamed → ⊥) → ((d ≡ P.NeverHeard → ⊥) → d ≡ P.Misnamed) → d ≡ P.NeverHeard
+unheard-left (P.Events x) n k = absurd (n (k (λ q. zero-is-one cc)))
+unheard-left P.Misnamed n k = absurd (n refl)
+unheard-left P.NeverHeard n k = refl
+
+module _ (Γ : Network) (letters : Lettered Γ) (t : List ℕ) (m : ℕ) where
+  pub list-says : (hs : List Heard) → Says (due Γ t m hs) (misnamedBy hs Γ) (unheardBy t m hs Γ)
+  list-says hs =
+      let fifteen = due-misnamed Γ t m letters hs in
+      let sixteen = due-never Γ t m letters hs in
+      record {
+        fifteen = fifteen;
+        sixteen = λ n. (
+          λ e. sixteen .0 e .1,
+          λ u. unheard-left (due Γ t m hs) n (λ no. fifteen .1 (λ w. no (sixteen .1 (w, u)))),
+        );
+      }
 
   -- a mask that is well named is that of a list with good names
-  mask-told : (x : ℕ) → Told (dueOn net t m x) ((hs : List Heard) → saidFrom 0 hs ≡ x → WellNamed net hs → ⊥)
-      ((hs : List Heard) → saidFrom 0 hs ≡ x → (s : ℕ) → s < scenarios net → History net t m hs s → ⊥)
-  mask-told x =
-      let misnamed = due-on-misnamed net t m x (lettered sheet a) in
-      let by-list : (hs : List Heard) → saidFrom 0 hs ≡ x → due net t m hs ≡ dueOn net t m x =
-      λ hs e. sym (due-said net t m hs (lettered sheet a)) ∙ ap (dueOn net t m) e in
+  pub mask-says : (x : ℕ) → Says (dueOn Γ t m x) (misnamedOn x Γ) (unheardOn t m x Γ)
+  mask-says x =
+      let fifteen = due-on-misnamed Γ t m x letters in
+      let by-list : (hs : List Heard) → saidFrom 0 hs ≡ x → due Γ t m hs ≡ dueOn Γ t m x =
+      λ hs e. sym (due-said Γ t m hs letters) ∙ ap (dueOn Γ t m) e in
       record {
-        fifteen = misnamed .0;
-        misnames = misnamed .1;
-        sixteen = λ e. (
-          λ n. unlike (sym e ∙ misnamed .1 n),
-          λ hs q. list-told hs .sixteen (by-list hs q ∙ e) .1,
+        fifteen = fifteen;
+        sixteen = λ n. (
+          λ e hs q. due-never Γ t m letters hs .0 (by-list hs q ∙ e) .1,
+          λ u. unheard-left (dueOn Γ t m x) n
+              (λ no. fifteen .1 (λ hs q w. no (sym (by-list hs q) ∙ due-never Γ t m letters hs .1 (w, u hs q)))),
         );
-        unhears = λ u n hs q. list-told hs .unhears (u hs q) (λ e. n (sym (by-list hs q) ∙ e));
       }
-    where
-      unlike : D.NeverHeard ≡ D.Misnamed → ⊥
-      unlike q = zero-is-one cc
 
-  pub player-on-settles : (x : ℕ) → Settles 0 (playsOn t m x) net (dueValues (eventsDueOn sheet t m x))
-  unfolding eventsDueOn
-  player-on-settles x =
-      played net t (λ Γ. (hs : List Heard) → saidFrom 0 hs ≡ x → WellNamed Γ hs → ⊥)
-      (λ Γ. (hs : List Heard) → saidFrom 0 hs ≡ x → (s : ℕ) → s < scenarios Γ → History Γ t m hs s → ⊥)
-      (judgement sheet t)
-      (judge-judges sheet a t) (dueOn net t m x) (mask-told x)
+  pub text-says : (text : List ℕ)
+      → Says (dueText Γ t m text) (misnamedIn text Γ) (unheardBy t m (heardIn text) Γ)
+  text-says text =
+      let fifteen = text-misnamed Γ t m letters text in
+      let sixteen = text-never Γ t m letters text in
+      record {
+        fifteen = fifteen;
+        sixteen = λ n. (
+          λ e. sixteen .0 e .1,
+          λ u. unheard-left (dueText Γ t m text) n (λ no. fifteen .1 (λ w. no (sixteen .1 (w, u)))),
+        );
+      }

@@ -19,35 +19,38 @@ use Rattle.network.specs.declared.Network.{Network}
 use Rattle.sheet.specs.Reading.{read}
 use Rattle.sheet.specs.declared.Outcome.the-variants.{Accepted}
 use Rattle.checker.specs.Verdict.{verdict}
-use Rattle.checker.specs.declared.Verdict.{Verdict}
 use Rattle.checker.specs.declared.Verdict.the-variants.{Pass}
 use Rattle.checker.proofs.Judged.{judged}
 use Rattle.dispatch.specs.Heard.{Lettered}
 use Rattle.dispatch.specs.History.{History, historyOf}
 use Rattle.dispatch.specs.Due.{dueIn, due}
 use Rattle.dispatch.specs.declared.Heard.{Heard}
+use Rattle.dispatch.specs.declared.Dispatched.{Dispatched}
+use Rattle.dispatch.specs.declared.Dispatched.the-variants as P
 use Rattle.dispatch.proofs.Bits.{mask-small, truth-mask}
 use Rattle.dispatch.proofs.Alike.{indistinct-comm, indistinct-history, indistinct-due}
 use Rattle.dispatch.proofs.Answers.{due-history}
 use Rattle.dispatch.proofs.HistoryOf.{history-of}
 use Rattle.calls.specs.Answers.{Reads}
 use Rattle.calls.specs.Values.{Values}
-use Rattle.calls.specs.Play.{answerTo, playedFor, eventsDue}
+use Rattle.calls.specs.Lent.{asMinutes}
+use Rattle.calls.specs.Play.{eventsOf, playingTests, eventsDue}
 use Rattle.calls.specs.Playing.{RowAt, answer, Plays, Playing}
 use Rattle.calls.specs.declared.Due.the-variants as D
-use Rattle.calls.specs.declared.Judgement.{Judgement}
-use Rattle.calls.specs.declared.Judgement.the-variants as J
-use Rattle.calls.proofs.Calls.{judged-as, reads-well-formed}
+use Rattle.calls.proofs.Call.{call-works, reads-well-formed}
+use Rattle.calls.proofs.Handed.{minutes-rightly}
 use Rattle.calls.proofs.Play.{lettered, events-due-said}
 
--- a table of the right length is judged, and then played
-played-at : (sheet t : List ℕ) → read sheet .outcome ≡ Accepted → length t ≡ cells (read sheet .network)
-    → (m : ℕ) (hs : List Heard) (w : Verdict) → w ≡ verdict (read sheet .network) t
-    → eventsDue sheet t m hs ≡ playedFor (J.Judged w) (due (read sheet .network) t m hs)
+-- a table that passes is played
+events-of : (sheet t : List ℕ) (Γ : Network) → Reads sheet Γ → (m : ℕ) (hs : List Heard) (x : ℕ)
+    → verdict Γ t ≡ Pass → length t ≡ cells Γ → due Γ t m hs ≡ P.Events x → eventsDue sheet t m hs ≡ D.Events x
 unfolding eventsDue
-played-at sheet t a sized m hs w p =
-    ap (λ (j : Judgement). playedFor j (due (read sheet .network) t m hs))
-    (sym (ap J.Judged p ∙ judged-as sheet (read sheet) refl a t sized))
+events-of sheet t Γ reads m hs x =
+    rw (← reads .network) (λ p e d.
+    sym (call-works D.Refused sheet (playingTests (asMinutes t) (λ Γ. due Γ t m hs))
+    (λ Γ. D.Events (eventsOf (due Γ t m hs))) (read sheet) refl (reads .accepted)
+    (minutes-rightly t (read sheet .network) .yes .1 e, (rw p, (rw d, (rw d, tt)))))
+    ∙ ap (λ (y : Dispatched). D.Events (eventsOf y)) d)
 
 module _ (sheet t : List ℕ) (Γ : Network) (reads : Reads sheet Γ) where
   wf : WellFormed Γ
@@ -56,21 +59,15 @@ module _ (sheet t : List ℕ) (Γ : Network) (reads : Reads sheet Γ) where
   letters : Lettered Γ
   letters = rw (← reads .network) (lettered sheet (reads .accepted))
 
-  played-by : length t ≡ cells Γ → (m : ℕ) (hs : List Heard) (w : Verdict) → w ≡ verdict Γ t
-      → eventsDue sheet t m hs ≡ playedFor (J.Judged w) (due Γ t m hs)
-  played-by = rw (← reads .network) (played-at sheet t (reads .accepted))
-
   module _ (good : Solution Γ t) where
     abbrev at : ℕ → ℕ → ℕ
     at s u = time (Γ .events) t s u
 
-    played : (m : ℕ) (hs : List Heard) → eventsDue sheet t m hs ≡ answerTo (due Γ t m hs)
-    played m hs = played-by (good .sized) m hs Pass (sym (judged Γ t (good .sized) .1 good))
-
     -- whoever has heard the list has the events that are answered
     events-are : (m : ℕ) (hs : List Heard) (s : ℕ) → s < scenarios Γ → History Γ t m hs s
         → eventsDue sheet t m hs ≡ D.Events (dueIn (Γ .events) t m s)
-    events-are m hs s h l = played m hs ∙ ap answerTo (due-history Γ t m letters hs good wf s h l)
+    events-are m hs s h l = events-of sheet t Γ reads m hs (dueIn (Γ .events) t m s)
+        (judged Γ t (good .sized) .1 good) (good .sized) (due-history Γ t m letters hs good wf s h l)
 
     due-at : (m s u : ℕ) → u < Γ .events → truth (dueIn (Γ .events) t m s) u ≡ eqb (at s u) m
     due-at m s u k = truth-mask (λ v. eqb (at s v) m) (Γ .events) u k (omega (arith, wf .events))

@@ -1,24 +1,25 @@
--- Every number of an answer fits its bytes: a breach names cells of a network, and a table has at most 256 minutes.
--- Assumes nothing.
-use mathlib.Core.Path.{_≡_, refl}
-use mathlib.Core.Bool.{Bool, true, false}
-use mathlib.Core.List.{List, _++_}
-use Prim.Native.Nat.{ℕ, _%_, _≤_, _<_}
+-- Every number of an answer fits its bytes: a breach names cells of a network, a table has at most 256 minutes, texts are
+-- short, and there are at most sixteen events. Assumes nothing.
+use mathlib.Core.Path.{_≡_, refl, sym, _∙_, ap}
+use mathlib.Core.Bool.{Bool, true, false, cond}
+use mathlib.Core.Option.{Option, none, some}
+use mathlib.Core.List.{List}
+use Prim.Native.Nat.{ℕ, _+_, _*_, _^_, _≤_, _<_}
 use native.Mathlib.Omega.{arith}
-use lib.Dec.{eqb, leb}
-use lib.ListN.{length, drop}
+use lib.Dec.{eqb}
 use lib.Pow.{pow-mono}
+use Rattle.prelude.specs.Checks.{Hold}
 use Rattle.prelude.proofs.Tests.{zero-is-one}
-use Rattle.pairs.specs.Pairs.{minutesOf}
-use Rattle.refusal.specs.declared.Cause.the-variants.{WrongTableLength, BufferTooShort}
+use Rattle.pairs.specs.Pairs.{Short}
 use Rattle.refusal.specs.declared.Refusal.{Refusal}
-use Rattle.fixpoint.specs.Run.{Run, End, Rests, Passes, Spent}
 use Rattle.network.specs.Build.{scenarios, cells}
-use Rattle.network.specs.WellFormed.{WellFormed}
+use Rattle.network.specs.Strategy.{time}
+use Rattle.network.specs.WellFormed.{WellFormed, Named}
 use Rattle.network.specs.declared.Network.{Network}
+use Rattle.line.specs.Rows.{Tests}
 use Rattle.sheet.specs.Reading.{read}
-use Rattle.sheet.specs.declared.Outcome.{Outcome}
-use Rattle.sheet.specs.declared.Outcome.the-variants.{Accepted, Refused}
+use Rattle.sheet.specs.declared.Outcome.the-variants.{Accepted}
+use Rattle.sheet.specs.declared.Reading.{Reading}
 use Rattle.sheet.proofs.WellFormed.{accepted-well-formed}
 use Rattle.checker.specs.Verdict.{verdict}
 use Rattle.checker.specs.First.{First}
@@ -29,22 +30,33 @@ use Rattle.checker.specs.declared.Verdict.the-variants.{Pass, Breach as Breache
 use Rattle.checker.proofs.Judged.{breach-first}
 use Rattle.solver.specs.Solve.{solve}
 use Rattle.solver.proofs.Least.{solve-least}
-use Rattle.calls.specs.Calls.{withoutLine, judgementFor, judgement, Left, kept, solvedFor, solvingFor, solving}
-use Rattle.calls.specs.Values.{Values}
-use Rattle.calls.specs.Bench.{benchJudgementFor, benchJudgement, Said, verdictValues, breachValues}
+use Rattle.dispatch.specs.Heard.{isWellNamed, says}
+use Rattle.dispatch.specs.Due.{hearer, dueFor, due}
+use Rattle.dispatch.specs.Written.{isHeard, heardIn, dueText}
+use Rattle.dispatch.specs.declared.Dispatched.{Dispatched}
+use Rattle.dispatch.specs.declared.Dispatched.the-variants.{Misnamed}
+use Rattle.dispatch.proofs.Bits.{mask-small}
+use Rattle.listing.specs.Listing.{listing}
+use Rattle.listing.proofs.Short.{listing-short}
+use Rattle.tighten.specs.Tightest.{remainingOf}
+use Rattle.canonical.specs.House.{houseText}
+use Rattle.canonical.proofs.Again.{form-short}
+use Rattle.calls.specs.Values.{Values, turnedAway}
+use Rattle.calls.specs.Call.{withoutLine, call, Left}
+use Rattle.calls.specs.Lent.{Handed, Lent, inPlace}
+use Rattle.calls.specs.Calls.{judgingTests, judging, writtenValues, writing, refusing, solvingTests, solvingInto, listingTests}
+use Rattle.calls.specs.Calls.{listingOf, houseTests, housed}
+use Rattle.calls.specs.Play.{eventsOf, playingTests, playing, dueValues}
+use Rattle.calls.specs.Bench.{Small, verdictValues, breachValues}
+use Rattle.calls.specs.declared.Due.{Due}
+use Rattle.calls.specs.declared.Due.the-variants as D
 use Rattle.calls.specs.declared.Judgement.{Judgement}
 use Rattle.calls.specs.declared.Judgement.the-variants as J
-use Rattle.calls.specs.declared.Written.the-variants as W
-use Rattle.calls.proofs.Bytes.{cells-few}
-
--- each value of an answer fits its bytes
-pub record Small (v : Values Said) : Type 0 where
-  pub number : v .number < 256
-  pub line : v .line < 65536
-  pub word : v .value .word < 4
-  pub first : v .value .first < 256
-  pub second : v .value .second < 256
-  pub third : v .value .third < 256
+use Rattle.calls.specs.declared.Written.{Written}
+use Rattle.calls.proofs.Call.{Ends, faulty, failed, worked, ends}
+use Rattle.calls.proofs.Handed.{cells-few}
+use Rattle.calls.proofs.Fit.{fit-few}
+use Rattle.calls.proofs.Solving.{rests-true}
 
 scenarios-few : {Γ : Network} → WellFormed Γ → scenarios Γ ≤ 16
 scenarios-few {Γ} w = pow-mono {i = Γ .signals} {j = 4} (w .signals)
@@ -62,76 +74,96 @@ module _ (Γ : Network) (σ : List ℕ) (w : WellFormed Γ) where
       by-verdict Pass e = omega arith
       by-verdict (Breached b) e = breach-small b (breach-first Γ σ b e)
 
-not-judged {ℓ} : {A : Type ℓ} (r : Refusal) (v : Verdict) → J.Refused r ≡ J.Judged v → A
-not-judged r v e = zero-is-one cc
+-- a call that tells a number tells a small one, where its work does
+module _ {A : Type 0} (values : A → Values ℕ) (refuse : Refusal → A)
+    (turned : (r : Refusal) → values (refuse r) ≡ turnedAway 0 r) (sheet : List ℕ) (tests : Network → Tests)
+    (work : Network → A)
+    (small : read sheet .outcome ≡ Accepted → Hold (tests (read sheet .network))
+    → values (work (read sheet .network)) .value < 65536) where
+  value-small : values (call refuse sheet tests work) .value < 65536
+  value-small = by-end (ends refuse sheet tests work)
+    where
+      refused : (r : Refusal) → refuse r ≡ call refuse sheet tests work
+          → values (call refuse sheet tests work) .value < 65536
+      refused r e =
+          let zero : values (call refuse sheet tests work) .value ≡ 0 =
+          ap (λ (v : Values ℕ). v .value) (sym (ap values e) ∙ turned r) in
+          omega arith
+
+      by-end : Ends refuse sheet tests work → values (call refuse sheet tests work) .value < 65536
+      by-end (faulty r p e) = refused r e
+      by-end (failed a c f e) = refused (withoutLine c) e
+      by-end (worked a h e) = rw (← e) (small a h)
+
+-- how much a call has written
+abbrev count : Left Written → Values ℕ
+count l = writtenValues (l .answer)
 
 module _ (sheet : List ℕ) where
-  judgement-small : (t : List ℕ) (v : Verdict) → judgement sheet t ≡ J.Judged v → Small (verdictValues v)
-  judgement-small t v = by-outcome (read sheet .outcome) refl
+  abbrev net : Network
+  net = read sheet .network
+
+  pub judged-small : (t : Handed) (v : Verdict) → judging sheet t ≡ J.Judged v → Small (verdictValues v)
+  judged-small t v q = by-end (ends J.Refused sheet (judgingTests t) (λ Γ. J.Judged (verdict Γ (t .minutes))))
     where
-      Γ : Network
-      Γ = read sheet .network
+      by-end : Ends J.Refused sheet (judgingTests t) (λ Γ. J.Judged (verdict Γ (t .minutes))) → Small (verdictValues v)
+      by-end (faulty r p e) = let z : J.Refused r ≡ J.Judged v = e ∙ q in zero-is-one cc
+      by-end (failed a c f e) = let z : J.Refused (withoutLine c) ≡ J.Judged v = e ∙ q in zero-is-one cc
+      by-end (worked a h e) =
+          let same : verdict net (t .minutes) ≡ v = let z = e ∙ q in cc in
+          rw (← same) (verdict-small net (t .minutes) (accepted-well-formed sheet a .0))
 
-      by-length : WellFormed Γ → (b : Bool)
-          → elim b as (λ _. Judgement) [
-            | true ↦ J.Judged (verdict Γ t)
-            | false ↦ J.Refused (withoutLine WrongTableLength)
-          ] ≡ J.Judged v → Small (verdictValues v)
-      by-length w true e = let q : verdict Γ t ≡ v = cc in rw (← q) (verdict-small Γ t w)
-      by-length w false e = not-judged _ v e
+  pub solving-small : (m : Lent) → count (solvingInto sheet m) .value < 65536
+  solving-small m =
+      value-small count (refusing m) (λ r. refl) sheet
+      (solvingTests m) (λ Γ. writing m (solve Γ .reached))
+      (λ a h.
+      let w = accepted-well-formed sheet a .0 in
+      let least = solve-least net w (rests-true (solve net .end) .0 (h .1 .0)) in
+      omega (arith, least .solves .sized, cells-few w))
 
-      by-outcome : (o : Outcome) → read sheet .outcome ≡ o → judgementFor Γ o t ≡ J.Judged v → Small (verdictValues v)
-      by-outcome Accepted p e = by-length (accepted-well-formed sheet p .0) (eqb (length t) (cells Γ)) e
-      by-outcome (Refused r) p e = not-judged r v e
+  pub listing-small : (t : Handed) (m : List ℕ)
+      → (read sheet .outcome ≡ Accepted → t .has (cells net) ≡ true → Short (t .minutes))
+      → count (listingOf sheet t m) .value < 65536
+  listing-small t m times =
+      value-small count (refusing (inPlace m)) (λ r. refl) sheet (listingTests sheet t (inPlace m))
+      (λ Γ. writing (inPlace m) (listing sheet Γ (t .minutes)))
+      (λ a h.
+      let w = accepted-well-formed sheet a in
+      omega (
+        arith,
+        listing-short sheet net (t .minutes) (w .0) (w .1) (λ s u _ _. times a (h .0) (s * net .events + u)),
+      ))
 
-  pub bench-judgement-small : (b : List ℕ) (v : Verdict) → benchJudgement sheet b ≡ J.Judged v → Small (verdictValues v)
-  bench-judgement-small b v = by-outcome (read sheet .outcome)
-    where
-      by-odd : (odd : Bool)
-          → elim odd as (λ _. Judgement) [
-            | true ↦ J.Refused (withoutLine WrongTableLength)
-            | false ↦ judgement sheet (minutesOf b)
-          ] ≡ J.Judged v → Small (verdictValues v)
-      by-odd true e = not-judged _ v e
-      by-odd false e = judgement-small (minutesOf b) v e
+  pub house-small : (m : List ℕ) → count (housed sheet m) .value < 65536
+  house-small m =
+      value-small count (refusing (inPlace m)) (λ r. refl) sheet
+      (houseTests sheet (inPlace m))
+      (λ Γ. writing (inPlace m) (houseText sheet Γ))
+      (λ a h. omega (arith, form-short sheet a (fit-few (remainingOf net) (h .0))))
 
-      by-outcome : (o : Outcome) → benchJudgementFor sheet o b ≡ J.Judged v → Small (verdictValues v)
-      by-outcome Accepted e = by-odd (eqb (length b % 2) 1) e
-      by-outcome (Refused r) e = not-judged r v e
+  pub playing-small : (t : Handed) (said : Network → Dispatched)
+      → (read sheet .outcome ≡ Accepted → eventsOf (said net) < 65536) → dueValues (playing sheet t said) .value < 65536
+  playing-small t said few =
+      value-small dueValues D.Refused (λ r. refl) sheet
+      (playingTests t said)
+      (λ Γ. D.Events (eventsOf (said Γ))) (λ a _. few a)
 
-  -- a solved table's count
-  not-counted : (r : Refusal) (n : ℕ) → W.Refused r ≡ W.Count n → n ≤ 256
-  not-counted r n e = zero-is-one cc
+-- of at most sixteen events the sum of bits is small
+pub text-small : (Γ : Network) → WellFormed Γ → (σ : List ℕ) (m : ℕ) (text : List ℕ)
+    → eventsOf (dueText Γ σ m text) < 65536
+unfolding dueText due
+text-small Γ w σ m text =
+    by-form (isHeard text) (isWellNamed Γ (heardIn text)) (hearer Γ σ m (says (heardIn text)))
+  where
+    of-case : (o : Option ℕ) → eventsOf (dueFor Γ σ m o) < 65536
+    of-case none = omega arith
+    of-case (some s) =
+        let few : 2 ^ Γ .events ≤ 65536 = pow-mono {i = Γ .events} {j = 16} (w .events) in
+        omega (arith, mask-small (λ u. eqb (time (Γ .events) σ s u) m) (Γ .events))
 
-  pub count-few : (m : List ℕ) (n : ℕ) → solving sheet m .answer ≡ W.Count n → n ≤ 256
-  count-few m n = by-outcome (read sheet .outcome) refl
-    where
-      Γ : Network
-      Γ = read sheet .network
-
-      σ : List ℕ
-      σ = solve Γ .reached
-
-      by-room : length σ ≤ 256 → (b : Bool) → (elim b as (λ _. Left) [
-        | true ↦ record { answer = W.Count (length σ); memory = σ ++ drop (length σ) m }
-        | false ↦ kept (W.Refused (withoutLine BufferTooShort)) m
-      ]) .answer ≡ W.Count n → n ≤ 256
-      by-room h true e = let q : length σ ≡ n = cc in omega arith
-      by-room h false e = not-counted _ n e
-
-      by-end : WellFormed Γ → (end : End) → solve Γ .end ≡ end → solvedFor end σ m .answer ≡ W.Count n → n ≤ 256
-      by-end w Rests p e =
-          by-room (omega (arith, solve-least Γ w p .solves .sized, cells-few w)) (leb (length σ) (length m)) e
-      by-end w Passes p e = not-counted _ n e
-      by-end w Spent p e = not-counted _ n e
-
-      by-cells : WellFormed Γ → (b : Bool) → (elim b as (λ _. Left) [
-        | true ↦ solvedFor (solve Γ .end) σ m
-        | false ↦ kept (W.Refused (withoutLine BufferTooShort)) m
-      ]) .answer ≡ W.Count n → n ≤ 256
-      by-cells w true e = by-end w (solve Γ .end) refl e
-      by-cells w false e = not-counted _ n e
-
-      by-outcome : (o : Outcome) → read sheet .outcome ≡ o → solvingFor Γ o m .answer ≡ W.Count n → n ≤ 256
-      by-outcome Accepted p e = by-cells (accepted-well-formed sheet p .0) (leb (cells Γ) (length m)) e
-      by-outcome (Refused r) p e = not-counted r n e
+    by-form : (formed well : Bool) (o : Option ℕ)
+        → eventsOf (cond formed (cond well (dueFor Γ σ m o) Misnamed) Misnamed) < 65536
+    by-form true true o = of-case o
+    by-form true false o = omega arith
+    by-form false well o = omega arith

@@ -1,14 +1,14 @@
--- The solver's answer: with room it has written the least good table, or there is none and it refuses. Assumes nothing.
+-- The solver's answer: with room it has written the least good table, or there is none and it refuses. One argument for
+-- memory that is lent as minutes and as bytes. Assumes nothing.
 use mathlib.Core.Path.{_≡_, refl, sym, _∙_, ap}
 use mathlib.Core.Logic.{_⊎_, inl, inr, _↔_}
-use mathlib.Core.List.{List, _++_}
-use Prim.Native.Nat.{ℕ, _*_, _/_, _≤_}
-use native.Mathlib.Omega.{arith}
-use lib.ListN.{length, take, drop}
-use lib.Seq.{take-at}
-use Rattle.prelude.proofs.Tests.{zero-is-one, lt-or-ge}
-use Rattle.pairs.specs.Pairs.{minutesOf, bytesOf}
-use Rattle.pairs.proofs.Packing.{length-minutesOf}
+use mathlib.Core.Bool.{Bool, true, false}
+use mathlib.Core.List.{List}
+use Prim.Native.Nat.{ℕ, _≤_, _<_}
+use borrow.Author.Tests.{leb-false, le-leb, lt-leb}
+use lib.Dec.{leb}
+use lib.ListN.{length}
+use Rattle.prelude.proofs.Tests.{zero-is-one}
 use Rattle.refusal.specs.declared.Cause.the-variants.{Inconsistent}
 use Rattle.fixpoint.specs.Run.{End, Rests, Passes, Spent}
 use Rattle.network.specs.Build.{cells}
@@ -18,137 +18,98 @@ use Rattle.network.specs.WellFormed.{WellFormed}
 use Rattle.network.specs.declared.Network.{Network}
 use Rattle.sheet.specs.Reading.{read}
 use Rattle.sheet.specs.declared.Outcome.the-variants.{Accepted}
+use Rattle.sheet.specs.declared.Reading.{Reading}
 use Rattle.sheet.proofs.WellFormed.{accepted-well-formed}
 use Rattle.solver.specs.Solve.{solve}
 use Rattle.solver.proofs.Least.{solve-least, solve-none}
-use Rattle.calls.specs.Values.{Values, done, refusedAs}
-use Rattle.calls.specs.Calls.{withoutLine, writtenValues, Left, kept, solvedFor, solving}
-use Rattle.calls.specs.Bench.{pairsAfter, benchSolving}
+use Rattle.calls.specs.Values.{refusedAs}
+use Rattle.calls.specs.Call.{withoutLine, Left}
+use Rattle.calls.specs.Lent.{Lent}
+use Rattle.calls.specs.Calls.{writtenValues, writing, refusing, rests, solvingTests, solvingInto}
+use Rattle.calls.specs.Answers.{Writes}
 use Rattle.calls.specs.Numbers.{solves}
 use Rattle.calls.specs.declared.Written.{Written}
 use Rattle.calls.specs.declared.Written.the-variants as W
-use Rattle.calls.proofs.Settled.{number-of, Settles, settles-as}
-use Rattle.calls.proofs.Calls.{written-room, solving-short, solving-room}
+use Rattle.calls.proofs.Call.{call-fails, call-works}
+use Rattle.calls.proofs.Settled.{number-of}
+use Rattle.calls.proofs.Matched.{writes-call}
 
-abbrev answer-of : Left → Values ℕ
-answer-of l = writtenValues (l .answer)
+-- the run rests where its end says so
+pub rests-true : (end : End) → (rests end ≡ true) ↔ (end ≡ Rests)
+rests-true Rests = (λ e. refl, λ e. refl)
+rests-true Passes = (λ e. zero-is-one cc, λ e. zero-is-one cc)
+rests-true Spent = (λ e. zero-is-one cc, λ e. zero-is-one cc)
 
--- an end that is not a rest
-unlike-rests : {end : End} → (end ≡ Passes) ⊎ (end ≡ Spent) → end ≡ Rests → ⊥
-unlike-rests (inl p) q = zero-is-one cc
-unlike-rests (inr p) q = zero-is-one cc
+rests-false : (end : End) → (rests end ≡ false) ↔ (end ≡ Rests → ⊥)
+rests-false Rests = (λ e. zero-is-one cc, λ n. absurd (n refl))
+rests-false Passes = (λ e q. zero-is-one cc, λ n. refl)
+rests-false Spent = (λ e q. zero-is-one cc, λ n. refl)
 
-module _ (sheet : List ℕ) (a : read sheet .outcome ≡ Accepted) (m : List ℕ) where
+module _ (sheet : List ℕ) (m : Lent) where
   abbrev net : Network
   net = read sheet .network
 
-  wf : WellFormed net
-  wf = accepted-well-formed sheet a .0
+  abbrev work : Network → Left Written
+  work Γ = writing m (solve Γ .reached)
 
-  -- the least good table stands in front, and everything behind it is as it was
-  record Solved : Type 0 where
-    table : List ℕ
-    least : Least net table
-    left : record { answer = W.Count (cells net); memory = table ++ drop (cells net) m } ≡ solving sheet m
+  module _ (a : read sheet .outcome ≡ Accepted) where
+    wf : WellFormed net
+    wf = accepted-well-formed sheet a .0
 
-  abbrev Unsolved : Type 0
-  Unsolved = L.Inconsistent net × (kept (W.Refused (withoutLine Inconsistent)) m ≡ solving sheet m)
-
-  module _ (room : cells net ≤ length m) where
-    ends : (end : End) → solve net .end ≡ end → solvedFor end (solve net .reached) m ≡ solving sheet m
-    ends end p =
-        ap (λ (x : End). solvedFor x (solve net .reached) m) (sym p) ∙ solving-room sheet (read sheet) refl a m room
-
-    solved-or-not : Solved ⊎ Unsolved
-    solved-or-not = by-end (solve net .end) refl
-      where
-        by-end : (end : End) → solve net .end ≡ end → Solved ⊎ Unsolved
-        by-end Rests p =
-            let σ = solve net .reached in
-            let least = solve-least net wf p in
-            let size = least .solves .sized in
-            inl (record {
-              table = σ;
-              least = least;
-              left = rw (size) at (sym (written-room σ m (omega (arith, size))) ∙ ends Rests p);
-            })
-        by-end Passes p = inr (solve-none net wf (unlike-rests (inl p)), ends Passes p)
-        by-end Spent p = inr (solve-none net wf (unlike-rests (inr p)), ends Spent p)
-
-    pub solves-least : (L.Inconsistent net → ⊥)
-        → (σ : List ℕ) × Least net σ × (solving sheet m .answer ≡ W.Count (cells net))
-        × (solving sheet m .memory ≡ σ ++ drop (cells net) m)
-    solves-least n =
-        elim solved-or-not [
-          | inl s ↦ (
-            s .table,
-            s .least,
-            sym (ap (λ (l : Left). l .answer) (s .left)),
-            sym (ap (λ (l : Left). l .memory) (s .left)),
-          )
-          | inr s ↦ absurd (n (s .0))
-        ]
-
-    pub refuses-none : L.Inconsistent net → solving sheet m .answer ≡ W.Refused (withoutLine Inconsistent)
-    refuses-none i =
-        elim solved-or-not [
-          | inl s ↦ absurd (i .none (s .table) (s .least .solves))
-          | inr s ↦ sym (ap (λ (l : Left). l .answer) (s .1))
-        ]
-
-    -- 13 comes exactly where no good table exists
-    pub refuses-13 : (writtenValues (solving sheet m .answer) ≡ refusedAs 13) ↔ L.Inconsistent net
-    refuses-13 = (
-      λ e. elim solved-or-not [
-        | inl s ↦ absurd (let z : _≡_ {A = ℕ} 0 13 = ap number-of (ap answer-of (s .left) ∙ e) in omega arith)
-        | inr s ↦ s .0
-      ],
-      λ i. ap writtenValues (refuses-none i),
+    -- the run does not rest exactly where no good table exists
+    unrested : (rests (solve net .end) ≡ false) ↔ L.Inconsistent net
+    unrested = (
+      λ e. solve-none net wf (rests-false (solve net .end) .0 e),
+      λ i. rests-false (solve net .end) .1 (λ r. i .none (solve net .reached) (solve-least net wf r .solves)),
     )
 
-    pub solves-done : (L.Inconsistent net → ⊥)
-        → (σ : List ℕ) × Least net σ × (writtenValues (solving sheet m .answer) ≡ done (cells net))
-        × (solving sheet m .memory ≡ σ ++ drop (cells net) m)
-    solves-done n = let s = solves-least n in (s .0, s .1, ap writtenValues (s .2), s .3)
+    module _ (room : cells net ≤ m .room) where
+      has-room : leb (cells net) (m .room) ≡ true
+      has-room = le-leb (cells net) (m .room) room
 
-  pub solver-settles : Settles 0 (solves m) net (writtenValues (solving sheet m .answer))
-  solver-settles =
-      elim (lt-or-ge (length m) (cells net)) [
-        | inl l ↦ settles-as 0 (solves m) net (sym (ap answer-of (solving-short sheet (read sheet) refl a m l)))
-            (inl (l, refl))
-        | inr l ↦ elim (solved-or-not l) [
-          | inl s ↦
-              settles-as 0 (solves m) net (sym (ap answer-of (s .left)))
-              (inr (λ h. omega (arith, h), inr (λ i. i .none (s .table) (s .least .solves), (refl, refl))))
-          | inr s ↦ settles-as 0 (solves m) net (sym (ap answer-of (s .1)))
-              (inr (λ h. omega (arith, h), inl (s .0, refl)))
-        ]
-      ]
+      -- it refuses, or has written what the run reached
+      pub refuses-none : L.Inconsistent net → solvingInto sheet m ≡ refusing m (withoutLine Inconsistent)
+      refuses-none i =
+          sym (call-fails (refusing m) sheet (solvingTests m) work (read sheet) refl a Inconsistent
+          (inr (has-room, inl (unrested .1 i, refl))))
 
--- into bytes: on the minutes of the whole pairs
-module _ (sheet : List ℕ) (a : read sheet .outcome ≡ Accepted) (b : List ℕ)
-    (room : cells (read sheet .network) ≤ length b / 2) where
-  abbrev count : ℕ
-  count = cells (read sheet .network)
-
-  enough : count ≤ length (minutesOf b)
-  enough = rw (length-minutesOf b) room
-
-  pub bench-refuses-13 : (writtenValues (benchSolving sheet b .answer) ≡ refusedAs 13)
-      ↔ L.Inconsistent (read sheet .network)
-  bench-refuses-13 = refuses-13 sheet a (minutesOf b) enough
-
-  pub bench-solves : (L.Inconsistent (read sheet .network) → ⊥)
-      → (σ : List ℕ) × Least (read sheet .network) σ × (writtenValues (benchSolving sheet b .answer) ≡ done count)
-      × (benchSolving sheet b .memory ≡ bytesOf σ ++ drop (2 * count) b)
-  bench-solves n =
-      let s = solves-least sheet a (minutesOf b) enough n in
-      let σ = s .0 in
-      let front : take count (solving sheet (minutesOf b) .memory) ≡ σ =
-      ap (λ (x : List ℕ). take count x) (s .3) ∙ take-at σ (drop count (minutesOf b)) count (s .1 .solves .sized) in (
-        σ,
-        s .1,
-        ap writtenValues (s .2),
-        ap (λ (w : Written). pairsAfter w (solving sheet (minutesOf b) .memory) b) (s .2)
-            ∙ ap (λ (x : List ℕ). bytesOf x ++ drop (2 * count) b) front,
+      reached : rests (solve net .end) ≡ true → Least net (solve net .reached)
+          × (solvingInto sheet m ≡ writing m (solve net .reached))
+      reached e = (
+        solve-least net wf (rests-true (solve net .end) .0 e),
+        sym (call-works (refusing m) sheet (solvingTests m) work (read sheet) refl a (has-room, (e, tt))),
       )
+
+      pub solves-least : (L.Inconsistent net → ⊥)
+          → (σ : List ℕ) × Least net σ × (solvingInto sheet m ≡ writing m σ)
+      solves-least n = by-rest (rests (solve net .end)) refl
+        where
+          by-rest : (b : Bool) → rests (solve net .end) ≡ b
+              → (σ : List ℕ) × Least net σ × (solvingInto sheet m ≡ writing m σ)
+          by-rest true e = let s = reached e in (solve net .reached, s .0, s .1)
+          by-rest false e = absurd (n (unrested .0 e))
+
+      -- 13 comes exactly where no good table exists
+      pub refuses-13 : (writtenValues (solvingInto sheet m .answer) ≡ refusedAs 13) ↔ L.Inconsistent net
+      refuses-13 = (
+        by-rest (rests (solve net .end)) refl,
+        λ i. ap (λ (l : Left Written). writtenValues (l .answer)) (refuses-none i),
+      )
+        where
+          by-rest : (b : Bool) → rests (solve net .end) ≡ b
+              → writtenValues (solvingInto sheet m .answer) ≡ refusedAs 13 → L.Inconsistent net
+          by-rest true e q =
+              let z : _≡_ {A = ℕ} 0 13 =
+              sym (ap (λ (l : Left Written). writtenValues (l .answer) .number) (reached e .1)) ∙ ap number-of q in
+              zero-is-one cc
+          by-rest false e q = unrested .0 e
+
+  pub solver-writes : Writes sheet (solves (m .room)) writtenValues 0 (solvingInto sheet m) (m .before)
+  solver-writes =
+      writes-call writtenValues 0 (refusing m) (λ r. refl) (m .before) (λ r. refl) sheet (solvingTests m) work (solves (m .room)) refl
+      (λ a. (
+        refl,
+        (leb-false (cells net) (m .room), lt-leb (cells net) (m .room)),
+        λ _. (refl, unrested a, λ _. tt),
+      ))
+      (λ Γ. (refl, refl))

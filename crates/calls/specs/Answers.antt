@@ -12,7 +12,9 @@ use Rattle.sheet.specs.Fault.{Fault}
 use Rattle.sheet.specs.declared.Outcome.the-variants.{Accepted}
 use Rattle.sheet.specs.declared.Reading.{Reading}
 use Rattle.calls.specs.Values.{Values, done, turnedAway}
-use Rattle.calls.specs.Calls.{writtenValues, Left}
+use Rattle.calls.specs.Call.{Left}
+use Rattle.calls.specs.Calls.{writtenValues}
+use Rattle.calls.specs.declared.Written.{Written}
 
 -- the sheet keeps every rule of its layout, and its network is Γ
 pub record Reads (sheet : List ℕ) (Γ : Network) : Type 0 where
@@ -47,12 +49,15 @@ pub record Answers (sheet : List ℕ) (own : List Own) {A : Type 0} (nothing : A
   pub exactly : (Γ : Network) → Reads sheet Γ → Exactly own Γ (v .number)
   pub refusal-empty : (v .number ≡ 0 → ⊥) → v .value ≡ nothing
 
--- of a call that writes into the memory m: it answers so, and "a refusal leaves each lent buffer unaltered"
-pub record Writes (sheet : List ℕ) (own : List Own) (l : Left) (m : List ℕ) : Type 0 where
-  pub answers : Answers sheet own 0 (writtenValues (l .answer))
-  pub keeps : (writtenValues (l .answer) .number ≡ 0 → ⊥) → l .memory ≡ m
+-- of a call that writes into the memory m, whose answers have these values: it answers so, and "a refusal leaves each
+-- lent buffer unaltered"
+pub record Writes (sheet : List ℕ) (own : List Own) {A B : Type 0} (values : A → Values B) (nothing : B) (l : Left A)
+    (m : List ℕ)
+    : Type 0 where
+  pub answers : Answers sheet own nothing (values (l .answer))
+  pub keeps : (values (l .answer) .number ≡ 0 → ⊥) → l .memory ≡ m
 
 -- it has written this text: "the written part has exactly its stated contents and everything behind it is unaltered"
-pub record Wrote (text m : List ℕ) (l : Left) : Type 0 where
+pub record Wrote (text m : List ℕ) (l : Left Written) : Type 0 where
   pub answer : writtenValues (l .answer) ≡ done (length text)
   pub memory : l .memory ≡ text ++ drop (length text) m

@@ -1,50 +1,39 @@
--- The calls of the workshop bench, which is written in C: "There a table travels as two bytes a minute, low byte
--- first. For the judge an odd number of bytes is refusal 11; the solver counts the whole pairs it is lent" (01, The
--- judge's verdict). An answer is one number.
-use mathlib.Core.Path.{_≡_}
-use mathlib.Core.Bool.{true, false}
-use mathlib.Core.List.{List, _++_}
-use Prim.Native.Nat.{ℕ, _+_, _*_, _%_}
-use lib.Dec.{eqb}
-use lib.ListN.{length, take, drop}
-use Rattle.pairs.specs.Pairs.{minutesOf, bytesOf}
-use Rattle.refusal.specs.declared.Cause.the-variants.{WrongTableLength}
+-- The calls of the workshop bench, which is written in C: tables travel as bytes, and an answer is one number (01, The
+-- judge's verdict).
+use mathlib.Core.List.{List}
+use Prim.Native.Nat.{ℕ, _+_, _*_, _<_}
+use Rattle.pairs.specs.Pairs.{minutesOf}
 use Rattle.refusal.specs.declared.Refusal.{Refusal}
-use Rattle.sheet.specs.Reading.{read}
-use Rattle.sheet.specs.declared.Outcome.{Outcome}
-use Rattle.sheet.specs.declared.Outcome.the-variants.{Accepted, Refused}
 use Rattle.checker.specs.declared.Breach.{Breach}
 use Rattle.checker.specs.declared.Breach.the-variants.{Late, Rule, Unheard}
 use Rattle.checker.specs.declared.Verdict.{Verdict}
 use Rattle.checker.specs.declared.Verdict.the-variants.{Pass, Breach as Breached}
-use Rattle.calls.specs.Calls.{withoutLine, judgement, writtenValues, Left, solving}
+use Rattle.dispatch.specs.Written.{dueText}
 use Rattle.calls.specs.Values.{Values, done, turnedAway}
+use Rattle.calls.specs.Call.{Left}
+use Rattle.calls.specs.Lent.{asBytes, inPairs}
+use Rattle.calls.specs.Calls.{judging, writtenValues, solvingInto, listingOf}
+use Rattle.calls.specs.Play.{playing}
+use Rattle.calls.specs.declared.Due.{Due}
 use Rattle.calls.specs.declared.Judgement.{Judgement}
 use Rattle.calls.specs.declared.Judgement.the-variants as J
 use Rattle.calls.specs.declared.Written.{Written}
-use Rattle.calls.specs.declared.Written.the-variants as W
 
 -- judging bytes
-abbrev pub benchJudgementFor : List ℕ → Outcome → List ℕ → Judgement
-benchJudgementFor sheet Accepted b =
-    elim (eqb (length b % 2) 1) [
-      | true ↦ J.Refused (withoutLine WrongTableLength)
-      | false ↦ judgement sheet (minutesOf b)
-    ]
-benchJudgementFor sheet (Refused r) b = J.Refused r
-
 abbrev pub benchJudgement : List ℕ → List ℕ → Judgement
-benchJudgement sheet b = benchJudgementFor sheet (read sheet .outcome) b
+benchJudgement sheet b = judging sheet (asBytes b)
 
--- solving into bytes: what is written is written as pairs, and everything behind it is unaltered
-abbrev pub pairsAfter : Written → List ℕ → List ℕ → List ℕ
-pairsAfter (W.Count n) m b = bytesOf (take n m) ++ drop (2 * n) b
-pairsAfter (W.Refused r) m b = b
+-- solving into bytes
+abbrev pub benchSolving : List ℕ → List ℕ → Left Written
+benchSolving sheet b = solvingInto sheet (inPairs b)
 
-abbrev pub benchSolving : List ℕ → List ℕ → Left
-benchSolving sheet b =
-    let l = solving sheet (minutesOf b) in
-    record { answer = l .answer; memory = pairsAfter (l .answer) (l .memory) b }
+-- listing a table of bytes
+abbrev pub benchListed : List ℕ → List ℕ → List ℕ → Left Written
+benchListed sheet b m = listingOf sheet (asBytes b) m
+
+-- playing a table of bytes, for those who have heard a text
+unfoldable pub benchDue : List ℕ → List ℕ → ℕ → List ℕ → Due
+benchDue sheet b m text = playing sheet (asBytes b) (λ Γ. dueText Γ (minutesOf b) m text)
 
 -- the values of a verdict: word 0 is a pass, 1 Late with case and event, 2 Rule with case and rule, 3 Unheard with both
 -- cases and the event
@@ -88,14 +77,19 @@ packed v =
     let x = v .value in
     v .number + 256 * (v .line + 65536 * (x .word + 256 * (x .first + 256 * (x .second + 256 * x .third))))
 
--- the solver's: number, line (two bytes), count of minutes (two bytes)
+-- each value fits its bytes
+pub record Small (v : Values Said) : Type 0 where
+  pub number : v .number < 256
+  pub line : v .line < 65536
+  pub word : v .value .word < 4
+  pub first : v .value .first < 256
+  pub second : v .value .second < 256
+  pub third : v .value .third < 256
+
+-- the others': number, line (two bytes), count of minutes or bytes, or the events due (two bytes)
 abbrev pub packedCount : Values ℕ → ℕ
 packedCount v = v .number + 256 * (v .line + 65536 * v .value)
 
-abbrev pub packedWritten : Written → ℕ
-packedWritten a = packedCount (writtenValues a)
-
--- the promise of the solver's call: the number, and the bytes as it returns
-pub record BenchLeaves (l : Left) (r : ℕ) (b : List ℕ) : Type 0 where
-  pub answer : r ≡ packedWritten (l .answer)
-  pub memory : b ≡ l .memory
+-- the answer of a call that writes, as C has it
+abbrev pub packedLeft : Left Written → Left ℕ
+packedLeft l = record { answer = packedCount (writtenValues (l .answer)); memory = l .memory }

@@ -1,15 +1,12 @@
--- What the public calls answer and what they leave in the memory that they are lent (01, Refused sheets and calls,
--- The judge's verdict and The printed listing; 02, point 2). A refusal of the sheet itself comes first; then 17, 11,
--- 12 and 13, whose line is 0.
-use mathlib.Core.Path.{_≡_}
+-- What the public calls answer and what they leave in the memory that they are lent (01, Refused sheets and calls, The
+-- judge's verdict and The printed listing; 02, point 2). Each is its tests, in checking order, and its work.
 use mathlib.Core.Bool.{Bool, true, false}
-use mathlib.Core.List.{List, _++_}
+use mathlib.Core.List.{List, [], _∷_}
 use Prim.Native.Nat.{ℕ}
-use lib.Dec.{eqb, leb}
-use lib.ListN.{length, drop}
+use lib.Dec.{leb}
+use lib.ListN.{length}
 use Rattle.page.specs.declared.Written as PD
 use Rattle.page.specs.declared.Written.the-variants as PW
-use Rattle.refusal.specs.Refusal.{refusal}
 use Rattle.refusal.specs.declared.Cause.{Cause}
 use Rattle.refusal.specs.declared.Refusal.{Refusal}
 use Rattle.refusal.specs.declared.Cause.the-variants.{WrongTableLength, BufferTooShort, Inconsistent, TooManyRows}
@@ -18,16 +15,15 @@ use Rattle.network.specs.Limits as L
 use Rattle.network.specs.Build.{cells}
 use Rattle.network.specs.declared.Constraint.{Constraint}
 use Rattle.network.specs.declared.Network.{Network}
-use Rattle.sheet.specs.Reading.{read}
-use Rattle.sheet.specs.declared.Outcome.{Outcome}
-use Rattle.sheet.specs.declared.Outcome.the-variants.{Accepted, Refused}
-use Rattle.sheet.specs.declared.Reading.{Reading}
+use Rattle.line.specs.Rows.{Tests}
 use Rattle.checker.specs.Verdict.{verdict}
 use Rattle.solver.specs.Solve.{solve}
 use Rattle.listing.specs.Listing.{listing}
 use Rattle.tighten.specs.Tightest.{remainingOf}
 use Rattle.canonical.specs.House.{houseText}
 use Rattle.calls.specs.Values.{Values, done, turnedAway}
+use Rattle.calls.specs.Call.{withoutLine, call, Left}
+use Rattle.calls.specs.Lent.{Handed, asMinutes, Lent, inPlace}
 use Rattle.calls.specs.declared.Counts.{Counts}
 use Rattle.calls.specs.declared.Summary.{Summary}
 use Rattle.calls.specs.declared.Summary.the-variants as S
@@ -36,20 +32,12 @@ use Rattle.calls.specs.declared.Judgement.the-variants as J
 use Rattle.calls.specs.declared.Written.{Written}
 use Rattle.calls.specs.declared.Written.the-variants as W
 
--- the line is 0 for refusals 11 to 13, and for those of document 02 that name none
-abbrev pub withoutLine : Cause → Refusal
-withoutLine c = refusal c 0
-
 -- reading: the horizon and the counts
 abbrev pub countsOf : Network → Counts
 countsOf Γ = record { horizon = Γ .horizon; events = Γ .events; signals = Γ .signals; rules = Γ .rules }
 
-abbrev pub summaryFor : Network → Outcome → Summary
-summaryFor Γ Accepted = S.Accepted (countsOf Γ)
-summaryFor Γ (Refused r) = S.Refused r
-
 abbrev pub summary : List ℕ → Summary
-summary sheet = summaryFor (read sheet .network) (read sheet .outcome)
+summary sheet = call S.Refused sheet (λ _. []) (λ Γ. S.Accepted (countsOf Γ))
 
 -- the values of an answer: the horizon and the counts
 abbrev pub noCounts : Counts
@@ -59,91 +47,79 @@ abbrev pub summaryValues : Summary → Values Counts
 summaryValues (S.Accepted c) = done c
 summaryValues (S.Refused r) = turnedAway noCounts r
 
--- judging: "A table handed in has not exactly n × 2^k numbers" is 11
-abbrev pub judgementFor : Network → Outcome → List ℕ → Judgement
-judgementFor Γ Accepted t =
-    elim (eqb (length t) (cells Γ)) [
-      | true ↦ J.Judged (verdict Γ t)
-      | false ↦ J.Refused (withoutLine WrongTableLength)
-    ]
-judgementFor Γ (Refused r) t = J.Refused r
+-- "A table handed in has not exactly n × 2^k numbers" is 11
+abbrev pub rightLength : Handed → Network → Bool × Cause
+rightLength t Γ = (t .has (cells Γ), WrongTableLength)
+
+-- judging
+abbrev pub judgingTests : Handed → Network → Tests
+judgingTests t Γ = rightLength t Γ ∷ []
+
+abbrev pub judging : List ℕ → Handed → Judgement
+judging sheet t = call J.Refused sheet (judgingTests t) (λ Γ. J.Judged (verdict Γ (t .minutes)))
 
 abbrev pub judgement : List ℕ → List ℕ → Judgement
-judgement sheet t = judgementFor (read sheet .network) (read sheet .outcome) t
-
--- an answer, and what is then in the lent memory
-pub record Left : Type 0 where
-  pub answer : Written
-  pub memory : List ℕ
+judgement sheet t = judging sheet (asMinutes t)
 
 -- the value of an answer: how much was written
 abbrev pub writtenValues : Written → Values ℕ
 writtenValues (W.Count n) = done n
 writtenValues (W.Refused r) = turnedAway 0 r
 
--- the promise of a call that writes: its answer, and the lent memory as it returns
-pub record Leaves (l : Left) (r : Written) (m : List ℕ) : Type 0 where
-  pub answer : r ≡ l .answer
-  pub memory : m ≡ l .memory
+module _ (m : Lent) where
+  -- "A lent table or byte buffer is too short for what would be written" is 12
+  abbrev pub enough : ℕ → Bool × Cause
+  enough n = (leb n (m .room), BufferTooShort)
 
--- refused: the memory keeps its contents
-abbrev pub kept : Written → List ℕ → Left
-kept a m = record { answer = a; memory = m }
+  -- so much is written
+  abbrev pub writing : List ℕ → Left Written
+  writing text = record { answer = W.Count (length text); memory = m .after text }
 
--- "the written part has exactly its stated contents and everything behind it is unaltered", or 12 where there is no
--- room for it
-abbrev pub written : List ℕ → List ℕ → Left
-written text m =
-    elim (leb (length text) (length m)) [
-      | true ↦ record { answer = W.Count (length text); memory = text ++ drop (length text) m }
-      | false ↦ kept (W.Refused (withoutLine BufferTooShort)) m
-    ]
+  -- refused: the memory keeps its contents
+  abbrev pub refusing : Refusal → Left Written
+  refusing r = record { answer = W.Refused r; memory = m .before }
 
 -- the answer by what a writer did
 abbrev pub handedOut : PD.Written → Written
 handedOut (PW.Bytes n) = W.Count n
 handedOut PW.TooShort = W.Refused (withoutLine BufferTooShort)
 
--- solving: 12 "even where 13 would follow", then the least solution or 13
-abbrev pub solvedFor : End → List ℕ → List ℕ → Left
-solvedFor Rests σ m = written σ m
-solvedFor Passes σ m = kept (W.Refused (withoutLine Inconsistent)) m
-solvedFor Spent σ m = kept (W.Refused (withoutLine Inconsistent)) m
+-- solving: the run ends at the least solution, or there is none
+abbrev pub rests : End → Bool
+rests Rests = true
+rests Passes = false
+rests Spent = false
 
-abbrev pub solvingFor : Network → Outcome → List ℕ → Left
-solvingFor Γ Accepted m =
-    elim (leb (cells Γ) (length m)) [
-      | true ↦ solvedFor (solve Γ .end) (solve Γ .reached) m
-      | false ↦ kept (W.Refused (withoutLine BufferTooShort)) m
-    ]
-solvingFor Γ (Refused r) m = kept (W.Refused r) m
+-- 12 "even where 13 would follow"
+abbrev pub solvingTests : Lent → Network → Tests
+solvingTests m Γ = enough m (cells Γ) ∷ (rests (solve Γ .end), Inconsistent) ∷ []
 
-abbrev pub solving : List ℕ → List ℕ → Left
-solving sheet m = solvingFor (read sheet .network) (read sheet .outcome) m
+abbrev pub solvingInto : List ℕ → Lent → Left Written
+solvingInto sheet m = call (refusing m) sheet (solvingTests m) (λ Γ. writing m (solve Γ .reached))
+
+abbrev pub solving : List ℕ → List ℕ → Left Written
+solving sheet m = solvingInto sheet (inPlace m)
 
 -- listing: "prints any table of the right length"
-abbrev pub listingFor : List ℕ → Network → Outcome → List ℕ → List ℕ → Left
-listingFor sheet Γ Accepted t m =
-    elim (eqb (length t) (cells Γ)) [
-      | true ↦ written (listing sheet Γ t) m
-      | false ↦ kept (W.Refused (withoutLine WrongTableLength)) m
-    ]
-listingFor sheet Γ (Refused r) t m = kept (W.Refused r) m
+abbrev pub listingTests : List ℕ → Handed → Lent → Network → Tests
+listingTests sheet t m Γ = rightLength t Γ ∷ enough m (length (listing sheet Γ (t .minutes))) ∷ []
 
-abbrev pub listed : List ℕ → List ℕ → List ℕ → Left
-listed sheet t m = listingFor sheet (read sheet .network) (read sheet .outcome) t m
+abbrev pub listingOf : List ℕ → Handed → List ℕ → Left Written
+listingOf sheet t out =
+    let m = inPlace out in
+    call (refusing m) sheet (listingTests sheet t m) (λ Γ. writing m (listing sheet Γ (t .minutes)))
+
+abbrev pub listed : List ℕ → List ℕ → List ℕ → Left Written
+listed sheet t m = listingOf sheet (asMinutes t) m
 
 -- writing the house form: "17, more than 64 rows would be left" (02, point 2), before 12
 abbrev pub fit : List Constraint → Bool
 fit rows = leb (length rows) L.rules
 
-abbrev pub houseFor : List ℕ → Network → Outcome → List ℕ → Left
-houseFor sheet Γ Accepted m =
-    elim (fit (remainingOf Γ)) [
-      | true ↦ written (houseText sheet Γ) m
-      | false ↦ kept (W.Refused (withoutLine TooManyRows)) m
-    ]
-houseFor sheet Γ (Refused r) m = kept (W.Refused r) m
+abbrev pub houseTests : List ℕ → Lent → Network → Tests
+houseTests sheet m Γ = (fit (remainingOf Γ), TooManyRows) ∷ enough m (length (houseText sheet Γ)) ∷ []
 
-abbrev pub housed : List ℕ → List ℕ → Left
-housed sheet m = houseFor sheet (read sheet .network) (read sheet .outcome) m
+abbrev pub housed : List ℕ → List ℕ → Left Written
+housed sheet out =
+    let m = inPlace out in
+    call (refusing m) sheet (houseTests sheet m) (λ Γ. writing m (houseText sheet Γ))

@@ -1,12 +1,11 @@
 -- The three demands, as statements about every sheet, table and lent buffer. They speak of the definitions that the
--- calls' contracts are equations with: `summary`, `judgement`, `solving` and `listed` (Calls), `benchJudgement` and
--- `benchSolving` (Bench), in `Numbers` those of all calls, and of their answers in the papers' numbers.
+-- calls' contracts are equations with: `summary`, `judgement`, `solving` and `listed` (Calls), in `Numbers` and `Benched`
+-- those of all calls, and of their answers in the papers' numbers.
 use mathlib.Core.Path.{_≡_}
 use mathlib.Core.Logic.{_↔_}
-use mathlib.Core.List.{List, _++_}
-use Prim.Native.Nat.{ℕ, _*_, _/_, _≤_}
-use lib.ListN.{length, drop}
-use Rattle.pairs.specs.Pairs.{minutesOf, bytesOf}
+use mathlib.Core.List.{List}
+use Prim.Native.Nat.{ℕ, _≤_}
+use lib.ListN.{length}
 use Rattle.refusal.specs.Refusal.{numberOf}
 use Rattle.refusal.specs.declared.Cause.{Cause}
 use Rattle.refusal.specs.declared.Refusal.{Refusal}
@@ -31,11 +30,10 @@ use Rattle.solver.specs.Solve.{solve}
 use Rattle.listing.specs.Listing.{listing}
 use Rattle.calls.specs.Values.{done, refusedAs}
 use Rattle.calls.specs.Calls.{countsOf, summary, summaryValues, judgement, writtenValues, solving, listed}
-use Rattle.calls.specs.Bench.{benchJudgement, benchSolving, passed, breachValues, judgementValues, packed}
-use Rattle.calls.specs.Bench.{packedWritten}
-use Rattle.calls.specs.Header.{JudgeHolds, SolverHolds}
+use Rattle.calls.specs.Bench.{passed, breachValues, judgementValues}
 use Rattle.calls.specs.Answers.{Reads, Wrote}
 use Rattle.calls.specs.Numbers.{Numbers}
+use Rattle.calls.specs.Benched.{Benched}
 
 pub record Demands : Type 0 where
   -- demand 1: every call has one of its defined answers, by its contract; which numbers and lines these are, and where
@@ -78,23 +76,10 @@ pub record Demands : Type 0 where
   -- "otherwise it writes a good table in which each event, in each case, is no later than in any other good table, and
   -- leaves everything behind it unaltered"
   pub solved : (sheet m : List ℕ) (Γ : Network) → Reads sheet Γ → cells Γ ≤ length m → (L.Inconsistent Γ → ⊥)
-      → (σ : List ℕ) × Least Γ σ × (writtenValues (solving sheet m .answer) ≡ done (cells Γ))
-      × (solving sheet m .memory ≡ σ ++ drop (cells Γ) m)
+      → (σ : List ℕ) × Least Γ σ × Wrote σ m (solving sheet m)
   -- of the listing's call, where there is room: the listing, and everything behind it unaltered
   pub lists : (sheet t m : List ℕ) (Γ : Network) → Reads sheet Γ → length t ≡ cells Γ
       → length (listing sheet Γ t) ≤ length m
       → Wrote (listing sheet Γ t) m (listed sheet t m)
-  -- of the bench's calls: demands 2 and 3 on the minutes of the bytes
-  pub bench-passes : (sheet b : List ℕ) (Γ : Network) → Reads sheet Γ
-      → (judgementValues (benchJudgement sheet b) ≡ passed) ↔ ((length b ≡ 2 * cells Γ) × Solution Γ (minutesOf b))
-  pub bench-breaches : (sheet b : List ℕ) (Γ : Network) (x : Breach) → Reads sheet Γ → length b ≡ 2 * cells Γ
-      → (judgementValues (benchJudgement sheet b) ≡ breachValues x) ↔ First Γ (minutesOf b) x
-  pub bench-refused : (sheet b : List ℕ) (Γ : Network) → Reads sheet Γ → cells Γ ≤ length b / 2
-      → (writtenValues (benchSolving sheet b .answer) ≡ refusedAs 13) ↔ L.Inconsistent Γ
-  pub bench-solved : (sheet b : List ℕ) (Γ : Network) → Reads sheet Γ → cells Γ ≤ length b / 2 → (L.Inconsistent Γ → ⊥)
-      → (σ : List ℕ) × Least Γ σ × (writtenValues (benchSolving sheet b .answer) ≡ done (cells Γ))
-      × (benchSolving sheet b .memory ≡ bytesOf σ ++ drop (2 * cells Γ) b)
-  -- and the header's functions, as `Header` has them, give back the values that were packed
-  pub header-judge : (sheet b : List ℕ) → let v = judgementValues (benchJudgement sheet b) in JudgeHolds (packed v) v
-  pub header-solver : (sheet b : List ℕ)
-      → let w = benchSolving sheet b .answer in SolverHolds (packedWritten w) (writtenValues w)
+  -- and of the bench's calls
+  pub bench : Benched

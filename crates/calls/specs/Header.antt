@@ -21,6 +21,12 @@ openingLine a = bits a 8 16
 abbrev pub openingMinutes : ℕ → ℕ
 openingMinutes a = bits a 24 16
 
+abbrev pub openingBytes : ℕ → ℕ
+openingBytes a = bits a 24 16
+
+abbrev pub openingEvents : ℕ → ℕ
+openingEvents a = bits a 24 16
+
 abbrev pub openingWord : ℕ → ℕ
 openingWord a = bits a 24 8
 
@@ -43,9 +49,11 @@ pub record JudgeHolds (a : ℕ) (v : Values Said) : Type 0 where
   pub third : openingThird a ≡ v .value .third
   pub rest : shifted a 56 ≡ 0
 
--- of the solver's; its last three bytes are 0
-pub record SolverHolds (a : ℕ) (v : Values ℕ) : Type 0 where
+-- of the others'; each tells one of the three, and the last three bytes are 0
+pub record CountHolds (a : ℕ) (v : Values ℕ) : Type 0 where
   pub number : openingNumber a ≡ v .number
   pub line : openingLine a ≡ v .line
   pub minutes : openingMinutes a ≡ v .value
+  pub bytes : openingBytes a ≡ v .value
+  pub events : openingEvents a ≡ v .value
   pub rest : shifted a 40 ≡ 0

@@ -13,13 +13,15 @@ use Rattle.network.specs.Limits as L
 use Rattle.sheet.specs.Reading.{longest}
 use Rattle.listing.specs.Most.{mostListing}
 use Rattle.calls.specs.Values.{Values}
-use Rattle.calls.specs.Calls.{writtenValues, Left, solving, listed, housed}
+use Rattle.calls.specs.Call.{Left}
+use Rattle.calls.specs.Calls.{writtenValues, solving, listed, housed}
+use Rattle.calls.specs.declared.Written.{Written}
 
 abbrev pub refusedText : Values ℕ → List ℕ
 refusedText v = ascii "refused " ++ decimal (v .number) ++ ascii " line " ++ decimal (v .line) ++ lineFeed ∷ []
 
 -- what a call has written goes on; a refusal is printed
-abbrev pub orRefused : Left → (List ℕ → List ℕ) → List ℕ
+abbrev pub orRefused : Left Written → (List ℕ → List ℕ) → List ℕ
 orRefused l next =
     let v = writtenValues (l .answer) in
     elim (eqb (v .number) 0) [ true ↦ next (take (v .value) (l .memory)) | false ↦ refusedText v ]

@@ -1,24 +1,28 @@
--- From what the reader, the solver and the writers promise to what the calls that write leave: the answer, and the lent
--- memory. Each law takes the reading of the sheet and how its outcome turned out. Assumes nothing.
+-- What the calls that write leave in lent memory, by what the writers and the solver did. Assumes nothing.
 use mathlib.Core.Path.{_≡_, refl, sym, _∙_, ap}
+use mathlib.Core.Logic.{inl, inr}
 use mathlib.Core.Bool.{Bool, true, false}
-use mathlib.Core.List.{List, _++_}
-use Prim.Native.Nat.{ℕ, _≤_, _<_}
+use mathlib.Core.List.{List, [], _∷_}
+use Prim.Native.Nat.{ℕ, _≤_}
+use borrow.Author.Tests.{leb-true}
 use lib.Dec.{leb}
-use lib.ListN.{length, drop}
+use lib.ListN.{length}
 use Rattle.prelude.proofs.Tests.{zero-is-one}
 use Rattle.page.specs.Written.{isRoom, writtenOf, bufferAfter, WrittenIs}
 use Rattle.page.specs.declared.Written as PD
 use Rattle.page.specs.declared.Written.the-variants as PW
-use Rattle.refusal.specs.declared.Cause.the-variants.{WrongTableLength, BufferTooShort, Inconsistent, TooManyRows}
+use Rattle.refusal.specs.declared.Cause.the-variants.{BufferTooShort, Inconsistent, TooManyRows}
 use Rattle.refusal.specs.declared.Refusal.{Refusal}
 use Rattle.fixpoint.specs.Run.{Run, End, Rests, Passes, Spent}
-use Rattle.network.specs.Limits as L
 use Rattle.network.specs.Build.{cells}
+use Rattle.network.specs.WellFormed.{WellFormed}
 use Rattle.network.specs.declared.Network.{Network}
+use Rattle.line.specs.Rows.{Tests}
 use Rattle.sheet.specs.Reading.{read}
+use Rattle.sheet.specs.declared.Outcome.{Outcome}
 use Rattle.sheet.specs.declared.Outcome.the-variants.{Accepted, Refused}
 use Rattle.sheet.specs.declared.Reading.{Reading}
+use Rattle.sheet.proofs.WellFormed.{accepted-well-formed}
 use Rattle.solver.specs.Solve.{solve}
 use Rattle.solver.specs.Solved.{solvedOf, tableAfter, SolvedIs}
 use Rattle.solver.specs.declared.Solved.{Solved}
@@ -27,117 +31,158 @@ use Rattle.solver.proofs.Least.{solve-least}
 use Rattle.listing.specs.Listing.{listing}
 use Rattle.tighten.specs.Tightest.{remainingOf}
 use Rattle.canonical.specs.House.{houseText}
-use Rattle.calls.specs.Calls.{withoutLine, Left, Leaves, kept, written, handedOut, solvedFor, solving, listed, housed}
+use Rattle.calls.specs.Call.{withoutLine, Left, Leaves}
+use Rattle.calls.specs.Lent.{inPlace}
+use Rattle.calls.specs.Calls.{enough, writing, refusing, handedOut, rests, solvingTests, solving, listed, fit}
+use Rattle.calls.specs.Calls.{houseTests, housed}
 use Rattle.calls.specs.declared.Written.{Written}
 use Rattle.calls.specs.declared.Written.the-variants as W
-use Rattle.calls.proofs.Calls.{written-room, well-formed, solving-of, solving-short, solving-room, listed-of}
-use Rattle.calls.proofs.Calls.{listing-wrong, listing-right}
-use Rattle.calls.proofs.Calls.{house-of, house-many, house-few}
-
--- found is not none
-pub found-not-none : (n k : ℕ) → _≡_ {A = Solved} (Found n) (None k) → ⊥
-found-not-none n k e = zero-is-one cc
+use Rattle.calls.proofs.Call.{call-refused, call-fails, call-works}
+use Rattle.opening.specs.Prologue.{behind, handedIn}
+use Rattle.opening.proofs.Prologue.{behind-accepted, behind-refused, handed-refused, handed-fails, handed-works}
 
 -- what was promised of one definition is promised of an equal one
-pub leaves-as : {l k : Left} {r : _} {m : List ℕ} → l ≡ k → Leaves l r m → Leaves k r m
+pub leaves-as : {l k : Left Written} {r : Written} {m : List ℕ} → l ≡ k → Leaves l r m → Leaves k r m
 leaves-as e h = rw (← e) h
 
 -- a refusal leaves the memory as it was
-kept-left : {l : Left} (w : Written) (m : List ℕ) → kept w m ≡ l → Leaves l w m
-kept-left w m e = leaves-as e (record { answer = refl; memory = refl })
+pub kept : {l : Left Written} (m : List ℕ) (r : Refusal) → refusing (inPlace m) r ≡ l → Leaves l (W.Refused r) m
+kept m r e = leaves-as e (record { answer = refl; memory = refl })
 
--- what a writer did with the memory is what the call does
-pub written-by : (text m x : List ℕ) (w : PD.Written) → WrittenIs text m x w → Leaves (written text m) (handedOut w) x
+-- a writer wrote the text, or had no room for it
+pub written-by : {l : Left Written} (text m x : List ℕ) (w : PD.Written) → WrittenIs text m x w
+    → (isRoom text m ≡ true → writing (inPlace m) text ≡ l)
+    → (isRoom text m ≡ false → refusing (inPlace m) (withoutLine BufferTooShort) ≡ l)
+    → Leaves l (handedOut w) x
 unfolding writtenOf bufferAfter
-written-by text m x w is = by-room (isRoom text m) refl
+written-by {l} text m x w is wrote short = by-room (isRoom text m) refl
   where
-    by-room : (b : Bool) → isRoom text m ≡ b → Leaves (written text m) (handedOut w) x
+    by-room : (b : Bool) → isRoom text m ≡ b → Leaves l (handedOut w) x
     by-room true r =
         let done : w ≡ PW.Bytes (length text) = is .answer ∙ rw r in
-        rw (r, written, done) (record { answer = refl; memory = is .buffer ∙ rw r })
+        leaves-as (wrote r) (rw done (record { answer = refl; memory = is .buffer ∙ rw r }))
     by-room false r =
         let done : w ≡ PW.TooShort = is .answer ∙ rw r in
-        rw (r, written, done) (record { answer = refl; memory = is .buffer ∙ rw r })
+        leaves-as (short r) (rw done (record { answer = refl; memory = is .buffer ∙ rw r }))
 
-module _ (sheet : List ℕ) (g : Reading) (e : g ≡ read sheet) where
-  -- a sheet that is refused
-  module _ (x : Refusal) (p : g .outcome ≡ Refused x) (m : List ℕ) where
-    pub solving-refused : Leaves (solving sheet m) (W.Refused x) m
-    solving-refused = kept-left (W.Refused x) m (solving-of sheet g e (Refused x) p m)
+-- the solver found a table, or that there is none
+module _ (Γ : Network) (m x : List ℕ) (s : Solved) (is : SolvedIs Γ m x s) where
+  found-not-none : (n k : ℕ) → _≡_ {A = Solved} (Found n) (None k) → ⊥
+  found-not-none n k e = zero-is-one cc
 
-    pub listing-refused : (t : List ℕ) → Leaves (listed sheet t m) (W.Refused x) m
-    listing-refused t = kept-left (W.Refused x) m (listed-of sheet g e (Refused x) p t m)
+  found-rests : (n : ℕ) → s ≡ Found n → (solve Γ .end ≡ Rests) × (x ≡ inPlace m .after (solve Γ .reached))
+  found-rests n q = by-end (solve Γ .end) refl
+    where
+      none-of : {A : Type 0} → solvedOf (solve Γ) ≡ None (solve Γ .rounds) → A
+      none-of p = absurd (found-not-none n _ (sym q ∙ is .answer ∙ p))
 
-    pub house-refused : Leaves (housed sheet m) (W.Refused x) m
-    house-refused = kept-left (W.Refused x) m (house-of sheet g e (Refused x) p m)
+      by-end : (end : End) → solve Γ .end ≡ end → (solve Γ .end ≡ Rests) × (x ≡ inPlace m .after (solve Γ .reached))
+      by-end Rests p = (p, is .table ∙ rw (p, tableAfter))
+      by-end Passes p = none-of (rw (p, solvedOf))
+      by-end Spent p = none-of (rw (p, solvedOf))
 
-  module _ (a : g .outcome ≡ Accepted) (m : List ℕ) where
-    pub solving-short-left : length m < cells (g .network)
-        → Leaves (solving sheet m) (W.Refused (withoutLine BufferTooShort)) m
-    solving-short-left h = kept-left _ m (solving-short sheet g e a m h)
+  none-passes : (n : ℕ) → s ≡ None n → (rests (solve Γ .end) ≡ false) × (x ≡ m)
+  none-passes n q = by-end (solve Γ .end) refl
+    where
+      by-end : (end : End) → solve Γ .end ≡ end → (rests (solve Γ .end) ≡ false) × (x ≡ m)
+      by-end Rests p =
+          let found : solvedOf (solve Γ) ≡ Found (solve Γ .rounds) = rw (p, solvedOf) in
+          absurd (found-not-none _ n (sym found ∙ sym (is .answer) ∙ q))
+      by-end Passes p = (rw p, is .table ∙ rw (p, tableAfter))
+      by-end Spent p = (rw p, is .table ∙ rw (p, tableAfter))
 
-    pub listing-wrong-left : (t : List ℕ) → (length t ≡ cells (g .network) → ⊥)
-        → Leaves (listed sheet t m) (W.Refused (withoutLine WrongTableLength)) m
-    listing-wrong-left t n = kept-left _ m (listing-wrong sheet g e a t m n)
+-- the solver is asked where the sheet was read and there is room for n minutes, as many as its table has
+module _ (sheet m : List ℕ) (g : Reading) (e : g ≡ read sheet) (n : ℕ) (counted : n ≡ cells (g .network)) (o : Outcome)
+    (is-behind : o ≡ behind (g .outcome) (leb n (length m)) BufferTooShort) where
+  abbrev net : Network
+  net = read sheet .network
 
-    pub house-many-left : leb (length (remainingOf (g .network))) L.rules ≡ false
+  outcome-is : o ≡ behind (read sheet .outcome) (leb (cells net) (length m)) BufferTooShort
+  outcome-is =
+      is-behind ∙ ap (λ (k : ℕ). behind (g .outcome) (leb k (length m)) BufferTooShort) counted
+      ∙ ap (λ (x : Reading). behind (x .outcome) (leb (cells (x .network)) (length m)) BufferTooShort) e
+
+  pub solving-refused : (r : Refusal) → o ≡ Refused r → Leaves (solving sheet m) (W.Refused r) m
+  solving-refused r p =
+      kept m r
+      (behind-refused (refusing (inPlace m)) sheet (λ Γ. leb (cells Γ) (length m)) BufferTooShort
+      (λ Γ. (rests (solve Γ .end), Inconsistent) ∷ []) (λ Γ. writing (inPlace m) (solve Γ .reached)) r
+      (sym outcome-is ∙ p))
+
+  module _ (p : o ≡ Accepted) where
+    passed : (read sheet .outcome ≡ Accepted) × (leb (cells net) (length m) ≡ true)
+    passed = behind-accepted (read sheet .outcome) (leb (cells net) (length m)) BufferTooShort (sym outcome-is ∙ p)
+
+    pub solving-asked : WellFormed (g .network) × (cells (g .network) ≤ length m)
+    solving-asked =
+        rw e (accepted-well-formed sheet (passed .0) .0, leb-true (cells net) (length m) (passed .1))
+
+    module _ (x : List ℕ) (s : Solved) (is : SolvedIs (g .network) m x s) where
+      is-read : SolvedIs net m x s
+      is-read = rw e at is
+
+      pub solving-found : (k : ℕ) → s ≡ Found k → Leaves (solving sheet m) (W.Count n) x
+      solving-found k q =
+          let r = found-rests net m x s is-read k q in
+          let size = solve-least net (accepted-well-formed sheet (passed .0) .0) (r .0) .solves .sized in
+          let all : n ≡ cells net = counted ∙ ap (λ (y : Reading). cells (y .network)) e in
+          leaves-as
+          (call-works (refusing (inPlace m)) sheet (solvingTests (inPlace m))
+          (λ Γ. writing (inPlace m) (solve Γ .reached)) (read sheet) refl (passed .0) (passed .1, (rw (r .0), tt)))
+          (record { answer = ap W.Count (all ∙ sym size); memory = r .1 })
+
+      pub solving-none : (k : ℕ) → s ≡ None k → Leaves (solving sheet m) (W.Refused (withoutLine Inconsistent)) x
+      solving-none k q =
+          let r = none-passes net m x s is-read k q in
+          leaves-as
+          (call-fails (refusing (inPlace m)) sheet (solvingTests (inPlace m))
+          (λ Γ. writing (inPlace m) (solve Γ .reached)) (read sheet) refl (passed .0) Inconsistent
+          (inr (passed .1, inl (r .0, refl))))
+          (record { answer = refl; memory = r .1 })
+
+-- the listing of a table that is handed in
+module _ (sheet t m : List ℕ) (g : Reading) (e : g ≡ handedIn sheet (length t)) where
+  abbrev text : Network → List ℕ
+  text Γ = listing sheet Γ t
+
+  abbrev rest : Network → Tests
+  rest Γ = enough (inPlace m) (length (text Γ)) ∷ []
+
+  pub listing-refused : (r : Refusal) → g .outcome ≡ Refused r → Leaves (listed sheet t m) (W.Refused r) m
+  listing-refused r p =
+      kept m r (handed-refused sheet t g e (refusing (inPlace m)) rest (λ Γ. writing (inPlace m) (text Γ)) r p)
+
+  pub listing-written : g .outcome ≡ Accepted → (x : List ℕ) (w : PD.Written) → WrittenIs (text (g .network)) m x w
+      → Leaves (listed sheet t m) (handedOut w) x
+  listing-written a x w is =
+      written-by (text (g .network)) m x w is
+      (λ room.
+      handed-works sheet t g e (refusing (inPlace m)) rest (λ Γ. writing (inPlace m) (text Γ)) a (room, tt))
+      (λ short.
+      handed-fails sheet t g e (refusing (inPlace m)) rest (λ Γ. writing (inPlace m) (text Γ)) a BufferTooShort
+      (inl (short, refl)))
+
+-- the house form
+module _ (sheet m : List ℕ) (g : Reading) (e : g ≡ read sheet) where
+  abbrev form : Network → Left Written
+  form Γ = writing (inPlace m) (houseText sheet Γ)
+
+  pub house-refused : (r : Refusal) → g .outcome ≡ Refused r → Leaves (housed sheet m) (W.Refused r) m
+  house-refused r p =
+      kept m r (call-refused (refusing (inPlace m)) sheet (houseTests sheet (inPlace m)) form g e r p)
+
+  module _ (a : g .outcome ≡ Accepted) where
+    pub house-many : fit (remainingOf (g .network)) ≡ false
         → Leaves (housed sheet m) (W.Refused (withoutLine TooManyRows)) m
-    house-many-left h = kept-left _ m (house-many sheet g e a m h)
+    house-many h =
+        kept m _
+        (call-fails (refusing (inPlace m)) sheet (houseTests sheet (inPlace m)) form g e a TooManyRows (inl (h, refl)))
 
-    -- what a writer did is what the call does
-    pub listing-written : (t : List ℕ) → length t ≡ cells (g .network) → (x : List ℕ) (w : PD.Written)
-        → WrittenIs (listing sheet (g .network) t) m x w → Leaves (listed sheet t m) (handedOut w) x
-    listing-written t sized x w is = leaves-as (listing-right sheet g e a t m sized) (written-by _ m x w is)
-
-    pub house-written : leb (length (remainingOf (g .network))) L.rules ≡ true → (x : List ℕ) (w : PD.Written)
+    pub house-written : fit (remainingOf (g .network)) ≡ true → (x : List ℕ) (w : PD.Written)
         → WrittenIs (houseText sheet (g .network)) m x w → Leaves (housed sheet m) (handedOut w) x
-    house-written h x w is = leaves-as (house-few sheet g e a m h) (written-by _ m x w is)
-
-    pub solving-found : (x : List ℕ) (s : Solved) (n : ℕ) → cells (g .network) ≤ length m → SolvedIs (g .network) m x s
-        → s ≡ Found n
-        → Leaves (solving sheet m) (W.Count (cells (g .network))) x
-    solving-found x s n h is found = by-end (solve (g .network) .end) refl
-      where
-        by-passes : solve (g .network) .end ≡ Passes → solvedOf (solve (g .network)) ≡ None (solve (g .network) .rounds)
-        by-passes p = rw (p, solvedOf)
-
-        by-spent : solve (g .network) .end ≡ Spent → solvedOf (solve (g .network)) ≡ None (solve (g .network) .rounds)
-        by-spent p = rw (p, solvedOf)
-
-        by-end : (end : End) → solve (g .network) .end ≡ end → Leaves (solving sheet m) (W.Count (cells (g .network))) x
-        by-end Rests p =
-            let size : length (solve (g .network) .reached) ≡ cells (g .network) =
-            solve-least (g .network) (well-formed sheet g e a .0) p .solves .sized in
-            let σ = solve (g .network) .reached in
-            let room : solvedFor (solve (g .network) .end) σ m ≡ record {
-              answer = W.Count
-                  (length σ);
-              memory = σ ++ drop (length σ) m;
-            } =
-            ap (λ (x : End). solvedFor x σ m) p ∙ written-room σ m (rw size h) in
-            leaves-as (sym room ∙ solving-room sheet g e a m h)
-            (record { answer = ap W.Count (sym size); memory = is .table ∙ rw (p, tableAfter) })
-        by-end Passes p = absurd (found-not-none n _ (sym found ∙ is .answer ∙ by-passes p))
-        by-end Spent p = absurd (found-not-none n _ (sym found ∙ is .answer ∙ by-spent p))
-
-    pub solving-none : (x : List ℕ) (s : Solved) (n : ℕ) → cells (g .network) ≤ length m → SolvedIs (g .network) m x s
-        → s ≡ None n
-        → Leaves (solving sheet m) (W.Refused (withoutLine Inconsistent)) x
-    solving-none x s n h is none = by-end (solve (g .network) .end) refl
-      where
-        unsolved : (end : End) → solve (g .network) .end ≡ end
-            → solvedFor end (solve (g .network) .reached) m ≡ kept (W.Refused (withoutLine Inconsistent)) m
-            → x ≡ m → Leaves (solving sheet m) (W.Refused (withoutLine Inconsistent)) x
-        unsolved end p k same =
-            leaves-as (sym (ap (λ (y : End). solvedFor y (solve (g .network) .reached) m) p ∙ k)
-            ∙ solving-room sheet g e a m h)
-            (record { answer = refl; memory = same })
-
-        by-rests : solve (g .network) .end ≡ Rests → solvedOf (solve (g .network)) ≡ Found (solve (g .network) .rounds)
-        by-rests p = rw (p, solvedOf)
-
-        by-end : (end : End) → solve (g .network) .end ≡ end
-            → Leaves (solving sheet m) (W.Refused (withoutLine Inconsistent)) x
-        by-end Rests p = absurd (found-not-none _ n (sym (by-rests p) ∙ sym (is .answer) ∙ none))
-        by-end Passes p = unsolved Passes p refl (is .table ∙ rw (p, tableAfter))
-        by-end Spent p = unsolved Spent p refl (is .table ∙ rw (p, tableAfter))
+    house-written h x w is =
+        written-by (houseText sheet (g .network)) m x w is
+        (λ room. call-works (refusing (inPlace m)) sheet (houseTests sheet (inPlace m)) form g e a (h, (room, tt)))
+        (λ short.
+        call-fails (refusing (inPlace m)) sheet (houseTests sheet (inPlace m)) form g e a BufferTooShort
+        (inr (h, inl (short, refl))))

@@ -1,3 +1,7 @@
--- What the calls that write leave in lent memory, and those of the bench.
+-- What the refusal before a call's own work tells; what the calls that write leave in lent memory; and tables that come
+-- as bytes.
+pub mod Prologue
 pub mod Leaves
-pub mod Bytes
+pub mod Playing
+pub mod Taken
+pub mod Pairs

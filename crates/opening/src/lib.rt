@@ -1,8 +1,10 @@
 // The public calls. None asks anything of its caller: whatever the bytes and the lengths are, the answer is a defined
 // one, and a refusal leaves the lent memory as it was.
 ghost use mathlib.Core.Path.{_≡_};
-ghost use Rattle.calls.specs.Calls.{withoutLine, summary, judgement, solving, listed, housed, Leaves, handedOut};
-ghost use Rattle.calls.specs.Play.{eventsDue, eventsDueOn, answerTo};
+ghost use Rattle.calls.specs.Call.{withoutLine, Leaves};
+ghost use Rattle.calls.specs.Calls.{summary, judgement, solving, listed, housed, handedOut};
+ghost use Rattle.calls.specs.Play.{eventsDue, eventsDueOn};
+ghost use Rattle.opening.specs.Prologue.{behind, handedIn, answerTo};
 use calls::Counts;
 use calls::Due;
 use calls::Judgement;
@@ -15,6 +17,7 @@ use network::Network;
 use refusal::Cause;
 use refusal::Refusal;
 use sheet::Outcome;
+use sheet::Reading;
 use solver::Solved;
 
 pub mod bench;
@@ -32,6 +35,33 @@ fn without_line(cause: Cause) -> Refusal
     ensures { λ r. ⌜ r ≡ withoutLine cause ⌝ }
 {
     Refusal { cause, line: 0 }
+}
+
+// The refusal before a call's own work: the sheet's own, or behind it that of a test of the call.
+fn behind(outcome: Outcome, passes: bool, cause: Cause) -> Outcome
+    ensures { λ r. ⌜ r ≡ behind outcome passes cause ⌝ }
+{
+    if let Outcome::Refused(refusal) = outcome {
+        return Outcome::Refused(refusal);
+    }
+    if passes {
+        return Outcome::Accepted;
+    }
+    Outcome::Refused(without_line(cause))
+}
+
+// The reading for a call that is handed a table of so many minutes.
+fn handed_in(sheet: &[u8], minutes: usize) -> Reading
+    ensures { λ r. ⌜ r ≡ handedIn (now (sheet .entry)) minutes ⌝ }
+{
+    let reading = sheet::read(sheet);
+    let outcome = reading.outcome;
+    let network = reading.network;
+    let right = minutes == network::cell_count(network.events, network.signals);
+    Reading {
+        outcome: behind(outcome, right, Cause::WrongTableLength),
+        network,
+    }
 }
 
 // The horizon and the counts of a sheet.
@@ -56,17 +86,12 @@ pub fn read_sheet(sheet: &[u8]) -> Summary
 pub fn judge_table(sheet: &[u8], table: &[u16]) -> Judgement
     ensures { λ r. ⌜ r ≡ judgement (now (sheet .entry)) (now (table .entry)) ⌝ }
 {
-    let reading = sheet::read(sheet);
+    let reading = handed_in(sheet, table.len());
     let outcome = reading.outcome;
     let network = reading.network;
     match outcome {
         Outcome::Refused(refusal) => Judgement::Refused(refusal),
-        Outcome::Accepted => {
-            if table.len() != network::cell_count(network.events, network.signals) {
-                return Judgement::Refused(without_line(Cause::WrongTableLength));
-            }
-            Judgement::Judged(checker::check(network, table))
-        }
+        Outcome::Accepted => Judgement::Judged(checker::check(network, table)),
     }
 }
 
@@ -75,23 +100,17 @@ pub fn solve_sheet(sheet: &[u8], table: &mut [u16]) -> Written
     ensures { λ r. ⌜ Leaves (solving (now (sheet .entry)) (now (table .entry))) r (now (table .exit)) ⌝ }
 {
     let reading = sheet::read(sheet);
-    let outcome = reading.outcome;
+    let read = reading.outcome;
     let network = reading.network;
-    match outcome {
-        Outcome::Refused(refusal) => Written::Refused(refusal),
-        Outcome::Accepted => {
-            let cells = network::cell_count(network.events, network.signals);
-            if table.len() < cells {
-                return Written::Refused(without_line(Cause::BufferTooShort));
-            }
-            let solved = solver::solve(network, table);
-            match solved {
-                Solved::Found { rounds: _ } => Written::Count(cells),
-                Solved::Inconsistent { rounds: _ } => Written::Refused(without_line(
-                    Cause::Inconsistent,
-                )),
-            }
-        }
+    let cells = network::cell_count(network.events, network.signals);
+    let outcome = behind(read, cells <= table.len(), Cause::BufferTooShort);
+    if let Outcome::Refused(refusal) = outcome {
+        return Written::Refused(refusal);
+    }
+    let solved = solver::solve(network, table);
+    match solved {
+        Solved::Found { rounds: _ } => Written::Count(cells),
+        Solved::Inconsistent { rounds: _ } => Written::Refused(without_line(Cause::Inconsistent)),
     }
 }
 
@@ -109,17 +128,12 @@ fn handed_out(written: page::Written) -> Written
 pub fn write_listing(sheet: &[u8], table: &[u16], out: &mut [u8]) -> Written
     ensures { λ r. ⌜ Leaves (listed (now (sheet .entry)) (now (table .entry)) (now (out .entry))) r (now (out .exit)) ⌝ }
 {
-    let reading = sheet::read(sheet);
+    let reading = handed_in(sheet, table.len());
     let outcome = reading.outcome;
     let network = reading.network;
     match outcome {
         Outcome::Refused(refusal) => Written::Refused(refusal),
-        Outcome::Accepted => {
-            if table.len() != network::cell_count(network.events, network.signals) {
-                return Written::Refused(without_line(Cause::WrongTableLength));
-            }
-            handed_out(listing::write(sheet, network, table, out))
-        }
+        Outcome::Accepted => handed_out(listing::write(sheet, network, table, out)),
     }
 }
 
@@ -130,16 +144,14 @@ pub fn write_house(sheet: &[u8], out: &mut [u8]) -> Written
     let reading = sheet::read(sheet);
     let outcome = reading.outcome;
     let network = reading.network;
-    match outcome {
-        Outcome::Refused(refusal) => Written::Refused(refusal),
-        Outcome::Accepted => {
-            let rows = tighten::remaining(network);
-            if !rows.fits {
-                return Written::Refused(without_line(Cause::TooManyRows));
-            }
-            handed_out(canonical::write(sheet, network, rows, out))
-        }
+    if let Outcome::Refused(refusal) = outcome {
+        return Written::Refused(refusal);
     }
+    let rows = tighten::remaining(network);
+    if !rows.fits {
+        return Written::Refused(without_line(Cause::TooManyRows));
+    }
+    handed_out(canonical::write(sheet, network, rows, out))
 }
 
 // What the player answers, as the call's answer.
@@ -158,21 +170,16 @@ fn answer_to(dispatched: Dispatched) -> Due
 pub fn events_due_on(sheet: &[u8], table: &[u16], minute: u16, said: u64) -> Due
     ensures { λ r. ⌜ r ≡ eventsDueOn (now (sheet .entry)) (now (table .entry)) minute said ⌝ }
 {
-    let reading = sheet::read(sheet);
+    let reading = handed_in(sheet, table.len());
     let outcome = reading.outcome;
     let network = reading.network;
-    match outcome {
-        Outcome::Refused(refusal) => Due::Refused(refusal),
-        Outcome::Accepted => {
-            if table.len() != network::cell_count(network.events, network.signals) {
-                return Due::Refused(without_line(Cause::WrongTableLength));
-            }
-            let verdict = checker::check(network, table);
-            match verdict {
-                Verdict::Pass => answer_to(dispatch::due(network, table, minute, said)),
-                Verdict::Breach(_) => Due::Refused(without_line(Cause::TableFails)),
-            }
-        }
+    if let Outcome::Refused(refusal) = outcome {
+        return Due::Refused(refusal);
+    }
+    let verdict = checker::check(network, table);
+    match verdict {
+        Verdict::Pass => answer_to(dispatch::due(network, table, minute, said)),
+        Verdict::Breach(_) => Due::Refused(without_line(Cause::TableFails)),
     }
 }
 

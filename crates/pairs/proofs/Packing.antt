@@ -1,14 +1,16 @@
 -- Minutes from pairs of bytes, and pairs from minutes, one more at a time. Assumes nothing.
-use mathlib.Core.Path.{_≡_, refl, _∙_, ap}
+use mathlib.Core.Path.{_≡_, refl, sym, _∙_, ap}
+use mathlib.Core.Logic.{inl, inr}
 use mathlib.Core.List.{List, [], _∷_, _++_, append-assoc}
 use Prim.Native.Nat.{ℕ, suc, _+_, _*_, _/_, _%_, _≤_, _<_}
 use native.Mathlib.Numerals.{add-one}
 use native.Mathlib.Omega.{arith}
-use lib.ListN.{length, getD, take, drop, set, length-append}
+use lib.ListN.{length, getD, List·getD-eq-default, take, drop, set, length-append}
 use lib.Seq.{drop-cons, take-suc, take-length, set-at, length-take-le}
 use Rattle.prelude.specs.Bounded.{tabulate}
-use Rattle.prelude.proofs.Bounded.{length-tabulate, tabulate-more}
-use Rattle.pairs.specs.Pairs.{pairAt, minutesOf, bytesOf}
+use Rattle.prelude.proofs.Bounded.{length-tabulate, getD-tabulate, tabulate-more}
+use Rattle.prelude.proofs.Tests.{lt-or-ge, eq-or-ne}
+use Rattle.pairs.specs.Pairs.{pairAt, minutesOf, bytesOf, Short}
 
 pub length-minutesOf : (b : List ℕ) → length (minutesOf b) ≡ length b / 2
 length-minutesOf b = length-tabulate (pairAt b) (length b / 2)
@@ -27,6 +29,27 @@ unpack-step b t₀ t i v e h q =
     ap (λ (l : List ℕ). set l i v) e
     ∙ put-next (tabulate i (pairAt b)) t₀ i v (length-tabulate (pairAt b) i) h
     ∙ rw more
+
+-- one more short minute
+pub short-none : Short []
+short-none i = omega arith
+
+pub short-more : (b : List ℕ) (i v : ℕ) → Short (tabulate i (pairAt b)) → v ≡ pairAt b i → v < 65536
+    → Short (tabulate (i + 1) (pairAt b))
+short-more b i v s q h k =
+    elim (lt-or-ge k (i + 1)) [
+      | inl l ↦ elim (eq-or-ne k i) [
+        | inl e ↦ rw (getD-tabulate (pairAt b) (i + 1) k 0 l, e) (omega arith)
+        | inr n ↦
+            let here : getD (tabulate (i + 1) (pairAt b)) k 0 ≡ getD (tabulate i (pairAt b)) k 0 =
+            getD-tabulate (pairAt b) (i + 1) k 0 l ∙ sym (getD-tabulate (pairAt b) i k 0 (omega arith)) in
+            omega (arith, s k)
+      ]
+      | inr l ↦
+          let beyond : getD (tabulate (i + 1) (pairAt b)) k 0 ≡ 0 =
+          List·getD-eq-default (tabulate (i + 1) (pairAt b)) 0 (omega (arith, length-tabulate (pairAt b) (i + 1))) in
+          omega arith
+    ]
 
 pub length-bytesOf : (s : List ℕ) → length (bytesOf s) ≡ 2 * length s
 length-bytesOf [] = refl

@@ -1,7 +1,7 @@
 -- `opening::answer_to` meets its contract, answer by answer. Assumes nothing.
 use mathlib.Core.Path.{sym, _∙_, ap}
 use borrow.Author.Needs.{needs}
-use Rattle.calls.specs.Play.{answerTo}
+use Rattle.opening.specs.Prologue.{answerTo}
 use Rattle.calls.specs.declared.Due.the-variants as D
 use Rattle.opening.proofs.answer_to.Statement.{statement}
 use Rattle.opening.proofs.answer_to.Tie as tie

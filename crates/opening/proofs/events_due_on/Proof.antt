@@ -1,122 +1,90 @@
--- `opening::events_due_on` meets its contract: the outcome of the reading, then the table's length, then the verdict,
--- then the player's answer. Assumes nothing.
 use mathlib.Core.Path.{sym, _∙_, ap}
 use denote.Ref.{now}
+use Rattle.opening.proofs.Prologue.{right}
+use Rattle.opening.proofs.Playing.{due-refused, due-fails, due-answers}
 use borrow.Author.Needs.{needs}
-use Rattle.sheet.specs.declared.Outcome.the-variants.{Refused}
-use Rattle.checker.specs.declared.Verdict.the-variants.{Pass, Breach as Breached}
-use Rattle.calls.specs.Play.{answerTo}
-use Rattle.calls.specs.declared.Due.the-variants as D
-use Rattle.calls.proofs.Calls.{well-formed}
-use Rattle.calls.proofs.Play.{due-refused, due-lettered, due-wrong, due-judged}
 use Rattle.opening.proofs.events_due_on.Statement.{statement}
 use Rattle.opening.proofs.events_due_on.Tie as tie
+use Rattle.opening.proofs.events_due_on.Reads as reads
+use Rattle.opening.proofs.events_due_on.Lts as lts
+use Rattle.checker.proofs.check.Reads as check-reads
+use Rattle.dispatch.proofs.due.Reads as due-reads
+use Rattle.opening.proofs.answer_to.Reads as answer-to-reads
+use Rattle.opening.proofs.handed_in.Reads as handed-in-reads
+use Rattle.opening.proofs.without_line.Reads as without-line-reads
 
-read-requires : tie.Need-read-requires
-read-requires c κs = search needs
+-- src/lib.rt:173:9
+handed-in-requires : tie.Need-handed-in-requires
+handed-in-requires c κs = search needs
 
+-- src/lib.rt:176:29
 enum-known-outcome : tie.Need-enum-known-outcome
 enum-known-outcome c = search needs
+
+-- src/lib.rt:177:9
+returns : tie.Need-returns
+returns c = let args = c .before .before .before .before .before .before .before .args in let read = c .before .before .before .before .handed-in in
+    due-refused (now (args .sheet)) (now (args .table)) (args .minute) (args .said) (read .result) (read .ensures)
+    (c .before .outcome .given .0 .0) (c .before .outcome .given .1)
 
 enum-told : tie.Need-enum-told
 enum-told c = search needs
 
-cell-count-requires : tie.Need-cell-count-requires
-cell-count-requires c κs =
-    let args = c .before .before .before .before .before .before .args in
-    let read = c .before .before .before .read in
-    let w = well-formed (now (args .sheet)) (read .result) (read .ensures) (c .enum-told .given .1) .0 in
-    (w .events, w .signals)
-
-without-line-requires : tie.Need-without-line-requires
-without-line-requires c κs = search needs
-
-returns : tie.Need-returns
-returns c =
-    let at-if = c .before in
-    let args = at-if .before .before .before .before .before .before .before .before .args in
-    let read = at-if .before .before .before .before .before .read in
-    ap D.Refused (c .without-line .ensures)
-    ∙ due-wrong (now (args .sheet)) (read .result) (read .ensures) (now (args .table)) (args .minute) (args .said)
-    (at-if .before .before .enum-told .given .1) (λ z. at-if .if1 .taken (z ∙ sym (at-if .before .cell-count .ensures)))
-
+-- src/lib.rt:179:9
 check-requires : tie.Need-check-requires
-check-requires c κs =
-    let args = c .before .before .before .before .before .before .before .before .args in
-    let read = c .before .before .before .before .before .read in (
-      well-formed (now (args .sheet)) (read .result) (read .ensures) (c .before .before .enum-told .given .1) .0,
-      c .if1 .left ∙ c .before .cell-count .ensures,
-    )
+check-requires c κs = let args = c .before .before .before .before .before .before .args in let read = c .before .before .before .handed-in in
+    let r = right (now (args .sheet)) (now (args .table)) (read .result) (read .ensures) (c .enum-told .given .1) in
+    (r .well-formed, r .sized)
 
+-- src/lib.rt:181:36
 enum-told-2 : tie.Need-enum-told-2
 enum-told-2 c = search needs
 
+-- src/lib.rt:181:36
 due-requires : tie.Need-due-requires
-due-requires c κs =
-    let at-if = c .before .before .before in
-    let args = at-if .before .before .before .before .before .before .before .before .args in
-    let read = at-if .before .before .before .before .before .read in
-    let accepted = at-if .before .before .enum-told .given .1 in (
-      well-formed (now (args .sheet)) (read .result) (read .ensures) accepted .0,
-      at-if .if1 .left ∙ at-if .before .cell-count .ensures,
-      due-lettered (now (args .sheet)) (read .result) (read .ensures) (now (args .table)) (args .minute) (args .said) accepted,
-    )
+due-requires c κs = let args = c .before .before .before .before .before .before .before .before .before .args in let read = c .before .before .before .before .before .before .handed-in in
+    let r = right (now (args .sheet)) (now (args .table)) (read .result) (read .ensures) (c .before .before .before .enum-told .given .1) in
+    (r .well-formed, r .sized, r .lettered)
 
+-- src/lib.rt:181:26
 answer-to-requires : tie.Need-answer-to-requires
 answer-to-requires c κs = search needs
 
+-- src/lib.rt:182:57
 enum-told-3 : tie.Need-enum-told-3
 enum-told-3 c = search needs
 
-without-line-requires-2 : tie.Need-without-line-requires-2
-without-line-requires-2 c κs = search needs
+-- src/lib.rt:182:44
+without-line-requires : tie.Need-without-line-requires
+without-line-requires c κs = search needs
 
+-- src/lib.rt:170:1
 returns-2 : tie.Need-returns-2
-returns-2 c =
-    let args = c .before .before .before .before .before .before .before .args in
-    let read = c .before .before .before .before .read in
-    let outcome = c .before .outcome in
-    due-refused (now (args .sheet)) (read .result) (read .ensures) (now (args .table)) (args .minute) (args .said) (outcome .given .0 .0)
-    (outcome .given .1)
+returns-2 c = let args = c .before .before .before .before .before .before .before .before .before .before .before .args in let read = c .before .before .before .before .before .before .before .before .handed-in in
+    rw (c .answer-to .ensures, c .before .due .ensures)
+    (due-answers (now (args .sheet)) (now (args .table)) (args .minute) (args .said) (read .result) (read .ensures)
+    (c .before .before .before .before .before .enum-told .given .1) (sym (c .before .before .before .before .check .ensures) ∙ c .before .before .enum-told2 .given .1))
 
+-- src/lib.rt:170:1
 returns-3 : tie.Need-returns-3
-returns-3 c =
-    let at-if = c .before .before .before .before .before in
-    let args = at-if .before .before .before .before .before .before .before .before .args in
-    let read = at-if .before .before .before .before .before .read in
-    c .answer-to .ensures
-    ∙ ap answerTo (c .before .due .ensures)
-    ∙ due-judged (now (args .sheet)) (read .result) (read .ensures) (now (args .table)) (args .minute) (args .said)
-    (at-if .before .before .enum-told .given .1) (at-if .if1 .left ∙ at-if .before .cell-count .ensures) Pass
-    (sym (c .before .before .enum-told2 .given .1) ∙ c .before .before .before .before .check .ensures)
-
-returns-4 : tie.Need-returns-4
-returns-4 c =
-    let at-if = c .before .before .before .before in
-    let args = at-if .before .before .before .before .before .before .before .before .args in
-    let read = at-if .before .before .before .before .before .read in
-    let told = c .before .enum-told3 .given in
-    ap D.Refused (c .without-line2 .ensures)
-    ∙ due-judged (now (args .sheet)) (read .result) (read .ensures) (now (args .table)) (args .minute) (args .said)
-    (at-if .before .before .enum-told .given .1) (at-if .if1 .left ∙ at-if .before .cell-count .ensures) (Breached (told .0 .0))
-    (sym (told .1) ∙ c .before .before .before .check .ensures)
+returns-3 c = let args = c .before .before .before .before .before .before .before .before .before .before .args in let read = c .before .before .before .before .before .before .before .handed-in in
+    rw (c .without-line .ensures)
+    (due-fails (now (args .sheet)) (now (args .table)) (args .minute) (args .said) (read .result) (read .ensures)
+    (c .before .before .before .before .enum-told .given .1) _ (sym (c .before .before .before .check .ensures) ∙ c .before .enum-told3 .given .1))
 
 pub events-due-on-spec : {M : Type 1} → statement M
 events-due-on-spec =
     tie.close
     (tie.spec
-    read-requires
+    handed-in-requires
     enum-known-outcome
-    enum-told
-    cell-count-requires
-    without-line-requires
     returns
+    enum-told
     check-requires
     enum-told-2
     due-requires
     answer-to-requires
     enum-told-3
-    without-line-requires-2
+    without-line-requires
     returns-2
-    returns-3
-    returns-4)
+    returns-3)

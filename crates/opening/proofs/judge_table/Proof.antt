@@ -1,79 +1,49 @@
--- `opening::judge_table` meets its contract: the outcome of the reading, then the table's length, then the checker's
--- verdict. Assumes nothing.
-use mathlib.Core.Path.{sym, _∙_, ap}
-use Rattle.calls.specs.declared.Judgement.the-variants as J
+use mathlib.Core.Path.{_∙_, ap}
+use mathlib.Core.List.{[]}
 use denote.Ref.{now}
-use Rattle.calls.proofs.Calls.{well-formed, judgement-of, judged-wrong, judged-as}
-use Rattle.sheet.specs.declared.Outcome.the-variants.{Refused}
+use Rattle.checker.specs.Verdict.{verdict}
+use Rattle.calls.specs.declared.Judgement.the-variants as J
+use Rattle.opening.proofs.Prologue.{right, handed-refused, handed-works}
 use borrow.Author.Needs.{needs}
 use Rattle.opening.proofs.judge_table.Statement.{statement}
 use Rattle.opening.proofs.judge_table.Tie as tie
+use Rattle.opening.proofs.judge_table.Reads as reads
+use Rattle.opening.proofs.judge_table.Lts as lts
+use Rattle.checker.proofs.check.Reads as check-reads
+use Rattle.opening.proofs.handed_in.Reads as handed-in-reads
 
-read-requires : tie.Need-read-requires
-read-requires c κs = search needs
+-- src/lib.rt:89:9
+handed-in-requires : tie.Need-handed-in-requires
+handed-in-requires c κs = search needs
 
+-- src/lib.rt:93:26
 enum-known-outcome : tie.Need-enum-known-outcome
 enum-known-outcome c = search needs
 
+-- src/lib.rt:94:48
 enum-told : tie.Need-enum-told
 enum-told c = search needs
 
-cell-count-requires : tie.Need-cell-count-requires
-cell-count-requires c κs =
-    let args = c .before .before .before .before .before .before .args in
-    let read = c .before .before .before .read in
-    let w = well-formed (now (args .sheet)) (read .result) (read .ensures) (c .enum-told .given .1) .0 in
-    (w .events, w .signals)
-
-without-line-requires : tie.Need-without-line-requires
-without-line-requires c κs = search needs
-
-returns : tie.Need-returns
-returns c =
-    let args = c .before .before .before .before .before .before .before .before .before .args in
-    let read = c .before .before .before .before .before .before .read in
-    let enum-told = c .before .before .before .enum-told in
-    let if1 = c .before .if1 in
-    let cell-count = c .before .before .cell-count in
-    ap J.Refused (c .without-line .ensures)
-    ∙ judged-wrong (now (args .sheet)) (read .result) (read .ensures) (enum-told .given .1) (now (args .table))
-    (λ z. if1 .taken (z ∙ sym (cell-count .ensures)))
-
+-- src/lib.rt:94:48
 check-requires : tie.Need-check-requires
-check-requires c κs =
-    let args = c .before .before .before .before .before .before .before .before .args in
-    let read = c .before .before .before .before .before .read in
-    let enum-told = c .before .before .enum-told in
-    let cell-count = c .before .cell-count in
-    (well-formed (now (args .sheet)) (read .result) (read .ensures) (enum-told .given .1) .0, c .if1 .left ∙ cell-count .ensures)
+check-requires c κs = let args = c .before .before .before .before .before .before .args in let read = c .before .before .before .handed-in in
+    let r = right (now (args .sheet)) (now (args .table)) (read .result) (read .ensures) (c .enum-told .given .1) in
+    (r .well-formed, r .sized)
 
+-- src/lib.rt:86:1
+returns : tie.Need-returns
+returns c = let args = c .before .before .before .before .before .before .before .args in let read = c .before .before .before .before .handed-in in
+    handed-refused (now (args .sheet)) (now (args .table)) (read .result) (read .ensures) J.Refused (λ _. [])
+    (λ Γ. J.Judged (verdict Γ (now (args .table)))) (c .before .outcome .given .0 .0) (c .before .outcome .given .1)
+
+-- src/lib.rt:86:1
 returns-2 : tie.Need-returns-2
-returns-2 c =
-    let args = c .before .before .before .before .before .before .before .args in
-    let read = c .before .before .before .before .read in
-    let outcome = c .before .outcome in
-    judgement-of (now (args .sheet)) (read .result) (read .ensures) (Refused (outcome .given .0 .0)) (outcome .given .1) (now (args .table))
-
-returns-3 : tie.Need-returns-3
-returns-3 c =
-    let args = c .before .before .before .before .before .before .before .before .before .args in
-    let read = c .before .before .before .before .before .before .read in
-    let enum-told = c .before .before .before .enum-told in
-    let if1 = c .before .if1 in
-    let cell-count = c .before .before .cell-count in
+returns-2 c = let args = c .before .before .before .before .before .before .before .args in let read = c .before .before .before .before .handed-in in
     ap J.Judged (c .check .ensures)
-    ∙ judged-as (now (args .sheet)) (read .result) (read .ensures) (enum-told .given .1) (now (args .table)) (if1 .left ∙ cell-count .ensures)
+    ∙ handed-works (now (args .sheet)) (now (args .table)) (read .result) (read .ensures) J.Refused (λ _. [])
+    (λ Γ. J.Judged (verdict Γ (now (args .table)))) (c .before .enum-told .given .1) tt
 
 pub judge-table-spec : {M : Type 1} → statement M
 judge-table-spec =
     tie.close
-    (tie.spec
-    read-requires
-    enum-known-outcome
-    enum-told
-    cell-count-requires
-    without-line-requires
-    returns
-    check-requires
-    returns-2
-    returns-3)
+    (tie.spec handed-in-requires enum-known-outcome enum-told check-requires returns returns-2)

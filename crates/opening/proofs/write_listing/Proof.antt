@@ -1,93 +1,62 @@
--- `opening::write_listing` meets its contract: the outcome of the reading, then the table's length, then what the
--- writer did. Assumes nothing.
 use denote.Ref.{now}
-use mathlib.Core.Path.{sym, _∙_}
-use Rattle.calls.proofs.Calls.{well-formed}
-use Rattle.opening.proofs.Leaves.{listing-refused, listing-wrong-left, listing-written}
+use Rattle.opening.proofs.Prologue.{right}
+use Rattle.opening.proofs.Leaves.{listing-refused, listing-written}
 use borrow.Author.Needs.{needs}
 use Rattle.opening.proofs.write_listing.Statement.{statement}
 use Rattle.opening.proofs.write_listing.Tie as tie
+use Rattle.opening.proofs.write_listing.Reads as reads
+use Rattle.opening.proofs.write_listing.Lts as lts
+use Rattle.listing.proofs.write.Reads as write-reads
+use Rattle.opening.proofs.handed_in.Reads as handed-in-reads
+use Rattle.opening.proofs.handed_out.Reads as handed-out-reads
 
-read-requires : tie.Need-read-requires
-read-requires c κs = search needs
+-- src/lib.rt:131:9
+handed-in-requires : tie.Need-handed-in-requires
+handed-in-requires c κs = search needs
 
+-- src/lib.rt:135:26
 enum-known-outcome : tie.Need-enum-known-outcome
 enum-known-outcome c = search needs
 
+-- src/lib.rt:136:79
 enum-told : tie.Need-enum-told
 enum-told c = search needs
 
-cell-count-requires : tie.Need-cell-count-requires
-cell-count-requires c κs =
-    let args = c .before .before .before .before .before .before .before .args in
-    let read = c .before .before .before .read in
-    let enum-told = c .enum-told in
-    let w = well-formed (now (args .sheet)) (read .result) (read .ensures) (enum-told .given .1) .0 in
-    (w .events, w .signals)
-
-without-line-requires : tie.Need-without-line-requires
-without-line-requires c κs = search needs
-
-returns : tie.Need-returns
-returns c =
-    let without-line = c .without-line in
-    let args = c .before .before .before .before .before .before .before .before .before .before .args in
-    let read = c .before .before .before .before .before .before .read in
-    let enum-told = c .before .before .before .enum-told in
-    let if1 = c .before .if1 in
-    let cell-count = c .before .before .cell-count in
-    rw (without-line .ensures)
-    (listing-wrong-left (now (args .sheet)) (read .result) (read .ensures) (enum-told .given .1) (now (args .out)) (now (args .table))
-    (λ z. if1 .taken (z ∙ sym (cell-count .ensures))))
-
+-- src/lib.rt:136:41
 write-requires : tie.Need-write-requires
-write-requires c κs =
-    let args = c .before .before .before .before .before .before .before .before .before .before .args in
-    let read = c .before .before .before .before .before .before .read in
-    let enum-told = c .before .before .before .enum-told in
-    let if1 = c .before .if1 in
-    let cell-count = c .before .before .cell-count in
-    let w = well-formed (now (args .sheet)) (read .result) (read .ensures) (enum-told .given .1) in
-    (w .0, w .1, if1 .left ∙ cell-count .ensures)
+write-requires c κs = let args = c .before .before .before .before .before .before .before .before .args in let read = c .before .before .before .before .handed-in in
+    let r = right (now (args .sheet)) (now (args .table)) (read .result) (read .ensures) (c .before .enum-told .given .1) in
+    (r .well-formed, r .named, r .sized)
 
+-- src/lib.rt:136:30
 handed-out-requires : tie.Need-handed-out-requires
 handed-out-requires c κs = search needs
 
-returns-2 : tie.Need-returns-2
-returns-2 c =
-    let args = c .before .before .before .before .before .before .before .before .args in
-    let read = c .before .before .before .before .read in
-    let outcome = c .before .outcome in
-    listing-refused (now (args .sheet)) (read .result) (read .ensures) (outcome .given .0 .0) (outcome .given .1) (now (args .out)) (now (args .table))
+-- src/lib.rt:128:1
+returns : tie.Need-returns
+returns c = let args = c .before .before .before .before .before .before .before .before .args in let read = c .before .before .before .before .handed-in in
+    listing-refused (now (args .sheet)) (now (args .table)) (now (args .out)) (read .result) (read .ensures)
+    (c .before .outcome .given .0 .0) (c .before .outcome .given .1)
 
+-- src/lib.rt:128:1
 same-length : tie.Need-same-length
 same-length c = search needs
 
-returns-3 : tie.Need-returns-3
-returns-3 c =
-    let handed-out = c .handed-out in
-    let args = c .before .before .before .before .before .before .before .before .before .before .before .before .before .before .args in
-    let read = c .before .before .before .before .before .before .before .before .before .before .read in
-    let enum-told = c .before .before .before .before .before .before .before .enum-told in
-    let if1 = c .before .before .before .before .before .if1 in
-    let cell-count = c .before .before .before .before .before .before .cell-count in
-    let write = c .before .before .before .write in
-    rw (handed-out .ensures)
-    (listing-written (now (args .sheet)) (read .result) (read .ensures) (enum-told .given .1) (now (args .out)) (now (args .table))
-    (if1 .left ∙ cell-count .ensures) (write .last .1 .1 .1 .0) (write .result) (write .ensures))
+-- src/lib.rt:128:1
+returns-2 : tie.Need-returns-2
+returns-2 c = let args = c .before .before .before .before .before .before .before .before .before .before .before .before .args in let read = c .before .before .before .before .before .before .before .before .handed-in in let write = c .before .before .before .write in
+    rw (c .handed-out .ensures) (listing-written (now (args .sheet)) (now (args .table)) (now (args .out)) (read .result) (read .ensures)
+    (c .before .before .before .before .before .enum-told .given .1) (write .last .1 .1 .1 .0) (write .result) (write .ensures))
 
 pub write-listing-spec : {M : Type 1} → statement M
 write-listing-spec =
     tie.close
     (tie.spec
-    read-requires
+    handed-in-requires
     enum-known-outcome
     enum-told
-    cell-count-requires
-    without-line-requires
-    returns
     write-requires
     handed-out-requires
-    returns-2
+    returns
     same-length
-    returns-3)
+    returns-2)

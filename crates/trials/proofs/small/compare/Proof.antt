@@ -1,7 +1,7 @@
 -- `compare` is safe: the search asks for a well-formed network, and that of a sheet which was accepted is. Assumes
 -- nothing.
 use denote.Ref.{now}
-use Rattle.calls.proofs.Calls.{well-formed}
+use Rattle.calls.proofs.Call.{well-formed}
 use borrow.Author.Needs.{needs}
 use Rattle.trials.proofs.small.compare.Statement.{statement}
 use Rattle.trials.proofs.small.compare.Tie as tie

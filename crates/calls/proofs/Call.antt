@@ -1,0 +1,108 @@
+-- How a call ends: it is refused with its sheet, or at the first of its tests that fails, or its work is done. Each law
+-- takes the reading of the sheet and how its outcome turned out. Assumes nothing.
+use mathlib.Core.Path.{_≡_, refl, sym, _∙_, ap}
+use mathlib.Core.Logic.{inl, inr}
+use mathlib.Core.Bool.{Bool, true, false}
+use mathlib.Core.Option.{Option, none, some}
+use mathlib.Core.List.{List, [], _∷_}
+use Prim.Native.Nat.{ℕ}
+use Rattle.prelude.specs.Checks.{firstFailing, Hold, FirstFails}
+use Rattle.prelude.proofs.Checks.{hold, none-fails, first-fails}
+use Rattle.prelude.proofs.Tests.{clash}
+use Rattle.refusal.specs.declared.Cause.{Cause}
+use Rattle.refusal.specs.declared.Refusal.{Refusal}
+use Rattle.network.specs.WellFormed.{WellFormed, Named}
+use Rattle.network.specs.declared.Network.{Network}
+use Rattle.line.specs.Rows.{Tests}
+use Rattle.sheet.specs.Reading.{read}
+use Rattle.sheet.specs.declared.Outcome.{Outcome}
+use Rattle.sheet.specs.declared.Outcome.the-variants.{Accepted, Refused}
+use Rattle.sheet.specs.declared.Reading.{Reading}
+use Rattle.sheet.proofs.WellFormed.{accepted-well-formed}
+use Rattle.calls.specs.Call.{withoutLine, tested, answerBy, call}
+use Rattle.calls.specs.Answers.{Reads}
+
+some-fails : (ts : Tests) (c : Cause) → FirstFails ts c → firstFailing ts ≡ some c
+some-fails [] c f = absurd f
+some-fails ((true, a) ∷ ts) c (inl f) = clash true refl (f .0)
+some-fails ((false, a) ∷ ts) c (inl f) = ap some (f .1)
+some-fails ((true, a) ∷ ts) c (inr f) = some-fails ts c (f .1)
+some-fails ((false, a) ∷ ts) c (inr f) = clash false (f .0) refl
+
+module _ {A : Type 0} (refuse : Refusal → A) (sheet : List ℕ) (tests : Network → Tests) (work : Network → A) where
+  module _ (g : Reading) (e : g ≡ read sheet) where
+    by-outcome : (o : Outcome) → g .outcome ≡ o
+        → answerBy refuse (tested o (firstFailing (tests (g .network)))) (work (g .network))
+        ≡ call refuse sheet tests work
+    by-outcome o p = rw (← p, e)
+
+    pub call-refused : (r : Refusal) → g .outcome ≡ Refused r → refuse r ≡ call refuse sheet tests work
+    call-refused r p = by-outcome (Refused r) p
+
+    module _ (a : g .outcome ≡ Accepted) where
+      by-tests : (o : Option Cause) → firstFailing (tests (g .network)) ≡ o
+          → answerBy refuse (tested Accepted o) (work (g .network)) ≡ call refuse sheet tests work
+      by-tests o p =
+          ap (λ (x : Option Cause). answerBy refuse (tested Accepted x) (work (g .network))) (sym p)
+          ∙ by-outcome Accepted a
+
+      pub call-fails : (c : Cause) → FirstFails (tests (g .network)) c
+          → refuse (withoutLine c) ≡ call refuse sheet tests work
+      call-fails c f = by-tests (some c) (some-fails (tests (g .network)) c f)
+
+      pub call-works : Hold (tests (g .network)) → work (g .network) ≡ call refuse sheet tests work
+      call-works h = by-tests none (none-fails (tests (g .network)) h)
+
+  -- and there is no other end
+  pub data Ends : Type 0 where
+    faulty : (r : Refusal) → read sheet .outcome ≡ Refused r → refuse r ≡ call refuse sheet tests work → Ends
+    failed : read sheet .outcome ≡ Accepted → (c : Cause) → FirstFails (tests (read sheet .network)) c
+        → refuse (withoutLine c) ≡ call refuse sheet tests work → Ends
+    worked : read sheet .outcome ≡ Accepted → Hold (tests (read sheet .network))
+        → work (read sheet .network) ≡ call refuse sheet tests work → Ends
+
+  pub ends : Ends
+  ends = by-reading (read sheet .outcome) refl
+    where
+      by-first : read sheet .outcome ≡ Accepted → (o : Option Cause) → firstFailing (tests (read sheet .network)) ≡ o
+          → Ends
+      by-first a none p = let h = hold (tests (read sheet .network)) p in worked a h (call-works (read sheet) refl a h)
+      by-first a (some c) p =
+          let f = first-fails (tests (read sheet .network)) c p in
+          failed a c f (call-fails (read sheet) refl a c f)
+
+      by-reading : (o : Outcome) → read sheet .outcome ≡ o → Ends
+      by-reading Accepted a = by-first a (firstFailing (tests (read sheet .network))) refl
+      by-reading (Refused r) p = faulty r p (call-refused (read sheet) refl r p)
+
+-- two calls that fail alike, and whose work is alike where no test fails
+pub call-alike : {A : Type 0} (refuse : Refusal → A) (sheet : List ℕ) (tests tests′ : Network → Tests)
+    (work work′ : Network → A)
+    → (read sheet .outcome ≡ Accepted
+    → firstFailing (tests (read sheet .network)) ≡ firstFailing (tests′ (read sheet .network)))
+    → (read sheet .outcome ≡ Accepted → Hold (tests (read sheet .network))
+    → work (read sheet .network) ≡ work′ (read sheet .network))
+    → call refuse sheet tests work ≡ call refuse sheet tests′ work′
+call-alike refuse sheet tests tests′ work work′ same works = by-end (ends refuse sheet tests work)
+  where
+    net : Network
+    net = read sheet .network
+
+    by-end : Ends refuse sheet tests work → call refuse sheet tests work ≡ call refuse sheet tests′ work′
+    by-end (faulty r p e) = sym e ∙ call-refused refuse sheet tests′ work′ (read sheet) refl r p
+    by-end (failed a c f e) =
+        sym e
+        ∙ call-fails refuse sheet tests′ work′ (read sheet) refl a c
+        (first-fails (tests′ net) c (sym (same a) ∙ some-fails (tests net) c f))
+    by-end (worked a h e) =
+        sym e
+        ∙ works a h
+        ∙ call-works refuse sheet tests′ work′ (read sheet) refl a
+        (hold (tests′ net) (sym (same a) ∙ none-fails (tests net) h))
+
+pub well-formed : (sheet : List ℕ) (g : Reading) → g ≡ read sheet → g .outcome ≡ Accepted
+    → WellFormed (g .network) × Named sheet (g .network)
+well-formed sheet g e a = rw e (accepted-well-formed sheet (sym (ap (λ (x : Reading). x .outcome) e) ∙ a))
+
+pub reads-well-formed : {sheet : List ℕ} {Γ : Network} → Reads sheet Γ → WellFormed Γ
+reads-well-formed {sheet} r = rw (← r .network) (accepted-well-formed sheet (r .accepted) .0)

@@ -1,0 +1,33 @@
+-- The refusal before a call's own work, as the functions of the code that several calls share answer it.
+use mathlib.Core.Bool.{Bool}
+use mathlib.Core.List.{List, [], _∷_}
+use Prim.Native.Nat.{ℕ}
+use lib.Dec.{eqb}
+use Rattle.prelude.specs.Checks.{firstFailing}
+use Rattle.refusal.specs.declared.Cause.{Cause}
+use Rattle.refusal.specs.declared.Cause.the-variants as C
+use Rattle.network.specs.Build.{cells}
+use Rattle.sheet.specs.Reading.{read}
+use Rattle.sheet.specs.declared.Outcome.{Outcome}
+use Rattle.sheet.specs.declared.Reading.{Reading}
+use Rattle.dispatch.specs.declared.Dispatched.{Dispatched}
+use Rattle.dispatch.specs.declared.Dispatched.the-variants as P
+use Rattle.calls.specs.Call.{withoutLine, tested}
+use Rattle.calls.specs.declared.Due.{Due}
+use Rattle.calls.specs.declared.Due.the-variants as D
+
+-- the outcome, and behind it one test of the call
+abbrev pub behind : Outcome → Bool → Cause → Outcome
+behind o passes c = tested o (firstFailing ((passes, c) ∷ []))
+
+-- the reading, for a call that is handed so many minutes
+abbrev pub handedIn : List ℕ → ℕ → Reading
+handedIn sheet n =
+    let g = read sheet in
+    record { outcome = behind (g .outcome) (eqb n (cells (g .network))) C.WrongTableLength; network = g .network }
+
+-- what the player says, as the call's answer
+abbrev pub answerTo : Dispatched → Due
+answerTo (P.Events e) = D.Events e
+answerTo P.Misnamed = D.Refused (withoutLine C.MisnamedSignal)
+answerTo P.NeverHeard = D.Refused (withoutLine C.NeverHeard)
