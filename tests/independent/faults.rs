@@ -1,8 +1,7 @@
-//! Wrong programs, to see that the comparison notices them: those of document 01's last section, and some like them; and programs that
-//! print tables (01, The printed listing) or house forms (02, point 2).
+//! Wrong libraries, to see that the comparison notices them: those of document 01's last section, and some like them for each call.
 
-use crate::library::own::{self, minutes_of, refused, refused_call, verdict, write};
-use crate::library::Library;
+use crate::library::own::{self, handed, minutes_of, refused, refused_call, two_bytes, verdict, write, write_text};
+use crate::library::{Library, Question};
 use crate::model::{self, truth, Kind, Net, Refusal, Rule, Verdict};
 
 const fn solver(solve: fn(&[u8], &mut [u8]) -> u64) -> Library {
@@ -13,9 +12,29 @@ const fn judge(judge: fn(&[u8], &[u8]) -> u64) -> Library {
     Library { judge, ..own::LIBRARY }
 }
 
-pub const FAULTS: [(&str, Library); 46] = [
+const fn due(due: fn(Question) -> u64) -> Library {
+    Library { due, ..own::LIBRARY }
+}
+
+const fn listing(listing: fn(&[u8], &[u8], &mut [u8]) -> u64) -> Library {
+    Library { listing, ..own::LIBRARY }
+}
+
+const fn house(house: fn(&[u8], &mut [u8]) -> u64) -> Library {
+    Library { house, ..own::LIBRARY }
+}
+
+const REFUSES_ALL: Library = Library {
+    solve: |_, _| refused_call(13),
+    judge: |_, _| refused_call(11),
+    due: |_| refused_call(16),
+    listing: |_, _, _| refused_call(12),
+    house: |_, _| refused_call(17),
+};
+
+pub const FAULTS: [(&str, Library); 114] = [
     ("13-at-once", solver(|sheet, table| with_solver(sheet, table, |_| None))),
-    ("refuses-all", Library { solve: |_, _| refused_call(13), judge: |_, _| refused_call(11) }),
+    ("refuses-all", REFUSES_ALL),
     ("minute-0-throughout", solver(|sheet, table| with_solver(sheet, table, |net| model::solve(net).map(|good| vec![0; good.len()])))),
     ("success-untouched", solver(|sheet, table| own::solve(sheet, &mut table.to_vec()))),
     ("case-0-copied", solver(|sheet, table| with_solver(sheet, table, case_0_copied))),
@@ -60,6 +79,74 @@ pub const FAULTS: [(&str, Library); 46] = [
     ("empty-lines-skipped", judge(|sheet, table| own::judge(&replaced(sheet, b"\n\n", b"\n"), table))),
     ("4097-bytes-accepted", judge(|sheet, table| own::judge(if sheet.len() == 4097 { &sheet[..4096] } else { sheet }, table))),
     ("upper-case-names", judge(|sheet, table| own::judge(&sheet.to_ascii_lowercase(), table))),
+    ("due-truth-inverted", due(|asked| with_list(asked, |_, list| inverted(list)))),
+    ("due-letter-twice", due(|asked| with_list(asked, |_, list| without_doubles(list)))),
+    ("due-last-truth-counts", due(|asked| with_list(asked, |_, list| last_truths(list)))),
+    ("due-undefined-ignored", due(|asked| with_list(asked, without_undefined))),
+    ("due-heard-in-its-minute", due(|asked| with_player(asked, Player { heard: |given, minute| given <= minute, ..PLAYER }))),
+    ("due-heard-a-minute-late", due(|asked| with_player(asked, Player { heard: |given, minute| given + 1 < minute, ..PLAYER }))),
+    ("due-a-minute-late", due(|asked| with_player(asked, Player { due: |at, minute| at + 1 == minute, ..PLAYER }))),
+    ("due-until-the-minute", due(|asked| with_player(asked, Player { due: |at, minute| at <= minute, ..PLAYER }))),
+    ("due-in-case-0", due(|asked| with_player(asked, Player { answers: |_, _| 0, ..PLAYER }))),
+    ("due-in-the-next-case", due(|asked| with_player(asked, Player { answers: |case, cases| (case + 1) % cases, ..PLAYER }))),
+    ("due-part-is-enough", due(|asked| with_player(asked, Player { fits: |history, list| part_of(list, history), ..PLAYER }))),
+    ("due-more-is-enough", due(|asked| with_player(asked, Player { fits: |history, list| part_of(history, list), ..PLAYER }))),
+    ("due-order-counts", due(|asked| with_player(asked, Player { fits: |history, list| history == list, ..PLAYER }))),
+    ("due-truths-not-compared", due(|asked| with_player(asked, Player { fits: same_letters, ..PLAYER }))),
+    ("due-dash-before-letters", due(|asked| with_text(asked, asked.heard.strip_prefix(b"-").unwrap_or(asked.heard)))),
+    ("due-empty-refused", due(|asked| with_text(asked, if asked.heard.is_empty() { b"!" } else { asked.heard }))),
+    ("due-dash-refused", due(|asked| with_text(asked, if asked.heard == b"-" { b"!" } else { asked.heard }))),
+    ("due-upper-case", due(|asked| with_text(asked, &asked.heard.to_ascii_lowercase()))),
+    ("due-spaces-ignored", due(|asked| with_text(asked, &replaced(asked.heard, b" ", b"")))),
+    ("due-last-feed-ignored", due(|asked| with_text(asked, asked.heard.strip_suffix(b"\n").unwrap_or(asked.heard)))),
+    ("due-nul-ends-the-text", due(|asked| with_text(asked, asked.heard.split(|&byte| byte == 0).next().unwrap_or(b"")))),
+    ("due-not-not", due(|asked| with_text(asked, &replaced(asked.heard, b"!!", b"")))),
+    ("due-last-not-ignored", due(|asked| with_text(asked, asked.heard.strip_suffix(b"!").unwrap_or(asked.heard)))),
+    ("due-text-length-of-a-byte", due(|asked| with_text(asked, &asked.heard[..asked.heard.len() % 256]))),
+    ("due-15-and-16-exchanged", due(|asked| renumbered(own::due(asked), &[(15, 16), (16, 15)]))),
+    ("due-16-for-15", due(|asked| renumbered(own::due(asked), &[(15, 16)]))),
+    ("due-16-with-a-line", due(|asked| renumbered(own::due(asked), &[(16, 256 + 16)]))),
+    ("due-nothing-is-16", due(|asked| renumbered(own::due(asked), &[(0, 16)]))),
+    ("due-14-not-asked", due(own::play)),
+    ("due-14-behind-15", due(|asked| if own::play(asked) == 15 { 15 } else { own::due(asked) })),
+    ("due-11-behind-14", due(|asked| before_11(asked, 14))),
+    ("due-11-behind-15", due(|asked| before_11(asked, 15))),
+    ("due-15-before-sheet", due(|asked| if model::heard(asked.heard).is_none() { 15 } else { own::due(asked) })),
+    ("due-high-byte-first", due(|asked| own::due(Question { table: &each_minute(asked.table, u16::swap_bytes), ..asked }))),
+    ("due-odd-byte-ignored", due(|asked| own::due(Question { table: whole_pairs(asked.table), ..asked }))),
+    ("due-longer-table-played", due(|asked| own::due(Question { table: cells_of(asked.sheet, asked.table), ..asked }))),
+    ("due-minute-of-a-byte", due(|asked| own::due(Question { minute: asked.minute % 256, ..asked }))),
+    ("due-8-events", due(|asked| revalued(own::due(asked), |events| events % 256))),
+    ("due-bits-from-1", due(|asked| revalued(own::due(asked), |events| events << 1))),
+    ("listing-of-good-tables", listing(listing_of_good_tables)),
+    ("listing-12-before-11", listing(room_before_length)),
+    ("listing-odd-byte-ignored", listing(|sheet, table, out| own::listing(sheet, whole_pairs(table), out))),
+    ("listing-of-longer-table", listing(|sheet, table, out| own::listing(sheet, cells_of(sheet, table), out))),
+    ("listing-high-byte-first", listing(|sheet, table, out| own::listing(sheet, &each_minute(table, u16::swap_bytes), out))),
+    ("listing-four-digits", listing(|sheet, table, out| own::listing(sheet, &each_minute(table, |minute| minute % 10_000), out))),
+    ("listing-10080-at-most", listing(|sheet, table, out| own::listing(sheet, &each_minute(table, |minute| minute.min(10_080)), out))),
+    ("listing-byte-behind", listing(|sheet, table, out| byte_behind(own::listing(sheet, table, out), out))),
+    ("listing-out-altered-on-12", listing(|sheet, table, out| altered_on(12, own::listing(sheet, table, out), out))),
+    ("listing-out-altered-on-11", listing(|sheet, table, out| altered_on(11, own::listing(sheet, table, out), out))),
+    ("listing-as-far-as-it-fits", listing(as_far_as_it_fits)),
+    ("listing-untouched", listing(|sheet, table, out| own::listing(sheet, table, &mut out.to_vec()))),
+    ("listing-count-one-more", listing(|sheet, table, out| revalued(own::listing(sheet, table, out), |count| count + 1))),
+    ("listing-count-of-a-byte", listing(|sheet, table, out| revalued(own::listing(sheet, table, out), |count| count % 256))),
+    ("listing-needs-a-byte-more", listing(|sheet, table, out| needing(out, |length| length + 1, |out| own::listing(sheet, table, out)))),
+    ("listing-needs-the-longest", listing(|sheet, table, out| needing(out, |_| LONGEST, |out| own::listing(sheet, table, out)))),
+    ("listing-not-the-longest", listing(not_the_longest)),
+    ("house-17-behind-12", house(room_before_rows)),
+    ("house-written-where-17", house(written_where_17)),
+    ("house-17-with-a-line", house(|sheet, out| renumbered(own::house(sheet, out), &[(17, 256 + 17)]))),
+    ("house-12-for-17", house(|sheet, out| renumbered(own::house(sheet, out), &[(17, 12)]))),
+    ("house-as-typed", house(|sheet, out| write_text(model::house(sheet).map(|_| sheet.to_vec()), out))),
+    ("house-byte-behind", house(|sheet, out| byte_behind(own::house(sheet, out), out))),
+    ("house-out-altered-on-12", house(|sheet, out| altered_on(12, own::house(sheet, out), out))),
+    ("house-untouched", house(|sheet, out| own::house(sheet, &mut out.to_vec()))),
+    ("house-count-one-less", house(|sheet, out| revalued(own::house(sheet, out), |count| count - 1))),
+    ("house-needs-a-byte-more", house(|sheet, out| needing(out, |length| length + 1, |out| own::house(sheet, out)))),
+    ("house-needs-the-sheet's-length", house(|sheet, out| needing(out, |_| sheet.len(), |out| own::house(sheet, out)))),
+    ("house-line-lost", house(|sheet, out| write_text(model::house(sheet).map_err(|refusal| Refusal { line: 0, ..refusal }), out))),
 ];
 
 // ---------------------------------------------------------------- Wrong solvers
@@ -357,304 +444,187 @@ fn replaced(text: &[u8], old: &[u8], new: &[u8]) -> Vec<u8> {
     result
 }
 
-// ---------------------------------------------------------------- Wrong listings
+// ---------------------------------------------------------------- Wrong players
 
-/// A program that prints something of a sheet, or its refusal.
-pub type Printer = fn(&[u8]) -> Result<Vec<u8>, Refusal>;
+type List = Vec<(u8, bool)>;
 
-pub const TABLE_FAULTS: [(&str, Printer); 18] = [
-    ("line-before", |sheet| refused_with(sheet, |refusal| refusal.line = refusal.line.saturating_sub(1))),
-    ("line-lost", |sheet| refused_with(sheet, |refusal| refusal.line = 0)),
-    ("12-for-13", |sheet| refused_with(sheet, |refusal| if refusal.number == 13 { refusal.number = 12 })),
-    ("13-with-a-line", |sheet| refused_with(sheet, |refusal| if refusal.number == 13 { refusal.line = 1 })),
-    ("13-not-printed", |sheet| match model::table(sheet) {
-        Err(Refusal { number: 13, .. }) => Ok(vec![]),
-        outcome => outcome,
-    }),
-    ("refusal-without-feed", |sheet| model::table(sheet).or_else(|refusal| Ok(without_feed(refusal)))),
-    ("4096-bytes-read", |sheet| model::table(&sheet[..sheet.len().min(4096)])),
-    ("cases-exchanged", |sheet| listed_with(sheet, cases_exchanged)),
-    ("truths-exchanged", |sheet| listed_with(sheet, |rows| relabel(rows, truths_exchanged))),
-    ("signals-reversed", |sheet| listed_with(sheet, |rows| relabel(rows, |label| label.chars().rev().collect()))),
-    ("dash-lost", |sheet| listed_with(sheet, |rows| relabel(rows, |label| label.replace('-', "")))),
-    ("header-lost", |sheet| listed_with(sheet, |rows| drop(rows.remove(0)))),
-    ("last-case-lost", |sheet| listed_with(sheet, |rows| drop(rows.pop()))),
-    ("start-left-out", |sheet| listed_with(sheet, |rows| rows.iter_mut().for_each(|row| drop(row.remove(1))))),
-    ("last-minute-later", |sheet| listed_with(sheet, last_minute_later)),
-    ("two-digits-at-least", |sheet| listed_with(sheet, two_digits_at_least)),
-    ("1700-bytes-at-most", |sheet| model::table(sheet).map(|text| text[..text.len().min(1700)].to_vec())),
-    ("last-feed-lost", |sheet| model::table(sheet).map(|text| text[..text.len() - 1].to_vec())),
-];
-
-/// The same without a slip, so that it is the slip that is noticed.
-pub fn table_by_fields(sheet: &[u8]) -> Result<Vec<u8>, Refusal> {
-    listed_with(sheet, |_| {})
+/// The right player, told another text.
+fn with_text(asked: Question, heard: &[u8]) -> u64 {
+    own::due(Question { heard, ..asked })
 }
 
-/// The header and a line for each case, each cut into its fields.
-type Rows = Vec<Vec<String>>;
-
-/// A right listing with its lines changed.
-fn listed_with(sheet: &[u8], change: fn(&mut Rows)) -> Result<Vec<u8>, Refusal> {
-    let text = String::from_utf8(model::table(sheet)?).expect("a listing is ASCII");
-    let mut rows = text.lines().map(|line| line.split(',').map(String::from).collect()).collect();
-    change(&mut rows);
-    Ok(rows.iter().map(|row| row.join(",") + "\n").collect::<String>().into_bytes())
+/// The right player, told another list.
+fn with_list(asked: Question, change: fn(&Net, List) -> List) -> u64 {
+    played_by(asked, |net, table, list| model::due(net, table, asked.minute, &change(net, list)))
 }
 
-/// A right answer with its refusal changed.
-fn refused_with(sheet: &[u8], change: fn(&mut Refusal)) -> Result<Vec<u8>, Refusal> {
-    model::table(sheet).map_err(|mut refusal| {
-        change(&mut refusal);
-        refusal
+/// Another player where the table is good and the text is a list.
+fn played_by(asked: Question, player: impl Fn(&Net, &[u16], List) -> Result<u16, u8>) -> u64 {
+    match (handed(asked.sheet, asked.table), model::heard(asked.heard)) {
+        (Ok((net, table)), Some(list)) if model::judge(&net, &table) == Verdict::Pass => {
+            player(&net, &table, list).map_or_else(refused_call, two_bytes)
+        }
+        _ => own::due(asked),
+    }
+}
+
+fn inverted(list: List) -> List {
+    list.into_iter().map(|(letter, truth)| (letter, !truth)).collect()
+}
+
+fn without_doubles(mut list: List) -> List {
+    list.sort();
+    list.dedup();
+    list
+}
+
+fn last_truths(list: List) -> List {
+    let again = |place: usize| list[place + 1..].iter().any(|later| later.0 == list[place].0);
+    (0..list.len()).filter(|&place| !again(place)).map(|place| list[place]).collect()
+}
+
+fn without_undefined(net: &Net, mut list: List) -> List {
+    list.retain(|(letter, _)| net.signals.iter().any(|signal| signal.letter == *letter));
+    list
+}
+
+/// How a player goes about it: whether a signal that is given at some minute is heard at another, and an event due; whether what a case has
+/// heard fits a list; and which of the cases it answers for where one fits.
+struct Player {
+    heard: fn(given: u16, minute: u16) -> bool,
+    due: fn(at: u16, minute: u16) -> bool,
+    fits: fn(history: &[(u8, bool)], list: &[(u8, bool)]) -> bool,
+    answers: fn(case: usize, cases: usize) -> usize,
+}
+
+/// The right one.
+const PLAYER: Player = Player {
+    heard: |given, minute| given < minute,
+    due: |at, minute| at == minute,
+    fits: |history, list| part_of(history, list) && part_of(list, history),
+    answers: |case, _| case,
+};
+
+fn part_of(part: &[(u8, bool)], whole: &[(u8, bool)]) -> bool {
+    part.iter().all(|signal| whole.contains(signal))
+}
+
+fn same_letters(history: &[(u8, bool)], list: &[(u8, bool)]) -> bool {
+    history.len() == list.len() && history.iter().all(|(letter, _)| list.iter().any(|told| told.0 == *letter))
+}
+
+fn with_player(asked: Question, player: Player) -> u64 {
+    played_by(asked, |net, table, list| {
+        if model::due(net, table, asked.minute, &list) == Err(15) {
+            return Err(15);
+        }
+        let given = |case: usize, signal: usize| table[net.cell(case, net.signals[signal].event)];
+        let history = |case: usize| -> List {
+            let heard = (0..net.signals.len()).filter(|&signal| (player.heard)(given(case, signal), asked.minute));
+            heard.map(|signal| (net.signals[signal].letter, truth(case, signal))).collect()
+        };
+        let fitting = (0..net.cases()).find(|&case| (player.fits)(&history(case), &list)).ok_or(16)?;
+        let case = (player.answers)(fitting, net.cases());
+        let due = |event: &usize| (player.due)(table[net.cell(case, *event)], asked.minute);
+        Ok((0..net.events.len()).filter(due).map(|event| 1 << event).sum())
     })
 }
 
-fn without_feed(refusal: Refusal) -> Vec<u8> {
-    format!("refused {} line {}", refusal.number, refusal.line).into_bytes()
+/// This number before 11, where a table of the right length would be answered with it.
+fn before_11(asked: Question, number: u64) -> u64 {
+    let (right, otherwise) = (own::due(asked), own::due(Question { table: &fitted(asked.sheet, asked.table), ..asked }));
+    if right == 11 && otherwise == number { number } else { right }
 }
 
-/// The minutes of cases 0 and 1, and not their letters.
-fn cases_exchanged(rows: &mut Rows) {
-    if let [_, first, second, ..] = &mut rows[..] {
-        first[1..].swap_with_slice(&mut second[1..]);
+// ---------------------------------------------------------------- Tables mistaken, and answers
+
+/// The table cut, or filled up with zeros, to the length that the sheet asks.
+fn fitted(sheet: &[u8], table: &[u8]) -> Vec<u8> {
+    let mut fitted = table.to_vec();
+    fitted.resize(model::read(sheet).map_or(table.len(), |net| 2 * net.cells()), 0);
+    fitted
+}
+
+/// The table cut where it is longer than the sheet asks.
+fn cells_of<'a>(sheet: &[u8], table: &'a [u8]) -> &'a [u8] {
+    &table[..model::read(sheet).map_or(table.len(), |net| table.len().min(2 * net.cells()))]
+}
+
+fn whole_pairs(table: &[u8]) -> &[u8] {
+    &table[..table.len() & !1]
+}
+
+fn each_minute(table: &[u8], change: fn(u16) -> u16) -> Vec<u8> {
+    let pairs = minutes_of(table).into_iter().flat_map(|minute| change(minute).to_le_bytes());
+    pairs.chain(table[table.len() & !1..].iter().copied()).collect()
+}
+
+/// A whole answer that is the first of a pair becomes the second.
+fn renumbered(answer: u64, numbers: &[(u64, u64)]) -> u64 {
+    numbers.iter().find(|pair| pair.0 == answer).map_or(answer, |pair| pair.1)
+}
+
+/// Another count, or other events, where a call succeeds.
+fn revalued(answer: u64, change: fn(u16) -> u16) -> u64 {
+    if answer & 0xff == 0 { two_bytes(change((answer >> 24) as u16)) } else { answer }
+}
+
+// ---------------------------------------------------------------- Wrong writers of listings and house forms
+
+/// Bytes of the longest listing: `OPENING_LISTING_MOST`.
+const LONGEST: usize = 1_765;
+
+fn listing_of_good_tables(sheet: &[u8], table: &[u8], out: &mut [u8]) -> u64 {
+    let asked = Question { sheet, table, minute: 0, heard: b"" };
+    if own::due(asked) == 14 { 14 } else { own::listing(sheet, table, out) }
+}
+
+fn room_before_length(sheet: &[u8], table: &[u8], out: &mut [u8]) -> u64 {
+    match (own::listing(sheet, table, out), own::listing(sheet, &fitted(sheet, table), &mut out.to_vec())) {
+        (11, 12) => 12,
+        (right, _) => right,
     }
 }
 
-fn relabel(rows: &mut Rows, change: fn(&str) -> String) {
-    rows[1..].iter_mut().for_each(|row| row[0] = change(&row[0]));
-}
-
-fn truths_exchanged(label: &str) -> String {
-    let other = |letter: char| match letter {
-        'T' => 'F',
-        'F' => 'T',
-        dash => dash,
-    };
-    label.chars().map(other).collect()
-}
-
-fn last_minute_later(rows: &mut Rows) {
-    let last = rows.last_mut().and_then(|row| row.last_mut()).expect("a minute");
-    *last = (last.parse::<u32>().expect("a minute") + 1).to_string();
-}
-
-fn two_digits_at_least(rows: &mut Rows) {
-    rows[1..].iter_mut().flat_map(|row| &mut row[1..]).for_each(|minute| *minute = format!("{minute:0>2}"));
-}
-
-// ---------------------------------------------------------------- Wrong house forms
-
-pub const HOUSE_FAULTS: [(&str, Printer); 35] = [
-    ("greatest-limit-kept", |sheet| house_with(sheet, Slip::GreatestLimit)),
-    ("first-limit-kept", |sheet| house_with(sheet, Slip::FirstLimit)),
-    ("last-limit-kept", |sheet| house_with(sheet, Slip::LastLimit)),
-    ("nearest-to-0-kept", |sheet| house_with(sheet, Slip::NearestLimit)),
-    ("letters-reversed", |sheet| house_with(sheet, Slip::LettersReversed)),
-    ("letters-as-typed", |sheet| house_with(sheet, Slip::LettersAsTyped)),
-    ("letters-in-alphabet", |sheet| house_with(sheet, Slip::LettersInAlphabet)),
-    ("false-letters-last", |sheet| house_with(sheet, Slip::FalseLettersLast)),
-    ("label-order-counts", |sheet| house_with(sheet, Slip::LabelOrderCounts)),
-    ("signs-ignored", |sheet| house_with(sheet, Slip::SignsIgnored)),
-    ("min-not-swapped", |sheet| house_with(sheet, Slip::NotSwapped)),
-    ("min-not-negated", |sheet| house_with(sheet, Slip::NotNegated)),
-    ("min-negated-to-10079", |sheet| house_with(sheet, Slip::EndLost)),
-    ("fix-is-max", |sheet| house_with(sheet, Slip::FixIsMax)),
-    ("to-before-from", |sheet| house_with(sheet, Slip::ToFirst)),
-    ("label-before-ends", |sheet| house_with(sheet, Slip::LabelFirst)),
-    ("false-before-true", |sheet| house_with(sheet, Slip::FalseFirst)),
-    ("weights-reversed", |sheet| house_with(sheet, Slip::WeightsReversed)),
-    ("names-in-alphabet", |sheet| house_with(sheet, Slip::NamesInAlphabet)),
-    ("order-as-typed", |sheet| house_with(sheet, Slip::OrderAsTyped)),
-    ("minus-0", |sheet| house_with(sheet, Slip::MinusZero)),
-    ("count-as-typed", |sheet| house_with(sheet, Slip::CountAsTyped)),
-    ("65th-row-dropped", |sheet| house_with(sheet, Slip::RowDropped)),
-    ("64-rows-refused", |sheet| house_with(sheet, Slip::Refused64)),
-    ("17-before-merging", |sheet| house_with(sheet, Slip::RefusedUnmerged)),
-    ("17-with-a-line", |sheet| house_with(sheet, Slip::RefusedWithLine)),
-    ("17-before-10", |sheet| if seventeen_but_for_its_end(sheet) { Err(Refusal { number: 17, line: 0 }) } else { model::house(sheet) }),
-    ("own-line-lost", |sheet| model::house(sheet).map_err(|refusal| Refusal { line: 0, ..refusal })),
-    ("self-rows-dropped", |sheet| house_with(sheet, Slip::SelfDropped)),
-    ("idle-self-rows-dropped", |sheet| house_with(sheet, Slip::IdleSelfDropped)),
-    ("rows-beyond-horizon-dropped", |sheet| house_with(sheet, Slip::BeyondHorizonDropped)),
-    ("implied-rows-dropped", |sheet| house_with(sheet, Slip::ImpliedDropped)),
-    ("nothing-done", |sheet| model::read(sheet).map(|_| sheet.to_vec())),
-    ("2048-bytes-at-most", |sheet| model::house(sheet).map(|form| form[..form.len().min(2048)].to_vec())),
-    ("last-feed-lost", |sheet| model::house(sheet).map(|form| form[..form.len() - 1].to_vec())),
-];
-
-/// The same without a slip, so that it is the slip that is noticed.
-pub fn house_by_sorting(sheet: &[u8]) -> Result<Vec<u8>, Refusal> {
-    house_with(sheet, Slip::None)
-}
-
-#[derive(Clone, Copy, PartialEq)]
-enum Slip {
-    None,
-    GreatestLimit,
-    FirstLimit,
-    LastLimit,
-    NearestLimit,
-    LettersReversed,
-    LettersAsTyped,
-    LettersInAlphabet,
-    FalseLettersLast,
-    LabelOrderCounts,
-    SignsIgnored,
-    NotSwapped,
-    NotNegated,
-    EndLost,
-    FixIsMax,
-    ToFirst,
-    LabelFirst,
-    FalseFirst,
-    WeightsReversed,
-    NamesInAlphabet,
-    OrderAsTyped,
-    MinusZero,
-    CountAsTyped,
-    RowDropped,
-    Refused64,
-    RefusedUnmerged,
-    RefusedWithLine,
-    SelfDropped,
-    IdleSelfDropped,
-    BeyondHorizonDropped,
-    ImpliedDropped,
-}
-
-/// A row with its label as it was typed, its place among the rows, and whether its limit was negated.
-#[derive(Clone)]
-struct Typed {
-    from: usize,
-    to: usize,
-    limit: i64,
-    label: Vec<(usize, bool)>,
-    place: usize,
-    negated: bool,
-}
-
-/// A house form made another way than the model's, by sorting, with one slip or none.
-fn house_with(sheet: &[u8], slip: Slip) -> Result<Vec<u8>, Refusal> {
-    let net = model::read(sheet)?;
-    let refused = |line: usize| Err(Refusal { number: 17, line });
-    let mut rows = typed_rows(&net, slip);
-    if slip == Slip::RefusedUnmerged && rows.len() > 64 {
-        return refused(0);
+fn byte_behind(answer: u64, out: &mut [u8]) -> u64 {
+    if let (0, Some(behind)) = (answer & 0xff, out.get_mut((answer >> 24) as usize)) {
+        *behind = 0;
     }
-    rows.sort_by_key(|row| (row_key(sheet, &net, row, slip), kept_first(row, slip)));
-    rows.dedup_by_key(|row| row_key(sheet, &net, row, slip));
-    drop_rows(&net, &mut rows, slip);
-    match rows.len() {
-        64 if slip == Slip::Refused64 => return refused(0),
-        65 if slip == Slip::RowDropped => drop(rows.pop()),
-        65.. => return refused(if slip == Slip::RefusedWithLine { sheet.iter().filter(|&&byte| byte == b'\n').count() } else { 0 }),
-        _ => {}
-    }
-    if slip == Slip::OrderAsTyped {
-        rows.sort_by_key(|row| row.place);
-    }
-    let name = |event: usize| String::from_utf8_lossy(&sheet[net.events[event].clone()]).into_owned();
-    let mut form = format!("horizon,{}\nevents,{}\n", net.horizon, net.events.len());
-    (0..net.events.len()).for_each(|event| form += &format!("{}\n", name(event)));
-    form += &format!("signals,{}\n", net.signals.len());
-    net.signals.iter().for_each(|signal| form += &format!("{},{}\n", char::from(signal.letter), name(signal.event)));
-    form += &format!("rules,{}\n", if slip == Slip::CountAsTyped { net.rules.len() } else { rows.len() });
-    for row in &rows {
-        let minus = if slip == Slip::MinusZero && row.limit == 0 && row.negated { "-" } else { "" };
-        form += &format!("max,{},{},{minus}{},{}\n", name(row.from), name(row.to), row.limit, letters(&net, row, slip));
-    }
-    Ok(form.into_bytes())
+    answer
 }
 
-/// A sheet refused with 10 that would be refused with 17 without the bytes behind its last rule.
-fn seventeen_but_for_its_end(sheet: &[u8]) -> bool {
-    let Err(Refusal { number: 10, line }) = model::read(sheet) else { return false };
-    let lines: Vec<&[u8]> = sheet.split_inclusive(|&byte| byte == b'\n').take(line - 1).collect();
-    model::house(&lines.concat()).is_err()
-}
-
-fn typed_rows(net: &Net, slip: Slip) -> Vec<Typed> {
-    let mut rows = vec![];
-    for rule in &net.rules {
-        let Rule { kind, from, to, limit, ref label } = *rule;
-        let max = Typed { from, to, limit, label: label.clone(), place: rows.len(), negated: false };
-        let mut min = Typed { from: to, to: from, limit: -limit, label: label.clone(), place: rows.len() + 1, negated: true };
-        match slip {
-            Slip::NotSwapped => (min.from, min.to) = (from, to),
-            Slip::NotNegated => min.limit = limit,
-            Slip::EndLost => min.limit = min.limit.max(-10_079),
-            _ => {}
-        }
-        match kind {
-            Kind::Max => rows.push(max),
-            Kind::Fix if slip == Slip::FixIsMax => rows.push(max),
-            Kind::Min => rows.push(min),
-            Kind::Fix => rows.extend([max, min]),
-        }
+fn altered_on(number: u64, answer: u64, out: &mut [u8]) -> u64 {
+    if answer == number {
+        out.fill(0);
     }
-    rows
+    answer
 }
 
-/// Of rows with equal keys the one for which this is least stays.
-fn kept_first(row: &Typed, slip: Slip) -> i64 {
-    match slip {
-        Slip::GreatestLimit => -row.limit,
-        Slip::FirstLimit => row.place as i64,
-        Slip::LastLimit => -(row.place as i64),
-        Slip::NearestLimit => row.limit.abs(),
-        _ => row.limit,
+fn as_far_as_it_fits(sheet: &[u8], table: &[u8], out: &mut [u8]) -> u64 {
+    let mut longer = [&*out, &[0; LONGEST]].concat();
+    own::listing(sheet, table, &mut longer);
+    out.copy_from_slice(&longer[..out.len()]);
+    own::listing(sheet, table, out)
+}
+
+/// A writer that asks for more room than its text takes.
+fn needing(out: &mut [u8], need: impl Fn(usize) -> usize, write: impl Fn(&mut [u8]) -> u64) -> u64 {
+    let answer = write(&mut out.to_vec());
+    if answer & 0xff == 0 && out.len() < need((answer >> 24) as usize) { refused_call(12) } else { write(out) }
+}
+
+fn not_the_longest(sheet: &[u8], table: &[u8], out: &mut [u8]) -> u64 {
+    needing(out, |length| if length == LONGEST { usize::MAX } else { length }, |out| own::listing(sheet, table, out))
+}
+
+fn room_before_rows(sheet: &[u8], out: &mut [u8]) -> u64 {
+    if own::house(sheet, out) == 17 && out.len() < sheet.len() { 12 } else { own::house(sheet, out) }
+}
+
+fn written_where_17(sheet: &[u8], out: &mut [u8]) -> u64 {
+    let answer = own::house(sheet, out);
+    if answer == 17 {
+        out.iter_mut().zip(sheet).for_each(|(byte, typed)| *byte = *typed);
     }
-}
-
-/// What rows are ordered by, and what two rows share when one of them goes.
-fn row_key(sheet: &[u8], net: &Net, row: &Typed, slip: Slip) -> (Vec<usize>, Vec<(usize, bool)>) {
-    let last = net.signals.len().saturating_sub(1);
-    let weight = |signal: usize| 1 << if slip == Slip::WeightsReversed { last - signal } else { signal };
-    let sum = |truth: bool| row.label.iter().filter(|letter| letter.1 == truth).map(|letter| weight(letter.0)).sum();
-    let (trues, falses): (usize, usize) = (sum(true), sum(false));
-    let rank = |event: usize| {
-        let name = |event: usize| &sheet[net.events[event].clone()];
-        (0..net.events.len()).filter(|&other| name(other) < name(event)).count()
-    };
-    let numbers = match slip {
-        Slip::ToFirst => [row.to, row.from, trues, falses],
-        Slip::LabelFirst => [trues, falses, row.from, row.to],
-        Slip::FalseFirst => [row.from, row.to, falses, trues],
-        Slip::SignsIgnored => [row.from, row.to, trues + falses, 0],
-        Slip::NamesInAlphabet => [rank(row.from), rank(row.to), trues, falses],
-        _ => [row.from, row.to, trues, falses],
-    };
-    (numbers.to_vec(), if slip == Slip::LabelOrderCounts { row.label.clone() } else { vec![] })
-}
-
-fn drop_rows(net: &Net, rows: &mut Vec<Typed>, slip: Slip) {
-    let all = rows.clone();
-    let implied = |row: &Typed| {
-        let same_ends = |other: &&Typed| other.from == row.from && other.to == row.to && other.limit <= row.limit;
-        let wider = |other: &Typed| other.label.len() < row.label.len() && other.label.iter().all(|letter| row.label.contains(letter));
-        all.iter().filter(same_ends).any(wider)
-    };
-    rows.retain(|row| match slip {
-        Slip::SelfDropped => row.from != row.to,
-        Slip::IdleSelfDropped => row.from != row.to || row.limit < 0,
-        Slip::BeyondHorizonDropped => row.limit < net.horizon,
-        Slip::ImpliedDropped => !implied(row),
-        _ => true,
-    });
-}
-
-fn letters(net: &Net, row: &Typed, slip: Slip) -> String {
-    let mut label = row.label.clone();
-    match slip {
-        Slip::LettersAsTyped => {}
-        Slip::LettersInAlphabet => label.sort_by_key(|letter| net.signals[letter.0].letter),
-        Slip::FalseLettersLast => label.sort_by_key(|letter| (!letter.1, letter.0)),
-        _ => label.sort(),
-    }
-    if slip == Slip::LettersReversed {
-        label.reverse();
-    }
-    let one = |letter: &(usize, bool)| [if letter.1 { "" } else { "!" }, &char::from(net.signals[letter.0].letter).to_string()].concat();
-    if label.is_empty() { "-".to_string() } else { label.iter().map(one).collect() }
+    answer
 }

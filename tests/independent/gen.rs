@@ -1,8 +1,9 @@
-//! Sheets and tables to try, made from a seed and nothing else.
+//! Sheets, tables and questions to try, made from a seed and nothing else.
 //!
 //! `sheet` makes valid and damaged sheets of all sizes, `tiny_sheet` those that the search of `model.rs` can finish, and `table`
 //! the bytes of a table for a sheet that was accepted. `table_sheet` has the longest listings among its sheets; `house_sheet` makes
-//! sheets whose house forms are worth a look, and `retyped` types the procedure of an accepted sheet another way.
+//! sheets whose house forms are worth a look, and `retyped` types the procedure of an accepted sheet another way. `minute` and `heard` make
+//! questions to the player of a table.
 
 use crate::model::{self, Kind, Net, Verdict};
 use std::collections::BTreeSet;
@@ -52,6 +53,11 @@ impl Rng {
         }
         all.truncate(count);
         all
+    }
+
+    /// The same in any order.
+    pub fn shuffled<T: Clone>(&mut self, all: &[T]) -> Vec<T> {
+        self.different(all.len(), all.len()).into_iter().map(|place| all[place].clone()).collect()
     }
 }
 
@@ -128,18 +134,18 @@ impl Draft {
     }
 
     fn label_text(&self, label: &[(usize, bool)]) -> String {
-        if label.is_empty() {
-            return "-".to_string();
-        }
-        let one = |&(signal, truth): &(usize, bool)| {
-            format!("{}{}", if truth { "" } else { "!" }, char::from(self.signals[signal].0))
-        };
-        label.iter().map(one).collect()
+        let letters: Vec<(u8, bool)> = label.iter().map(|&(signal, truth)| (self.signals[signal].0, truth)).collect();
+        if letters.is_empty() { "-".to_string() } else { letters_text(&letters) }
     }
 
     fn solved(&self) -> Option<Vec<u16>> {
         model::solve(&model::read(&self.paper().bytes()).expect("a drafted sheet is valid"))
     }
+}
+
+/// Letters, "each with an optional `!` before it".
+fn letters_text(letters: &[(u8, bool)]) -> String {
+    letters.iter().map(|&(letter, truth)| format!("{}{}", if truth { "" } else { "!" }, char::from(letter))).collect()
 }
 
 /// How many events, signals and rules.
@@ -329,6 +335,11 @@ pub fn table_sheet(rng: &mut Rng) -> Vec<u8> {
     if rng.chance(95) { sheet(rng) } else { broad(rng).bytes() }
 }
 
+/// A sheet for the house form, or one with the longest listing.
+pub fn text_sheet(rng: &mut Rng) -> Vec<u8> {
+    if rng.chance(80) { house_sheet(rng).1 } else { broad(rng).bytes() }
+}
+
 /// 16 events with names of 8 bytes, 4 signals, and minutes of five digits everywhere but at the start.
 fn broad(rng: &mut Rng) -> Draft {
     let mut draft = bare(rng, &Size { events: 16, signals: 4, rules: 30 }, 10_080);
@@ -449,7 +460,7 @@ fn long_names(rng: &mut Rng, count: usize) -> Vec<String> {
         names.insert(name(rng, 8));
     }
     let names: Vec<String> = names.into_iter().collect();
-    rng.different(count, count).into_iter().map(|place| names[place].clone()).collect()
+    rng.shuffled(&names)
 }
 
 /// A `max` rule from anywhere to anywhere, at times from an event to itself.
@@ -516,10 +527,9 @@ fn type_anew(rng: &mut Rng, draft: &mut Draft) {
         if rng.chance(50) {
             *rule = turned(rule);
         }
-        rule.label = rng.different(rule.label.len(), rule.label.len()).into_iter().map(|place| rule.label[place]).collect();
+        rule.label = rng.shuffled(&rule.label);
     }
-    let order = rng.different(rules.len(), rules.len());
-    *rules = order.into_iter().map(|place| rules[place].clone()).collect();
+    *rules = rng.shuffled(rules);
 }
 
 /// `max` and `min` for some of the `fix` rules, as long as there is room.
@@ -679,13 +689,11 @@ fn put_name(rng: &mut Rng, paper: &mut Paper) {
     }
 }
 
-/// A label made of the sheet's own letters and of others, with each way to be wrong.
-fn put_label(rng: &mut Rng, paper: &mut Paper) {
-    let letters = paper.of(Place::Signal).into_iter().filter_map(|line| paper.lines[line].1.first());
-    let own: Vec<u8> = letters.filter_map(|letter| letter.first().copied()).collect();
+/// A label made of these letters and of others, with each way to be wrong.
+fn odd_label(rng: &mut Rng, own: &[u8]) -> Vec<u8> {
     let letter = |rng: &mut Rng| match own.is_empty() || rng.chance(25) {
         true => rng.pick(b"abpqz"),
-        false => rng.pick(&own),
+        false => rng.pick(own),
     };
     let (p, q) = (letter(rng), letter(rng));
     const PATTERNS: [&str; 20] = [
@@ -697,7 +705,14 @@ fn put_label(rng: &mut Rng, paper: &mut Paper) {
         b'q' => q,
         other => other,
     };
-    put(rng, paper, Place::Rule, 4, pattern.bytes().map(write).collect());
+    pattern.bytes().map(write).collect()
+}
+
+fn put_label(rng: &mut Rng, paper: &mut Paper) {
+    let letters = paper.of(Place::Signal).into_iter().filter_map(|line| paper.lines[line].1.first());
+    let own: Vec<u8> = letters.filter_map(|letter| letter.first().copied()).collect();
+    let text = odd_label(rng, &own);
+    put(rng, paper, Place::Rule, 4, text);
 }
 
 fn put_letter(rng: &mut Rng, paper: &mut Paper) {
@@ -860,6 +875,12 @@ pub fn table(rng: &mut Rng, net: &Net, solved: Option<&[u16]>) -> Vec<u8> {
     bytes
 }
 
+/// A table whose minutes mostly have five digits, whatever the sheet says.
+pub fn wide_table(rng: &mut Rng, net: &Net) -> Vec<u16> {
+    let least = rng.pick(&[0, 9_990, 10_000, 65_000]);
+    (0..net.cells()).map(|_| rng.between(least, 65_535) as u16).collect()
+}
+
 /// Any bytes, for a sheet that is refused.
 pub fn any_bytes(rng: &mut Rng) -> Vec<u8> {
     (0..rng.below(80)).map(|_| rng.next() as u8).collect()
@@ -959,5 +980,78 @@ fn make_odd(rng: &mut Rng, bytes: &mut Vec<u8>) {
         bytes.push(0);
     } else {
         bytes.pop();
+    }
+}
+
+// ---------------------------------------------------------------- Questions to the player
+
+/// A minute to ask about: one that the table has, one next to it or with another high byte; an edge; or any.
+pub fn minute(rng: &mut Rng, table: &[u16]) -> u16 {
+    let near = if table.is_empty() { 0 } else { rng.pick(table) };
+    match rng.below(20) {
+        0..=8 => near,
+        9..=13 => near.saturating_add(1),
+        14..=15 => near.saturating_sub(1),
+        16 => near ^ 256,
+        17..=18 => rng.pick(&[0, 1, 10_080, 10_081, 65_535]),
+        _ => rng.next() as u16,
+    }
+}
+
+/// A text of signals heard: what some case has heard before the minute, in any order; or that with something done to the list or to the text.
+/// There is no network where the sheet is refused.
+pub fn heard(rng: &mut Rng, net: Option<&Net>, table: &[u16], minute: u16) -> Vec<u8> {
+    let own: Vec<u8> = net.map_or(vec![], |net| net.signals.iter().map(|signal| signal.letter).collect());
+    let mut list = net.map_or(vec![], |net| history(rng, net, table, minute));
+    if rng.chance(30) {
+        damage_list(rng, &own, &mut list);
+    }
+    let mut text = letters_text(&rng.shuffled(&list)).into_bytes();
+    if text.is_empty() && rng.chance(50) {
+        text.push(b'-');
+    }
+    if rng.chance(20) {
+        damage_heard(rng, &own, &mut text);
+    }
+    text
+}
+
+/// What some case has heard before the minute, or at times before the one after it or the one before it. A table of another length has
+/// minute 0 for what it lacks.
+fn history(rng: &mut Rng, net: &Net, table: &[u16], minute: u16) -> Vec<(u8, bool)> {
+    let case = rng.below(net.cases());
+    let before = match rng.below(20) {
+        0..=1 => minute.saturating_add(1),
+        2 => minute.saturating_sub(1),
+        _ => minute,
+    };
+    let given = |event: usize| table.get(net.cell(case, event)).copied().unwrap_or(0);
+    let all = net.signals.iter().enumerate().filter(|(_, signal)| given(signal.event) < before);
+    all.map(|(place, signal)| (signal.letter, model::truth(case, place))).collect()
+}
+
+/// A signal more or less, another truth, or a letter a second time; `own` are the sheet's letters.
+fn damage_list(rng: &mut Rng, own: &[u8], list: &mut Vec<(u8, bool)>) {
+    let place = rng.below(list.len().max(1));
+    let letter = if own.is_empty() || rng.chance(40) { b'a' + rng.below(26) as u8 } else { rng.pick(own) };
+    match rng.below(5) {
+        0..=1 => list.push((letter, rng.chance(50))),
+        _ if list.is_empty() => {}
+        2 => drop(list.remove(place)),
+        3 => list[place].1 = !list[place].1,
+        _ => list.push((list[place].0, rng.chance(50))),
+    }
+}
+
+/// A text that most often is ill-formed.
+fn damage_heard(rng: &mut Rng, own: &[u8], text: &mut Vec<u8>) {
+    match rng.below(8) {
+        0..=1 => *text = odd_label(rng, own),
+        2 => change_byte(rng, text),
+        3 => text.push(rng.pick(b"!- \n\r\0,1")),
+        4 => text.insert(0, rng.pick(b"!- \n\0")),
+        5 => text.make_ascii_uppercase(),
+        6 => *text = text.repeat(rng.pick(&[2, 26, 256])),
+        _ => *text = any_bytes(rng),
     }
 }

@@ -1,11 +1,23 @@
 //! The libraries under test: the C functions of `libopening.a` and of `libtally.a`, or, in a build with `--cfg standalone`, the model itself
 //! and a solver of our own that passes over rounds. Every build has those two: the wrong programs are made of them.
 
-/// The two calls, "with byte slices and numbers".
+/// The C calls, "with byte slices and numbers".
 #[derive(Clone, Copy)]
 pub struct Library {
     pub solve: fn(sheet: &[u8], table: &mut [u8]) -> u64,
     pub judge: fn(sheet: &[u8], table: &[u8]) -> u64,
+    pub due: fn(question: Question) -> u64,
+    pub listing: fn(sheet: &[u8], table: &[u8], out: &mut [u8]) -> u64,
+    pub house: fn(sheet: &[u8], out: &mut [u8]) -> u64,
+}
+
+/// What the player of a table is asked; `heard` is the text of the signals heard before the minute.
+#[derive(Clone, Copy)]
+pub struct Question<'a> {
+    pub sheet: &'a [u8],
+    pub table: &'a [u8],
+    pub minute: u16,
+    pub heard: &'a [u8],
 }
 
 /// The three calls that count rounds. The first two answer with the count in the lower four bytes and the sum of the table in the upper
@@ -24,15 +36,22 @@ pub use own::{LIBRARY, TALLY};
 
 #[cfg(not(standalone))]
 mod linked {
-    use super::{Library, Tally};
+    use super::{Library, Question, Tally};
 
-    pub const LIBRARY: Library = Library { solve, judge };
+    pub const LIBRARY: Library = Library { solve, judge, due, listing, house };
     pub const TALLY: Tally = Tally { leaping, plain, turns };
 
     #[link(name = "opening", kind = "static")]
     extern "C" {
         fn opening_solve(sheet: *const u8, sheet_len: usize, table: *mut u8, table_len: usize) -> u64;
         fn opening_judge(sheet: *const u8, sheet_len: usize, table: *const u8, table_len: usize) -> u64;
+        fn opening_due(
+            sheet: *const u8, sheet_len: usize, table: *const u8, table_len: usize, minute: u16, heard: *const u8, heard_len: usize,
+        ) -> u64;
+        fn opening_listing(
+            sheet: *const u8, sheet_len: usize, table: *const u8, table_len: usize, out: *mut u8, out_len: usize,
+        ) -> u64;
+        fn opening_house(sheet: *const u8, sheet_len: usize, out: *mut u8, out_len: usize) -> u64;
     }
 
     #[link(name = "tally", kind = "static")]
@@ -50,6 +69,18 @@ mod linked {
         unsafe { opening_judge(sheet.as_ptr(), sheet.len(), table.as_ptr(), table.len()) }
     }
 
+    fn due(Question { sheet, table, minute, heard }: Question) -> u64 {
+        unsafe { opening_due(sheet.as_ptr(), sheet.len(), table.as_ptr(), table.len(), minute, heard.as_ptr(), heard.len()) }
+    }
+
+    fn listing(sheet: &[u8], table: &[u8], out: &mut [u8]) -> u64 {
+        unsafe { opening_listing(sheet.as_ptr(), sheet.len(), table.as_ptr(), table.len(), out.as_mut_ptr(), out.len()) }
+    }
+
+    fn house(sheet: &[u8], out: &mut [u8]) -> u64 {
+        unsafe { opening_house(sheet.as_ptr(), sheet.len(), out.as_mut_ptr(), out.len()) }
+    }
+
     fn leaping(sheet: &[u8]) -> u64 {
         unsafe { tally_leaping(sheet.as_ptr(), sheet.len()) }
     }
@@ -65,11 +96,11 @@ mod linked {
 
 /// The same calls made of the model, packed as include/opening.h says, and of `leaps.rs`.
 pub mod own {
-    use super::{Library, Tally};
-    use crate::model::{self, Refusal, Verdict};
+    use super::{Library, Question, Tally};
+    use crate::model::{self, Net, Refusal, Verdict};
     use crate::{leaps, rounds};
 
-    pub const LIBRARY: Library = Library { solve, judge };
+    pub const LIBRARY: Library = Library { solve, judge, due, listing, house };
     pub const TALLY: Tally = Tally { leaping: leaps::leaping, plain, turns: leaps::turns };
 
     /// The bytes, lowest first: refusal number; line (two bytes); then five bytes that each call fills in its own way.
@@ -97,17 +128,39 @@ pub mod own {
         pack(0, 0, rest)
     }
 
+    /// Minutes or bytes written, or the events due: two bytes behind the line.
+    pub fn two_bytes(value: u16) -> u64 {
+        let [low, high] = value.to_le_bytes();
+        pack(0, 0, [low, high, 0, 0, 0])
+    }
+
     /// Writes a table, "two bytes a minute, low byte first", and gives the solver's answer.
     pub fn write(minutes: &[u16], table: &mut [u8]) -> u64 {
         for (pair, minute) in table.chunks_exact_mut(2).zip(minutes) {
             pair.copy_from_slice(&minute.to_le_bytes());
         }
-        let count = (minutes.len() as u16).to_le_bytes();
-        pack(0, 0, [count[0], count[1], 0, 0, 0])
+        two_bytes(minutes.len() as u16)
+    }
+
+    /// Writes a text into the first bytes of a lent buffer, or answers with its refusal, or with 12.
+    pub fn write_text(text: Result<Vec<u8>, Refusal>, out: &mut [u8]) -> u64 {
+        match text.and_then(|text| model::within(text, out.len())) {
+            Err(refusal) => refused(refusal),
+            Ok(text) => {
+                out[..text.len()].copy_from_slice(&text);
+                two_bytes(text.len() as u16)
+            }
+        }
     }
 
     pub fn minutes_of(table: &[u8]) -> Vec<u16> {
         table.chunks_exact(2).map(|pair| u16::from_le_bytes([pair[0], pair[1]])).collect()
+    }
+
+    /// A sheet and the table that is handed in with it: refusals 1 to 10, then 11; "an odd number of bytes is refusal 11".
+    pub fn handed(sheet: &[u8], table: &[u8]) -> Result<(Net, Vec<u16>), Refusal> {
+        let net = model::read(sheet)?;
+        if table.len() == 2 * net.cells() { Ok((net, minutes_of(table))) } else { Err(Refusal { number: 11, line: 0 }) }
     }
 
     /// Refusals 1 to 10, then 12, then 13; "the solver counts the whole pairs it is lent".
@@ -125,13 +178,36 @@ pub mod own {
         }
     }
 
-    /// Refusals 1 to 10, then 11; "For the judge an odd number of bytes is refusal 11".
+    /// Refusals 1 to 11, or the verdict.
     pub fn judge(sheet: &[u8], table: &[u8]) -> u64 {
-        match model::read(sheet) {
-            Err(refusal) => refused(refusal),
-            Ok(net) if table.len() != 2 * net.cells() => refused_call(11),
-            Ok(net) => verdict(model::judge(&net, &minutes_of(table))),
+        handed(sheet, table).map_or_else(refused, |(net, minutes)| verdict(model::judge(&net, &minutes)))
+    }
+
+    /// Refusals 1 to 11, then 14, then what the player says.
+    pub fn due(question: Question) -> u64 {
+        match handed(question.sheet, question.table) {
+            Ok((net, minutes)) if model::judge(&net, &minutes) != Verdict::Pass => refused_call(14),
+            _ => play(question),
         }
+    }
+
+    /// Refusals 1 to 11, then 15 for a text that is no list, then what the player says; the table is not judged.
+    pub fn play(Question { sheet, table, minute, heard }: Question) -> u64 {
+        match (handed(sheet, table), model::heard(heard)) {
+            (Err(refusal), _) => refused(refusal),
+            (_, None) => refused_call(15),
+            (Ok((net, minutes)), Some(list)) => model::due(&net, &minutes, minute, &list).map_or_else(refused_call, two_bytes),
+        }
+    }
+
+    /// Refusals 1 to 11, then 12, whatever the judge says of the table.
+    pub fn listing(sheet: &[u8], table: &[u8], out: &mut [u8]) -> u64 {
+        write_text(handed(sheet, table).map(|(net, minutes)| model::listing(sheet, &net, &minutes)), out)
+    }
+
+    /// Refusals 1 to 10, then 17, then 12.
+    pub fn house(sheet: &[u8], out: &mut [u8]) -> u64 {
+        write_text(model::house(sheet), out)
     }
 
     pub fn plain(sheet: &[u8]) -> u64 {

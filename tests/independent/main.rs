@@ -1,7 +1,7 @@
 //! The comparison of `libopening.a` and `libtally.a`, and of programs that print tables or house forms, with the model
 //! of documents 01 and 02.
 //!
-//! compare [SEED [COUNT]]                  generated sheets and tables, every answer and every lent byte compared
+//! compare [SEED [COUNT]]                  generated sheets, tables and texts, every answer and every lent byte compared
 //! compare table PROGRAM [SEED [COUNT]]    generated sheets, what a program that prints tables prints for each compared
 //! compare house PROGRAM [SEED [COUNT]]    the same for a program that prints house forms
 //! compare count [SEED [COUNT]]            generated sheets of many rounds, the count of rounds and the table compared
@@ -10,8 +10,8 @@
 //! compare selftest [SEED [COUNT]]         the model's solvers against each other, and forms against sheets, on tiny sheets
 //!
 //! compare faults [SEED [COUNT]]           that the comparison notices each wrong program of faults.rs
-//! compare table-faults [SEED [COUNT]]     that `table` notices each wrong program of faults.rs that prints tables
-//! compare house-faults [SEED [COUNT]]     that `house` notices each wrong program of faults.rs that prints house forms
+//! compare table-faults [SEED [COUNT]]     that `table` notices each wrong program of printers.rs, for tables
+//! compare house-faults [SEED [COUNT]]     that `house` notices each wrong program of printers.rs, for house forms
 //! compare count-faults [SEED [COUNT]]     that `count` notices each wrong program of leaps.rs
 //! compare table-standin [FAULT]           the model as a program that prints tables, or one of the wrong ones
 //! compare house-standin [FAULT]           the same for house forms
@@ -19,24 +19,29 @@
 //! Build: rustc --edition 2021 -O -o compare main.rs -L native=DIR   (DIR has libopening.a and libtally.a)
 //!    or: rustc --edition 2021 -O -o compare main.rs --cfg standalone
 
+mod calls;
 mod faults;
 mod gen;
 mod house;
 mod leaps;
+mod lent;
 mod library;
 mod long;
 mod model;
+mod printers;
 mod program;
 mod rounds;
 mod table;
 mod tally;
 
-use faults::{Printer, FAULTS, HOUSE_FAULTS, TABLE_FAULTS};
+use calls::{judge_outcome, minutes, of_call, of_size, played};
+use faults::FAULTS;
 use gen::Rng;
 use house::HOUSE;
 use leaps::COUNT_FAULTS;
-use library::{own, Library};
+use library::own;
 use model::{Net, Refusal, Verdict};
+use printers::{Printer, HOUSE_FAULTS, TABLE_FAULTS};
 use program::Mode;
 use std::collections::BTreeMap;
 use std::io::{Read, Write};
@@ -71,10 +76,10 @@ fn main() {
         ["selftest", ref numbers @ ..] => selftest(number(numbers, 0, SEED), number(numbers, 1, TINY_COUNT)),
         ["faults", ref numbers @ ..] => notice_faults(seeds(numbers, FAULT_COUNT)),
         ["table-faults", ref numbers @ ..] => {
-            notice_printers(&TABLE, faults::table_by_fields, &TABLE_FAULTS, seeds(numbers, PROGRAM_COUNT))
+            notice_printers(&TABLE, printers::table_by_fields, &TABLE_FAULTS, seeds(numbers, PROGRAM_COUNT))
         }
         ["house-faults", ref numbers @ ..] => {
-            notice_printers(&HOUSE, faults::house_by_sorting, &HOUSE_FAULTS, seeds(numbers, PROGRAM_COUNT))
+            notice_printers(&HOUSE, printers::house_by_sorting, &HOUSE_FAULTS, seeds(numbers, PROGRAM_COUNT))
         }
         ["count-faults", ref numbers @ ..] => {
             notice_count_faults(number(numbers, 0, SEED), number(numbers, 1, LONG_FAULT_COUNT))
@@ -83,7 +88,7 @@ fn main() {
         ["table-standin", name] => standin(fault_named(&TABLE_FAULTS, name)),
         ["house-standin"] => standin(model::house),
         ["house-standin", name] => standin(fault_named(&HOUSE_FAULTS, name)),
-        ref numbers => compare(number(numbers, 0, SEED), number(numbers, 1, COUNT)),
+        ref numbers => calls::compare(number(numbers, 0, SEED), number(numbers, 1, COUNT)),
     }
 }
 
@@ -109,216 +114,11 @@ fn print(text: &[u8]) {
     std::io::stdout().write_all(text).unwrap_or_else(|error| fail(2, &error.to_string()));
 }
 
-// ---------------------------------------------------------------- Lent memory
-
-/// Bytes lent to the library, with guarding bytes before and behind them.
-#[derive(Clone, PartialEq)]
-struct Lent {
-    all: Vec<u8>,
-    length: usize,
-}
-
-const GUARD: usize = 24;
-
-impl Lent {
-    /// Lends these bytes between guarding bytes drawn from `guards`.
-    fn new(rng: &mut Rng, guards: &[u8], bytes: &[u8]) -> Self {
-        let mut guard = || -> Vec<u8> { (0..GUARD).map(|_| rng.pick(guards)).collect() };
-        Lent { all: [&guard()[..], bytes, &guard()].concat(), length: bytes.len() }
-    }
-
-    fn slice(&self) -> &[u8] {
-        &self.all[GUARD..GUARD + self.length]
-    }
-
-    fn slice_mut(&mut self) -> &mut [u8] {
-        &mut self.all[GUARD..GUARD + self.length]
-    }
-}
-
-/// Around a sheet stand bytes that would change its reading, such as a line feed where the last line has none.
-fn lend_sheet(rng: &mut Rng, sheet: &[u8]) -> Lent {
-    let guards: &[u8] = rng.pick(&[&b"\n"[..], b"0123456789", b"abcp!-", b",\n0ap"]);
-    Lent::new(rng, guards, sheet)
-}
-
-/// A table of so many bytes with any contents.
-fn lend_table(rng: &mut Rng, length: usize) -> Lent {
-    let bytes: Vec<u8> = (0..length).map(|_| rng.next() as u8).collect();
-    lend_bytes(rng, &bytes)
-}
-
-fn lend_bytes(rng: &mut Rng, bytes: &[u8]) -> Lent {
-    let guards: Vec<u8> = (0..=255).collect();
-    Lent::new(rng, &guards, bytes)
-}
-
-// ---------------------------------------------------------------- The answers that document 01 asks for
-
-/// The number and the line stand in the lowest three bytes of both answers; on a refusal the other numbers are 0.
-fn refusal_answer(refusal: Refusal) -> u64 {
-    u64::from(refusal.number) | (refusal.line as u64) << 8
-}
-
-/// A refusal of a call: "Lines are 0 for refusals 1 and 11 to 13."
-fn of_call(number: u8) -> Refusal {
-    Refusal { number, line: 0 }
-}
-
-/// What the solver does with a table of so many bytes: refusals 1 to 10, 12 and 13 in this order, or the minutes.
-fn solver_outcome<'a>(case: &'a Case, length: usize) -> Result<&'a [u16], Refusal> {
-    let net = case.reading.as_ref().map_err(|refusal| *refusal)?;
-    if length / 2 < net.cells() {
-        return Err(of_call(12));
-    }
-    case.solved.as_deref().ok_or(of_call(13))
-}
-
-/// What the judge says of these bytes: refusals 1 to 10, then 11, then the verdict.
-fn judge_outcome(reading: &Result<Net, Refusal>, table: &[u8]) -> Result<Verdict, Refusal> {
-    let net = reading.as_ref().map_err(|refusal| *refusal)?;
-    if table.len() % 2 == 1 || table.len() / 2 != net.cells() {
-        return Err(of_call(11));
-    }
-    Ok(model::judge(net, &minutes(table)))
-}
-
-/// The minutes of the whole pairs, low byte first.
-fn minutes(table: &[u8]) -> Vec<u16> {
-    table.chunks_exact(2).map(|pair| u16::from(pair[0]) + 256 * u16::from(pair[1])).collect()
-}
-
-/// The word and its three bytes: "Late case, event; Rule case, rule; Unheard case, case, event".
-fn verdict_answer(verdict: Verdict) -> u64 {
-    let (word, first, second, third) = match verdict {
-        Verdict::Pass => (0, 0, 0, 0),
-        Verdict::Late { case, event } => (1, case, event, 0),
-        Verdict::Rule { case, rule } => (2, case, rule, 0),
-        Verdict::Unheard { s, r, u } => (3, s, r, u),
-    };
-    word << 24 | (first as u64) << 32 | (second as u64) << 40 | (third as u64) << 48
-}
-
-// ---------------------------------------------------------------- compare
-
-/// A generated sheet and what the model makes of it.
-struct Case {
-    sheet: Lent,
-    reading: Result<Net, Refusal>,
-    solved: Option<Vec<u16>>,
-}
-
+/// How often each kind of something was among what was compared.
 type Counts = BTreeMap<String, u64>;
 
 fn count(counts: &mut Counts, kind: String) {
     *counts.entry(kind).or_insert(0) += 1;
-}
-
-fn compare(seed: u64, cases: u64) {
-    let mut counts = Counts::new();
-    for seed in seed..seed + cases {
-        if let Err(words) = compare_one(&library::LIBRARY, seed, &mut counts) {
-            println!("{words}\nagain: compare {seed} 1");
-            exit(1);
-        }
-    }
-    for (kind, count) in &counts {
-        println!("{count:>8}  {kind}");
-    }
-    println!("{cases} cases from seed {seed}: no difference");
-}
-
-/// All calls for the sheet of one seed.
-fn compare_one(library: &Library, seed: u64, counts: &mut Counts) -> Result<(), String> {
-    let mut rng = Rng::new(seed);
-    let bytes = gen::sheet(&mut rng);
-    let reading = model::read(&bytes);
-    let solved = reading.as_ref().ok().and_then(model::solve);
-    let case = Case { sheet: lend_sheet(&mut rng, &bytes), reading, solved };
-    count(counts, reading_kind(&case.reading));
-    for length in solver_lengths(&mut rng, &case.reading) {
-        let table = lend_table(&mut rng, length);
-        compare_solver(library, &case, table, counts)?;
-    }
-    for _ in 0..3 {
-        let table = match &case.reading {
-            Ok(net) => gen::table(&mut rng, net, case.solved.as_deref()),
-            Err(_) => gen::any_bytes(&mut rng),
-        };
-        let table = lend_bytes(&mut rng, &table);
-        compare_judge(library, &case, table, counts)?;
-    }
-    Ok(())
-}
-
-/// Exact, generous, odd and too short tables; for a refused sheet a short and a long one.
-fn solver_lengths(rng: &mut Rng, reading: &Result<Net, Refusal>) -> Vec<usize> {
-    match reading {
-        Err(_) => vec![rng.below(40), 600],
-        Ok(net) => {
-            let exact = 2 * net.cells();
-            vec![exact, exact + 2 + rng.below(64), exact + 1, exact - 1, exact - 2, 0]
-        }
-    }
-}
-
-/// One call of the solver. Its bytes from the sixth on are kept for a count of rounds, and 0 until there is one.
-fn compare_solver(library: &Library, case: &Case, table: Lent, counts: &mut Counts) -> Result<(), String> {
-    let outcome = solver_outcome(case, table.length);
-    let (mut sheet, mut asked, mut lent) = (case.sheet.clone(), table.clone(), table.clone());
-    let answer = (library.solve)(sheet.slice_mut(), lent.slice_mut());
-    let right = match outcome {
-        Err(refusal) => refusal_answer(refusal),
-        Ok(minutes) => {
-            asked.slice_mut()[..2 * minutes.len()].copy_from_slice(&gen::bytes_of(minutes));
-            (minutes.len() as u64) << 24
-        }
-    };
-    count(counts, solver_kind(case, &outcome));
-    check_answer("solver", case, &table, right, answer)?;
-    check_memory("solver's table", case, &table, &asked, &lent)?;
-    check_memory("solver's sheet", case, &table, &case.sheet, &sheet)
-}
-
-/// One call of the judge; it alters nothing.
-fn compare_judge(library: &Library, case: &Case, table: Lent, counts: &mut Counts) -> Result<(), String> {
-    let outcome = judge_outcome(&case.reading, table.slice());
-    let (sheet, lent) = (case.sheet.clone(), table.clone());
-    let answer = (library.judge)(sheet.slice(), lent.slice());
-    let right = match outcome {
-        Err(refusal) => refusal_answer(refusal),
-        Ok(verdict) => verdict_answer(verdict),
-    };
-    count(counts, judge_kind(&outcome));
-    check_answer("judge", case, &table, right, answer)?;
-    check_memory("judge's table", case, &table, &table, &lent)?;
-    check_memory("judge's sheet", case, &table, &case.sheet, &sheet)
-}
-
-fn check_answer(call: &str, case: &Case, table: &Lent, right: u64, answer: u64) -> Result<(), String> {
-    if answer == right {
-        return Ok(());
-    }
-    let bytes = |answer: u64| answer.to_le_bytes().map(|byte| byte.to_string()).join(" ");
-    Err(format!("the {call} answers the bytes\n  {}\nand not\n  {}\n{}", bytes(answer), bytes(right), scene(case, table)))
-}
-
-fn check_memory(which: &str, case: &Case, table: &Lent, right: &Lent, lent: &Lent) -> Result<(), String> {
-    let Some(place) = (0..right.all.len()).find(|&place| right.all[place] != lent.all[place]) else { return Ok(()) };
-    Err(format!(
-        "the {which} has at byte {} of {} (from 0, negative before it) {} and not {}\n{}",
-        place as i64 - GUARD as i64,
-        right.length,
-        lent.all[place],
-        right.all[place],
-        scene(case, table)
-    ))
-}
-
-/// The sheet and the table, so that the call can be made by hand.
-fn scene(case: &Case, table: &Lent) -> String {
-    let text = text_of(case.sheet.slice());
-    format!("sheet of {} bytes\n{text}table of {} bytes {:?}", case.sheet.length, table.length, table.slice())
 }
 
 /// The lines of some bytes, each with its line feed written out.
@@ -326,35 +126,10 @@ fn text_of(bytes: &[u8]) -> String {
     bytes.split_inclusive(|&byte| byte == b'\n').map(|line| format!("  {}\n", line.escape_ascii())).collect()
 }
 
-fn reading_kind(reading: &Result<Net, Refusal>) -> String {
-    match reading {
-        Ok(_) => "sheet accepted".to_string(),
-        Err(refusal) => format!("sheet refused {:>2}", refusal.number),
-    }
-}
-
-fn solver_kind(case: &Case, outcome: &Result<&[u16], Refusal>) -> String {
-    match (&case.reading, outcome) {
-        (Ok(net), Ok(table)) => format!("solver wrote a table, {}", alike(net, table)),
-        (_, Ok(_)) => "solver wrote a table for a refused sheet".to_string(),
-        (_, Err(refusal)) => format!("solver refused {:>2}", refusal.number),
-    }
-}
-
 /// Whether all cases of a table have the same minutes.
 fn alike(net: &Net, table: &[u16]) -> &'static str {
     let events = net.events.len();
     if table.chunks(events).all(|row| *row == table[..events]) { "cases alike" } else { "cases differ" }
-}
-
-fn judge_kind(outcome: &Result<Verdict, Refusal>) -> String {
-    match outcome {
-        Ok(Verdict::Pass) => "judge pass".to_string(),
-        Ok(Verdict::Late { .. }) => "judge late".to_string(),
-        Ok(Verdict::Rule { .. }) => "judge rule".to_string(),
-        Ok(Verdict::Unheard { s, r, .. }) => format!("judge unheard, {} signals differ", (s ^ r).count_ones()),
-        Err(refusal) => format!("judge refused {:>2}", refusal.number),
-    }
 }
 
 // ---------------------------------------------------------------- selftest and faults
@@ -443,7 +218,7 @@ fn all_compared(seeds: Range<u64>, compare_one: impl Fn(u64) -> Result<(), Strin
 
 fn notice_faults(seeds: Range<u64>) {
     notice("faults", &own::LIBRARY, &FAULTS, |library| {
-        all_compared(seeds.clone(), |seed| compare_one(library, seed, &mut Counts::new()))
+        all_compared(seeds.clone(), |seed| calls::compare_one(library, seed, &mut Counts::new()))
     });
 }
 
@@ -461,7 +236,7 @@ fn notice_count_faults(seed: u64, sheets: u64) {
 fn fault_named(faults: &[(&str, Printer)], name: &str) -> Printer {
     match faults.iter().find(|fault| fault.0 == name) {
         Some(fault) => fault.1,
-        None => fail(2, "this is no fault of faults.rs"),
+        None => fail(2, "this is no fault of printers.rs"),
     }
 }
 
@@ -505,7 +280,7 @@ fn expected_house(sheet: &[u8], last_form: &mut Option<Vec<u8>>) -> Vec<u8> {
         _ => [b"house\n", &form[..]].concat(),
     };
     let again = if model::house(&form).as_ref() == Ok(&form) { "same" } else { "other" };
-    let short = match model::house_within(sheet, form.len() - 1) {
+    let short = match model::within(form.clone(), form.len() - 1) {
         Ok(form) => form.len().to_string(),
         Err(refusal) => short_refusal(refusal),
     };
@@ -552,25 +327,14 @@ fn solved(sheet: &[u8], net: &Net, table: &[u16]) -> Vec<u8> {
 fn asked_first(reading: &Result<Net, Refusal>, table: &[u16]) -> String {
     let mut text = "asked 0".to_string();
     for list in [vec![], vec![(0, false)]] {
-        text.push_str(&match due_outcome(reading, table, 0, &list) {
+        let outcome = of_size(reading, 2 * table.len()).and_then(|net| played(net, table, 0, Some(list)));
+        text.push_str(&match outcome {
             Ok(events) => format!(" {events}"),
             Err(refusal) => format!(" {}", short_refusal(refusal)),
         });
     }
     text.push('\n');
     text
-}
-
-/// The sheet's own refusal, then 11, 14, 15 and 16, or the events.
-fn due_outcome(reading: &Result<Net, Refusal>, table: &[u16], minute: u16, heard: &[(u8, bool)]) -> Result<u16, Refusal> {
-    let net = reading.as_ref().map_err(|refusal| *refusal)?;
-    if table.len() != net.cells() {
-        return Err(of_call(11));
-    }
-    if model::judge(net, table) != Verdict::Pass {
-        return Err(of_call(14));
-    }
-    model::due(net, table, minute, heard).map_err(of_call)
 }
 
 /// The lists that the program `trials` asks about.
@@ -625,9 +389,8 @@ fn judged_line(outcome: &Result<Verdict, Refusal>) -> String {
 
 /// The listing "prints any table of the right length"; another length is refusal 11, after the sheet's own.
 fn listed(sheet: &[u8], reading: &Result<Net, Refusal>, table: &[u16]) -> Vec<u8> {
-    match reading {
-        Err(refusal) => refused_line("listed ", *refusal).into_bytes(),
-        Ok(net) if table.len() != net.cells() => refused_line("listed ", of_call(11)).into_bytes(),
+    match of_size(reading, 2 * table.len()) {
+        Err(refusal) => refused_line("listed ", refusal).into_bytes(),
         Ok(net) => model::listing(sheet, net, table),
     }
 }

@@ -685,7 +685,17 @@ pub fn table(sheet: &[u8]) -> Result<Vec<u8>, Refusal> {
     Ok(listing(sheet, &net, &least))
 }
 
+/// A text to be written into a lent buffer of so many bytes: 12 where that is "too short for what would be written".
+pub fn within(text: Vec<u8>, room: usize) -> Result<Vec<u8>, Refusal> {
+    if text.len() <= room { Ok(text) } else { Err(Refusal { number: 12, line: 0 }) }
+}
+
 // ---------------------------------------------------------------- What is due this minute
+
+/// The signals heard as opening.h has them written: letters as in a label, "nothing, or `-`, for none"; or nothing for any other text.
+pub fn heard(text: &[u8]) -> Option<Vec<(u8, bool)>> {
+    if text.is_empty() { Some(vec![]) } else { letters(text) }
+}
 
 /// Document 02, point 1, for a table that passes: the events due at a minute, bit u for event u, for those who have heard exactly this list;
 /// or 15 where a letter is undefined or stands twice, or 16 where no case has heard exactly this list.
@@ -743,11 +753,6 @@ pub fn house(sheet: &[u8]) -> Result<Vec<u8>, Refusal> {
         form.push(b'\n');
     }
     Ok(form)
-}
-
-/// The same into a lent buffer of so many bytes: 12 where that is "too short for what would be written", after 17.
-pub fn house_within(sheet: &[u8], room: usize) -> Result<Vec<u8>, Refusal> {
-    house(sheet).and_then(|form| if form.len() <= room { Ok(form) } else { Err(Refusal { number: 12, line: 0 }) })
 }
 
 /// "a `min` swaps its ends and negates its limit, and a `fix` becomes both".

@@ -45,6 +45,32 @@ pub unsafe extern "C" fn opening_judge(sheet: *const u8, sheet_len: usize, table
 }
 
 /// # Safety
+/// The slices are valid.
+#[no_mangle]
+pub unsafe extern "C" fn opening_due(
+    sheet: *const u8, sheet_len: usize, table: *const u8, table_len: usize, minute: u16, heard: *const u8, heard_len: usize,
+) -> u64 {
+    let (sheet, table, heard) = (from_raw_parts(sheet, sheet_len), from_raw_parts(table, table_len), from_raw_parts(heard, heard_len));
+    (chosen().due)(library::Question { sheet, table, minute, heard })
+}
+
+/// # Safety
+/// The slices are valid, and the last does not overlap the others.
+#[no_mangle]
+pub unsafe extern "C" fn opening_listing(
+    sheet: *const u8, sheet_len: usize, table: *const u8, table_len: usize, out: *mut u8, out_len: usize,
+) -> u64 {
+    (chosen().listing)(from_raw_parts(sheet, sheet_len), from_raw_parts(table, table_len), from_raw_parts_mut(out, out_len))
+}
+
+/// # Safety
+/// The slices are valid, and the last does not overlap the first.
+#[no_mangle]
+pub unsafe extern "C" fn opening_house(sheet: *const u8, sheet_len: usize, out: *mut u8, out_len: usize) -> u64 {
+    (chosen().house)(from_raw_parts(sheet, sheet_len), from_raw_parts_mut(out, out_len))
+}
+
+/// # Safety
 /// The slice is valid.
 #[no_mangle]
 pub unsafe extern "C" fn tally_leaping(sheet: *const u8, sheet_len: usize) -> u64 {

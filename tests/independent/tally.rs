@@ -2,10 +2,11 @@
 //! by the model.
 
 use crate::gen::Rng;
+use crate::lent::lend_text;
 use crate::library::{Tally, TALLY};
 use crate::model::Refusal;
 use crate::rounds::{self, NO_TABLE};
-use crate::{fail, lend_sheet, long, model, text_of};
+use crate::{fail, long, model, text_of};
 use std::process::exit;
 
 /// With fewer sheets than these it is not asked how many leapt.
@@ -105,7 +106,7 @@ impl Seen {
 
 /// The three answers for one sheet. A refused sheet makes no round, another at least one and no more than are counted.
 fn check(tally: &Tally, sheet: &[u8]) -> Result<Result<Counted, Refusal>, String> {
-    let lent = lend_sheet(&mut Rng::new(sheet.len() as u64), sheet);
+    let lent = lend_text(&mut Rng::new(sheet.len() as u64), sheet);
     let kept = lent.clone();
     let reading = model::read(sheet);
     let right = rounds::answer_of(&reading);
@@ -115,7 +116,7 @@ fn check(tally: &Tally, sheet: &[u8]) -> Result<Result<Counted, Refusal>, String
         (false, _) => format!("by passing over rounds {}, and not {}", words_of(leaping), words_of(right)),
         (_, false) => format!("by plain rounds {}, and not {}", words_of(plain), words_of(right)),
         _ if (turns == 0) != (count == 0) || turns > u64::from(count) => format!("{turns} rounds one by one of {count}"),
-        _ if kept != lent => "the sheet was altered".to_string(),
+        _ if lent.is(&kept).is_err() => "the sheet was altered".to_string(),
         _ => return Ok(reading.map(|_| Counted { count, turns, has_table: (right >> 32) as u32 != NO_TABLE })),
     };
     Err(format!("{fault}\nsheet of {} bytes\n{}", sheet.len(), text_of(sheet)))
