@@ -5,21 +5,28 @@
  * bytes, low byte first. A sheet with n events and k signals has 2^k cases; its table takes 2 * n * 2^k bytes, and never more
  * than OPENING_TABLE_MOST.
  *
- * Both functions answer with one number that holds eight bytes. Read it with the functions below, those of the solver for an
- * answer of opening_solve and those of the judge for an answer of opening_judge. Nothing has to be tested before a call: any
- * bytes may be handed in as a sheet, any length as a table. The pointers must point to as many bytes as the length says, and must
- * not be NULL, even if the length is 0. The library keeps no pointer and allocates nothing that the caller must free.
+ * Signals heard are handed in as text: their letters, each with `!` before it if the signal said false (`p!q`), in any order;
+ * nothing, or `-`, for none.
  *
- *     byte     opening_solve                            opening_judge
- *     0        number: 0, or why the call was refused   the same
- *     1, 2     line of the sheet, low byte first        the same
- *     3        minutes written, low byte ..             word: 0 pass, 1 Late, 2 Rule, 3 Unheard
- *     4        .. and high byte                         first
- *     5        kept for a count of rounds               second
- *     6        kept for a count of rounds               third
- *     7        kept for a count of rounds               0
+ * Each function answers with one number that holds eight bytes. Read it with the functions at the end, each of which says for
+ * which answers it is. Nothing has to be tested before a call: any bytes may be handed in as a sheet or as text, any length as a
+ * table, any minute. The pointers must point to as many bytes as the length says, and must not be NULL, even if the length is 0.
+ * Memory that a call writes into must not overlap what else it is handed. The library keeps no pointer and allocates nothing
+ * that the caller must free.
  *
- * Byte 0 is the lowest: (answer & 0xff) is the number. On a refusal all bytes from 3 on are 0.
+ *     byte     opening_solve        opening_judge       opening_due        opening_listing, opening_house
+ *     0        number               number              number             number
+ *     1, 2     line                 line                line               line
+ *     3        minutes, low byte    word                events 0 to 7      bytes, low byte
+ *     4        minutes, high byte   first               events 8 to 15     bytes, high byte
+ *     5        kept                 second              0                  0
+ *     6        kept                 third               0                  0
+ *     7        kept                 0                   0                  0
+ *
+ * number is 0, or why the call was refused; line is a line of the sheet, low byte first; minutes and bytes are as many as were
+ * written; word is 0 pass, 1 Late, 2 Rule or 3 Unheard; of the events due, event u is bit u of the two bytes; what is kept is for
+ * a count of rounds, and 0 until there is one. Byte 0 is the lowest: (answer & 0xff) is the number. On a refusal all bytes from 3
+ * on are 0.
  *
  * The number of a refusal, and its line (the first line is 1):
  *
@@ -33,29 +40,48 @@
  *      8  an event or letter that is not defined
  *      9  a label with one letter twice
  *     10  bytes behind the last rule
- *     11  judge only: the table has not exactly n * 2^k minutes, or an odd number of bytes         (line 0)
- *     12  solver only: the table has fewer than n * 2^k whole pairs of bytes                       (line 0)
- *     13  solver only: the sheet is in order, and no good table exists                             (line 0)
+ *     11  judge, due, listing: not exactly n * 2^k minutes in the table, or an odd number of bytes (line 0)
+ *     12  solver: the table has fewer than n * 2^k whole pairs of bytes;
+ *         listing, house: out is shorter than the text                                             (line 0)
+ *     13  solver: the sheet is in order, and no good table exists                                  (line 0)
+ *     14  due: the table does not pass the judge                                                   (line 0)
+ *     15  due: the text is not of that form, or a letter in it is undefined or stands twice        (line 0)
+ *     16  due: no case has heard exactly this before the minute                                    (line 0)
+ *     17  house: more than 64 rows would be left                                                   (line 0)
  *
- * The first line at fault decides, on that line the lowest number. A fault of the sheet (1 to 10) comes before 11, 12 and 13, and
- * 12 comes before 13.
+ * Of the sheet, the first line at fault decides, on that line the lowest number. A fault of the sheet (1 to 10) comes before all
+ * others. Then each call has its own, in this order: solver 12, 13; judge 11; due 11, 14, 15, 16; listing 11, 12; house 17, 12.
  *
  * Example:
  *
- *     static const char sheet[] = "horizon,60\nevents,2\nstart\ndoor\nsignals,0\nrules,1\nmin,start,door,10,-\n";
+ *     static const char text[] = "horizon,60\nevents,3\nstart\ncall\ndoor\nsignals,1\np,call\nrules,2\n"
+ *                                "min,start,call,5,-\nmin,call,door,15,p\n";
+ *     const uint8_t *sheet = (const uint8_t *)text;
  *     uint8_t table[OPENING_TABLE_MOST];
  *
- *     uint64_t solved = opening_solve((const uint8_t *)sheet, strlen(sheet), table, sizeof table);
+ *     uint64_t solved = opening_solve(sheet, strlen(text), table, sizeof table);
  *     if (opening_number(solved) != 0) {
  *         printf("refused %u line %u\n", opening_number(solved), opening_line(solved));
  *         return 1;
  *     }
  *     for (unsigned i = 0; i < opening_minutes(solved); i++)
- *         printf("%u\n", table[2 * i] + 256u * table[2 * i + 1]);            prints 0 and 10
+ *         printf("%u\n", table[2 * i] + 256u * table[2 * i + 1]);            prints 0, 5, 6 and 0, 5, 20
  *
- *     uint64_t judged = opening_judge((const uint8_t *)sheet, strlen(sheet), table, 2 * opening_minutes(solved));
+ *     uint64_t judged = opening_judge(sheet, strlen(text), table, 2 * opening_minutes(solved));
  *     if (opening_number(judged) == 0 && opening_word(judged) == OPENING_PASS)
  *         puts("good");
+ *
+ *     const char *heard = "";                                                nothing so far
+ *     for (uint16_t minute = 0; minute <= 60; minute++) {
+ *         uint64_t due = opening_due(sheet, strlen(text), table, 2 * opening_minutes(solved), minute,
+ *                                    (const uint8_t *)heard, strlen(heard));
+ *         if (opening_number(due) != 0)
+ *             return 1;
+ *         if (opening_events(due) & 1u << 2)
+ *             printf("door at %u\n", minute);                                20 where p is true, 6 where it is false
+ *         if (opening_events(due) & 1u << 1)
+ *             heard = caller_says_p() ? "p" : "!p";                          the call, heard from the next minute on
+ *     }
  */
 
 #ifndef OPENING_H
@@ -69,8 +95,9 @@ extern "C" {
 #endif
 
 enum {
-    OPENING_SHEET_MOST = 4096, /* bytes of the longest sheet that is read */
-    OPENING_TABLE_MOST = 512   /* bytes of the largest table: 16 events, 16 cases, two bytes each */
+    OPENING_SHEET_MOST = 4096,  /* bytes of the longest sheet that is read; no house form is longer */
+    OPENING_TABLE_MOST = 512,   /* bytes of the largest table: 16 events, 16 cases, two bytes each */
+    OPENING_LISTING_MOST = 1765 /* bytes of the longest listing: that of such a table, long names, five digits everywhere */
 };
 
 /* The judge's words. */
@@ -80,7 +107,7 @@ enum { OPENING_PASS = 0, OPENING_LATE = 1, OPENING_RULE = 2, OPENING_UNHEARD = 3
  *
  * Whole pairs are counted: of an odd table_len the last byte is not used. If the answer's number is 0, the first
  * 2 * opening_minutes(answer) bytes of the table are written, and all bytes behind them are unaltered; a table longer than needed
- * is no fault. Otherwise the table keeps all its contents. The table must not overlap the sheet. */
+ * is no fault. Otherwise the table keeps all its contents. */
 uint64_t opening_solve(const uint8_t *sheet, size_t sheet_len, uint8_t *table, size_t table_len);
 
 /* Says whether a table, whoever wrote it, is good for the sheet, and if not, what the first breach is.
@@ -96,14 +123,47 @@ uint64_t opening_solve(const uint8_t *sheet, size_t sheet_len, uint8_t *table, s
  * Cases, events and rules are counted from 0. Numbers that a word does not use are 0. */
 uint64_t opening_judge(const uint8_t *sheet, size_t sheet_len, const uint8_t *table, size_t table_len);
 
-/* Of both answers: the number of the refusal, 0 if the call succeeded. */
+/* Says which events are due at a minute, for those who have heard exactly these signals before it.
+ *
+ * A signal is heard before the minute if its event was due at an earlier one: what is given at 5 is heard from 6 on. The text
+ * must be all that has been heard, and no more. Nothing is written. If the answer's number is 0, bit u of opening_events(answer)
+ * says whether event u is due; the first event of the sheet is 0. That nothing is due is no fault, nor is a minute over the
+ * horizon.
+ *
+ * The judge is asked first, at each call: a table that it does not pass is answered with 14 at every minute, whatever has been
+ * heard. opening_judge says what is wrong with such a table. */
+uint64_t opening_due(const uint8_t *sheet, size_t sheet_len, const uint8_t *table, size_t table_len, uint16_t minute,
+                     const uint8_t *heard, size_t heard_len);
+
+/* Writes the listing of a table: a line with the events' names, then a line for each case.
+ *
+ * table_len is the exact number of bytes. The table need not be good: any minutes are listed. If the answer's number is 0, the
+ * first opening_bytes(answer) bytes of out are the listing, with no NUL behind it, and all bytes behind them are unaltered; an
+ * out longer than needed is no fault, and OPENING_LISTING_MOST bytes are always enough. Otherwise out keeps all its contents. */
+uint64_t opening_listing(const uint8_t *sheet, size_t sheet_len, const uint8_t *table, size_t table_len, uint8_t *out,
+                         size_t out_len);
+
+/* Writes the sheet in its house form: every rule as `max` rows, of those with equal ends and label the tightest, in one order.
+ *
+ * The form is itself a sheet, with the same good tables. If the answer's number is 0, the first opening_bytes(answer) bytes of
+ * out are the form, with no NUL behind it, and all bytes behind them are unaltered; an out longer than needed is no fault, and
+ * OPENING_SHEET_MOST bytes are always enough. Otherwise out keeps all its contents. */
+uint64_t opening_house(const uint8_t *sheet, size_t sheet_len, uint8_t *out, size_t out_len);
+
+/* Of every answer: the number of the refusal, 0 if the call succeeded. */
 static inline unsigned opening_number(uint64_t answer) { return (unsigned)(answer & 0xff); }
 
-/* Of both answers: the line of the refusal, 0 if there is none. */
+/* Of every answer: the line of the refusal, 0 if there is none. */
 static inline unsigned opening_line(uint64_t answer) { return (unsigned)(answer >> 8 & 0xffff); }
 
 /* Of the solver's answer: how many minutes were written, n * 2^k, or 0 on a refusal. */
 static inline unsigned opening_minutes(uint64_t answer) { return (unsigned)(answer >> 24 & 0xffff); }
+
+/* Of the answer of opening_due: the events due, bit u for event u. 0 on a refusal too, so look at the number first. */
+static inline unsigned opening_events(uint64_t answer) { return (unsigned)(answer >> 24 & 0xffff); }
+
+/* Of the answers of opening_listing and opening_house: how many bytes were written, or 0 on a refusal. */
+static inline unsigned opening_bytes(uint64_t answer) { return (unsigned)(answer >> 24 & 0xffff); }
 
 /* Of the judge's answer: the word, and its three numbers. All are 0 on a refusal, so look at the number first. */
 static inline unsigned opening_word(uint64_t answer) { return (unsigned)(answer >> 24 & 0xff); }

@@ -1,5 +1,6 @@
-/* The workshop bench: calls the solver and the judge as a C program does, and compares every answer and every lent byte with what
- * document 01 asks. The answers here were written by hand from the paper.
+/* The workshop bench: calls the library as a C program does, and compares every answer and every lent byte with what document 01
+ * and points 1 and 2 of document 02 ask. The answers here were written by hand from the papers; where a table is played, what the
+ * solver wrote is to come out.
  *
  * cc -std=c11 -O2 -Wall -Wextra -Werror -o bench bench.c DIR/libopening.a
  *
@@ -50,6 +51,15 @@ static void lend(struct lent *lent, const void *bytes, size_t length, uint8_t gu
     lent->length = length;
 }
 
+/* Lends so many bytes to write into, with some contents. */
+static void lend_room(struct lent *lent, size_t length)
+{
+    uint8_t fill[ROOM];
+    for (size_t i = 0; i < length && i < ROOM; i++)
+        fill[i] = (uint8_t)(0xc3 + 7 * i);
+    lend(lent, fill, length, 0x5a);
+}
+
 static void expect_memory(const char *about, const char *what, const struct lent *found, const struct lent *wanted)
 {
     for (size_t i = 0; i < sizeof found->all; i++) {
@@ -70,7 +80,7 @@ static size_t pairs(uint8_t *bytes, const uint16_t *minutes, size_t count)
     return 2 * count;
 }
 
-/* ---------------------------------------------------------------- The two calls */
+/* ---------------------------------------------------------------- Solver and judge */
 
 /* Solves with a table of so many bytes. Wanted: a refusal with its line, or with number 0 these minutes; the whole
  * answer is compared. */
@@ -78,11 +88,8 @@ static void solve(const char *about, const char *sheet, size_t sheet_len, size_t
                   const uint16_t *minutes, size_t count)
 {
     static struct lent paper, paper_before, table, wanted;
-    uint8_t fill[ROOM];
-    for (size_t i = 0; i < table_len; i++)
-        fill[i] = (uint8_t)(0xc3 + 7 * i);
     lend(&paper, sheet, sheet_len, '\n');
-    lend(&table, fill, table_len, 0x5a);
+    lend_room(&table, table_len);
     paper_before = paper;
     wanted = table;
     if (number == 0)
@@ -136,6 +143,109 @@ static void judge_refused(const char *about, const char *sheet, size_t length, u
     judge_bytes(about, sheet, strlen(sheet), bytes, length, wanted);
 }
 
+/* ---------------------------------------------------------------- The player and the two writers */
+
+/* What is handed in: a sheet, and for the player and the listing a table as bytes. */
+struct handed {
+    const char *sheet;
+    size_t sheet_len;
+    const uint8_t *table;
+    size_t table_len;
+};
+
+/* What is due at a minute for those who have heard this text. */
+static uint64_t ask(const char *about, struct handed handed, unsigned minute, const char *heard, size_t heard_len)
+{
+    static struct lent paper, paper_before, table, table_before, text, text_before;
+    lend(&paper, handed.sheet, handed.sheet_len, '\n');
+    lend(&table, handed.table, handed.table_len, 0);
+    lend(&text, heard, heard_len, 'p');
+    paper_before = paper;
+    table_before = table;
+    text_before = text;
+
+    uint64_t answer = opening_due(slice(&paper), handed.sheet_len, slice(&table), handed.table_len, (uint16_t)minute,
+                                  slice(&text), heard_len);
+    calls++;
+    expect(about, "the number in the unused bytes", answer >> 40, 0);
+    expect_memory(about, "text", &text, &text_before);
+    expect_memory(about, "table", &table, &table_before);
+    expect_memory(about, "sheet", &paper, &paper_before);
+    return answer;
+}
+
+/* The same; wanted: a refusal with its line, or with number 0 these events. */
+static void due(const char *about, struct handed handed, unsigned minute, const char *heard, size_t heard_len, unsigned number,
+                unsigned line, unsigned events)
+{
+    uint64_t answer = ask(about, handed, minute, heard, heard_len);
+    expect(about, "the number", opening_number(answer), number);
+    expect(about, "the line", opening_line(answer), line);
+    expect(about, "the number of the events due", opening_events(answer), events);
+}
+
+/* What a writer of text answered, and left in the room that it was lent. Wanted: a refusal with its line, or with number 0 this
+ * text; the whole answer is compared. */
+static void expect_text(const char *about, uint64_t answer, const struct lent *room, unsigned number, unsigned line,
+                        const char *text)
+{
+    static struct lent wanted;
+    lend_room(&wanted, room->length);
+    if (number == 0)
+        memcpy(slice(&wanted), text, strlen(text));
+    expect(about, "the number", opening_number(answer), number);
+    expect(about, "the line", opening_line(answer), line);
+    expect(about, "the count of bytes", opening_bytes(answer), number == 0 ? strlen(text) : 0);
+    expect(about, "the number in the unused bytes", answer >> 40, 0);
+    expect_memory(about, "text", room, &wanted);
+}
+
+static void list(const char *about, struct handed handed, size_t length, unsigned number, unsigned line, const char *text)
+{
+    static struct lent paper, paper_before, table, table_before, room;
+    lend(&paper, handed.sheet, handed.sheet_len, '\n');
+    lend(&table, handed.table, handed.table_len, 0);
+    lend_room(&room, length);
+    paper_before = paper;
+    table_before = table;
+
+    uint64_t answer = opening_listing(slice(&paper), handed.sheet_len, slice(&table), handed.table_len, slice(&room), length);
+    calls++;
+    expect_text(about, answer, &room, number, line, text);
+    expect_memory(about, "table", &table, &table_before);
+    expect_memory(about, "sheet", &paper, &paper_before);
+}
+
+static void house(const char *about, const char *sheet, size_t sheet_len, size_t length, unsigned number, unsigned line,
+                  const char *text)
+{
+    static struct lent paper, paper_before, room;
+    lend(&paper, sheet, sheet_len, '\n');
+    lend_room(&room, length);
+    paper_before = paper;
+
+    uint64_t answer = opening_house(slice(&paper), sheet_len, slice(&room), length);
+    calls++;
+    expect_text(about, answer, &room, number, line, text);
+    expect_memory(about, "sheet", &paper, &paper_before);
+}
+
+/* All three turn the same sheet away, whatever else they are handed. */
+static void refused_by_all(const char *about, const char *sheet, size_t sheet_len, unsigned number, unsigned line)
+{
+    static const uint8_t bytes[64];
+    static const size_t lengths[] = {12, 0, 7};
+    for (size_t i = 0; i < sizeof lengths / sizeof lengths[0]; i++) {
+        const struct handed handed = {sheet, sheet_len, bytes, lengths[i]};
+        due(about, handed, 0, "", 0, number, line, 0);
+        due(about, handed, 6, "!!p", 3, number, line, 0);
+        list(about, handed, ROOM, number, line, NULL);
+        list(about, handed, 0, number, line, NULL);
+    }
+    house(about, sheet, sheet_len, ROOM, number, line, NULL);
+    house(about, sheet, sheet_len, 0, number, line, NULL);
+}
+
 /* ---------------------------------------------------------------- The sheets */
 
 #define HEAD "horizon,60\nevents,3\nstart\ncall\ndoor\nsignals,1\np,call\nrules,3\n"
@@ -146,9 +256,20 @@ static const char example[] = HEAD TWO "max,start,door,30,-\n";
 static const char no_table[] = HEAD TWO "max,start,door,19,-\n";
 static const uint16_t opened[] = {0, 5, 6, 0, 5, 20};
 
+/* Numbers of bytes that its table has not. */
+static const size_t other_lengths[] = {0, 1, 10, 11, 13, 14};
+
 /* No rules: the last event gives the signal, and two events give one each. */
 static const char signal_last[] = "horizon,60\nevents,3\nstart\ndoor\ncall\nsignals,1\np,call\nrules,0\n";
 static const char two_signals[] = "horizon,60\nevents,4\nstart\na\nb\ndoor\nsignals,2\np,a\nq,b\nrules,0\n";
+
+/* Two signals with rules, of which the first has weight 1, and four. */
+static const char weights[] = "horizon,60\nevents,3\nstart\ncall\ndoor\nsignals,2\np,start\nq,call\nrules,2\n"
+                              "min,start,call,2,-\nmin,call,door,5,p!q\n";
+static const uint16_t weights_opened[] = {0, 2, 1, 0, 2, 7, 0, 2, 1, 0, 2, 3};
+static const char four_signals[] = "horizon,60\nevents,6\nstart\na\nb\nc\nd\ndoor\nsignals,4\nw,c\np,a\nz,d\nq,b\nrules,8\n"
+                                   "min,start,a,3,-\nmin,a,b,2,p\nmin,a,b,1,!p\nmin,a,c,4,q\nmin,b,c,3,p!q\nmin,c,d,2,w\n"
+                                   "min,d,door,5,p!z\nmin,c,door,9,!pwz\n";
 
 /* A minute with a high byte: 1000 is 232 and 3. */
 static const char high[] = "horizon,10080\nevents,2\nstart\ndoor\nsignals,0\nrules,1\nmin,start,door,1000,-\n";
@@ -190,6 +311,8 @@ static void readers(void)
     expect("readers", "opening_first", opening_first(answer), 0x55);
     expect("readers", "opening_second", opening_second(answer), 0x66);
     expect("readers", "opening_third", opening_third(answer), 0x77);
+    expect("readers", "opening_events", opening_events(answer), 0x5544);
+    expect("readers", "opening_bytes", opening_bytes(answer), 0x5544);
 }
 
 /* Each of them takes all the bits of its bytes and no other. */
@@ -207,6 +330,8 @@ static void readers_bit_by_bit(void)
         {"opening_first", opening_first, 4, 1},
         {"opening_second", opening_second, 5, 1},
         {"opening_third", opening_third, 6, 1},
+        {"opening_events", opening_events, 3, 2},
+        {"opening_bytes", opening_bytes, 3, 2},
     };
     for (size_t i = 0; i < sizeof reader / sizeof reader[0]; i++) {
         for (unsigned bit = 0; bit < 64; bit++) {
@@ -231,20 +356,18 @@ static void solver_lengths(void)
     solve("solve, both bytes of a minute", high, strlen(high), 4, 0, 0, high_opened, 2);
 }
 
-/* Trials 6, 8, 9 and 11 of document 01, and two signals of which the first has weight 1. */
+/* Trials 6, 8, 9 and 11 of document 01, and two signals. */
 static void solver_trials(void)
 {
     static const char own[] = "horizon,60\nevents,1\nstart\nsignals,0\nrules,1\nmax,start,start,0,-\n";
     static const char edge[] = "horizon,10\nevents,2\nstart\ndoor\nsignals,0\nrules,1\nmin,start,door,10,-\n";
     static const char back[] = "horizon,60\nevents,2\nstart\ndoor\nsignals,0\nrules,1\nmax,door,start,-5,-\n";
     static const char apart[] = HEAD "min,start,call,5,-\nmin,start,door,10,p\nmax,start,door,6,!p\n";
-    static const char weights[] = "horizon,60\nevents,3\nstart\ncall\ndoor\nsignals,2\np,start\nq,call\nrules,2\n"
-                                  "min,start,call,2,-\nmin,call,door,5,p!q\n";
     solve("trial 6", own, strlen(own), 2, 0, 0, (const uint16_t[]){0}, 1);
     solve("trial 8", edge, strlen(edge), 4, 0, 0, (const uint16_t[]){0, 10}, 2);
     solve("trial 9", back, strlen(back), 4, 0, 0, (const uint16_t[]){0, 5}, 2);
     solve("trial 11", apart, strlen(apart), 12, 0, 0, (const uint16_t[]){0, 5, 6, 0, 5, 10}, 6);
-    solve("weights", weights, strlen(weights), 24, 0, 0, (const uint16_t[]){0, 2, 1, 0, 2, 7, 0, 2, 1, 0, 2, 3}, 12);
+    solve("weights", weights, strlen(weights), 24, 0, 0, weights_opened, 12);
     judge("trial 6, judged", own, (const uint16_t[]){0}, 1, OPENING_PASS, 0, 0, 0);
     judge("at the horizon exactly", edge, (const uint16_t[]){0, 10}, 2, OPENING_PASS, 0, 0, 0);
 }
@@ -270,6 +393,7 @@ static void refused_sheets(void)
         judge_refused(about, sheet, 12, number, line);
         judge_refused(about, sheet, 0, number, line);
         judge_refused(about, sheet, 7, number, line);
+        refused_by_all(about, sheet, strlen(sheet), number, line);
     }
 }
 
@@ -285,6 +409,8 @@ static void long_sheets(void)
     solve("4,097 bytes", sheet, OPENING_SHEET_MOST + 1, 12, 1, 0, NULL, 0);
     judge_bytes("4,096 bytes, judged", sheet, OPENING_SHEET_MOST, bytes, sizeof bytes, behind);
     judge_bytes("4,097 bytes, judged", sheet, OPENING_SHEET_MOST + 1, bytes, sizeof bytes, too_long);
+    refused_by_all("4,096 bytes, by the others", sheet, OPENING_SHEET_MOST, 10, 12);
+    refused_by_all("4,097 bytes, by the others", sheet, OPENING_SHEET_MOST + 1, 1, 0);
 }
 
 static void breaches(void)
@@ -328,12 +454,264 @@ static void two_signals_apart(void)
 
 static void judge_lengths(void)
 {
-    judge_refused("judge, no bytes", example, 0, 11, 0);
-    judge_refused("judge, one byte", example, 1, 11, 0);
-    judge_refused("judge, a pair less", example, 10, 11, 0);
-    judge_refused("judge, a byte less", example, 11, 11, 0);
-    judge_refused("judge, a byte more", example, 13, 11, 0);
-    judge_refused("judge, a pair more", example, 14, 11, 0);
+    for (size_t i = 0; i < sizeof other_lengths / sizeof other_lengths[0]; i++)
+        judge_refused("judge, another length", example, other_lengths[i], 11, 0);
+}
+
+/* Plays the solver's table of a sheet with horizon 60, each case minute by minute: an event is due exactly once, at its minute in
+ * the case. What has been heard is kept here from the answers: a signal whose event was due, with its truth in the case, from the
+ * next minute on, the last one first. */
+static void play(const char *sheet, unsigned events, const char *letters, const unsigned *givers)
+{
+    uint8_t table[OPENING_TABLE_MOST], played[OPENING_TABLE_MOST];
+    const unsigned signals = (unsigned)strlen(letters), cases = 1u << signals;
+    uint64_t solved = opening_solve((const uint8_t *)sheet, strlen(sheet), table, sizeof table);
+    const struct handed handed = {sheet, strlen(sheet), table, 2 * opening_minutes(solved)};
+    calls++;
+    expect("play", "the number", opening_number(solved), 0);
+    expect("play", "the count of minutes", opening_minutes(solved), events * cases);
+    for (unsigned s = 0; s < cases; s++) {
+        char heard[16] = "", longer[16];
+        uint16_t row[16] = {0};
+        unsigned seen = 0;
+        for (unsigned minute = 0; minute <= 60; minute++) {
+            uint64_t answer = ask("play", handed, minute, heard, strlen(heard));
+            expect("play", "the number", opening_number(answer), 0);
+            const unsigned due = opening_events(answer);
+            expect("play", "the number of the events due twice", due & seen, 0);
+            seen |= due;
+            for (unsigned u = 0; u < 16; u++) {
+                if (due >> u & 1)
+                    row[u] = (uint16_t)minute;
+            }
+            for (unsigned p = 0; p < signals; p++) {
+                if (due >> givers[p] & 1) {
+                    sprintf(longer, "%s%c%s", s >> p & 1 ? "" : "!", letters[p], heard);
+                    strcpy(heard, longer);
+                }
+            }
+        }
+        expect("play", "the number of all events due", seen, (1u << events) - 1);
+        pairs(played + 2 * events * s, row, events);
+    }
+    for (unsigned i = 0; i < 2 * events * cases; i++)
+        expect("play", "a byte of the table as it was played", played[i], table[i]);
+}
+
+static void played_tables(void)
+{
+    play(example, 3, "p", (const unsigned[]){1});
+    play(signal_last, 3, "p", (const unsigned[]){2});
+    play(two_signals, 4, "pq", (const unsigned[]){1, 2});
+    play(weights, 3, "pq", (const unsigned[]){0, 1});
+    play(four_signals, 6, "wpzq", (const unsigned[]){3, 1, 4, 2});
+}
+
+/* A question, and its answer by hand: event u is due where bit u stands. */
+struct question {
+    unsigned minute;
+    const char *heard;
+    unsigned number, events;
+};
+
+static void due_by_hand(struct handed handed, const struct question *questions, size_t count)
+{
+    for (size_t i = 0; i < count; i++) {
+        char about[64];
+        sprintf(about, "due at %u, heard '%s'", questions[i].minute, questions[i].heard);
+        due(about, handed, questions[i].minute, questions[i].heard, strlen(questions[i].heard), questions[i].number, 0,
+            questions[i].events);
+    }
+}
+
+/* Document 01's example, `weights` and `high`. */
+static void questions(void)
+{
+    static const struct question of_example[] = {
+        {0, "", 0, 1},    {0, "-", 0, 1},     {0, "p", 16, 0},    {1, "", 0, 0},   {5, "", 0, 2},    {5, "-", 0, 2},
+        {5, "p", 16, 0},  {5, "!p", 16, 0},   {6, "!p", 0, 4},    {6, "p", 0, 0},  {6, "", 16, 0},   {6, "-", 16, 0},
+        {7, "!p", 0, 0},  {20, "!p", 0, 0},   {20, "p", 0, 4},    {21, "p", 0, 0}, {61, "p", 0, 0},  {262, "!p", 0, 0},
+        {261, "", 16, 0}, {65535, "", 16, 0}, {65535, "p", 0, 0},
+    };
+    static const struct question of_weights[] = {
+        {0, "", 0, 1},   {1, "!p", 0, 4},  {1, "p", 0, 0},   {1, "", 16, 0},  {1, "p!q", 16, 0}, {2, "p", 0, 2},
+        {2, "!p", 0, 2}, {2, "pq", 16, 0}, {3, "pq", 0, 4},  {3, "qp", 0, 4}, {3, "p!q", 0, 0},  {3, "p", 16, 0},
+        {3, "q", 16, 0}, {7, "p!q", 0, 4}, {7, "!qp", 0, 4}, {7, "pq", 0, 0}, {7, "!p!q", 0, 0}, {7, "q!p", 0, 0},
+    };
+    static const struct question of_high[] = {
+        {0, "", 0, 1}, {232, "", 0, 0}, {1000, "", 0, 2}, {1001, "-", 0, 0}, {0, "p", 15, 0},
+    };
+    uint8_t bytes[24];
+    struct handed handed = {example, strlen(example), bytes, pairs(bytes, opened, 6)};
+    due_by_hand(handed, of_example, sizeof of_example / sizeof of_example[0]);
+    handed = (struct handed){weights, strlen(weights), bytes, pairs(bytes, weights_opened, 12)};
+    due_by_hand(handed, of_weights, sizeof of_weights / sizeof of_weights[0]);
+    handed = (struct handed){high, strlen(high), bytes, pairs(bytes, high_opened, 2)};
+    due_by_hand(handed, of_high, sizeof of_high / sizeof of_high[0]);
+}
+
+/* Texts that are no list of the sheet's one letter. */
+static const struct {
+    size_t length;
+    const char *text;
+} ill_told[] = {
+    {1, "q"},     {1, "o"},    {2, "pq"},   {2, "qp"},  {3, "p!q"}, {2, "pp"},  {3, "p!p"}, {3, "!pp"}, {4, "!p!p"}, {1, "P"},
+    {2, "!P"},    {1, "!"},    {2, "!!"},   {3, "!!p"}, {2, "p!"},  {3, "p!!"}, {1, " "},   {2, "p "},  {2, " p"},   {2, "-p"},
+    {2, "p-"},    {3, "-!p"},  {2, "--"},   {2, "!-"},  {2, "-!"},  {3, "!-p"}, {1, "\n"},  {2, "p\n"}, {2, "-\n"},  {2, "\r\n"},
+    {1, "\0"},    {2, "p\0"},  {2, "\0p"},  {3, "p\0p"}, {3, "p,q"}, {1, "1"},   {2, "p1"},  {1, "`"},   {1, "{"},    {1, "\xff"},
+    {2, "\xf0p"}, {1, "+"},    {2, "+p"},
+};
+
+/* 15 in each of its shapes, and the order of 11, 14, 15 and 16; the second table uses the signal in the minute it is given. */
+static void questions_turned_away(void)
+{
+    static char many[300];
+    uint8_t bytes[14] = {0}, failing[12];
+    const struct handed good = {example, strlen(example), bytes, pairs(bytes, opened, 6)};
+    const struct handed fails = {example, strlen(example), failing, pairs(failing, (const uint16_t[]){0, 5, 5, 0, 5, 20}, 6)};
+    memset(many, 'p', sizeof many);
+    for (unsigned minute = 5; minute <= 6; minute++) {
+        for (size_t i = 0; i < sizeof ill_told / sizeof ill_told[0]; i++) {
+            char about[64];
+            sprintf(about, "text %u at %u", (unsigned)i, minute);
+            due(about, good, minute, ill_told[i].text, ill_told[i].length, 15, 0, 0);
+            due(about, fails, minute, ill_told[i].text, ill_told[i].length, 14, 0, 0);
+        }
+        due("256 letters", good, minute, many, 256, 15, 0, 0);
+        due("257 letters", good, minute, many, 257, 15, 0, 0);
+        due("300 letters", good, minute, many, 300, 15, 0, 0);
+        due("14, or 14 before 16", fails, minute, "", 0, 14, 0, 0);
+        for (size_t i = 0; i < sizeof other_lengths / sizeof other_lengths[0]; i++) {
+            const struct handed other = {example, strlen(example), bytes, other_lengths[i]};
+            due("11, or 11 before 16", other, minute, "", 0, 11, 0, 0);
+            due("11 before 15", other, minute, "!", 1, 11, 0, 0);
+        }
+    }
+}
+
+static void listings(void)
+{
+    static const char text[] = "case,start,call,door\nF,0,5,6\nT,0,5,20\n";
+    static const char bad_text[] = "case,start,call,door\nF,65535,10,256\nT,9999,10000,0\n";
+    static const char two_letters[] = "case,start,call,door\nFF,0,2,1\nTF,0,2,7\nFT,0,2,1\nTT,0,2,3\n";
+    static const char high_text[] = "case,start,door\n-,0,1000\n";
+    static const uint16_t bad[] = {65535, 10, 256, 9999, 10000, 0};
+    const size_t exact = strlen(text);
+    uint8_t bytes[24];
+    struct handed handed = {example, strlen(example), bytes, pairs(bytes, opened, 6)};
+    list("listing, exact", handed, exact, 0, 0, text);
+    list("listing, a byte more", handed, exact + 1, 0, 0, text);
+    list("listing, generous", handed, OPENING_LISTING_MOST, 0, 0, text);
+    list("listing, a byte less", handed, exact - 1, 12, 0, NULL);
+    list("listing, one byte", handed, 1, 12, 0, NULL);
+    list("listing, no bytes", handed, 0, 12, 0, NULL);
+    pairs(bytes, bad, 6);
+    list("listing of a table that is not good", handed, strlen(bad_text), 0, 0, bad_text);
+    list("listing of a table that is not good, a byte less", handed, strlen(bad_text) - 1, 12, 0, NULL);
+    handed = (struct handed){no_table, strlen(no_table), bytes, pairs(bytes, opened, 6)};
+    list("listing where no table is good", handed, exact, 0, 0, text);
+    for (size_t i = 0; i < sizeof other_lengths / sizeof other_lengths[0]; i++) {
+        handed = (struct handed){example, strlen(example), bytes, other_lengths[i]};
+        list("listing, 11", handed, ROOM, 11, 0, NULL);
+        list("listing, 11 before 12", handed, 0, 11, 0, NULL);
+    }
+    handed = (struct handed){weights, strlen(weights), bytes, pairs(bytes, weights_opened, 12)};
+    list("listing, two letters", handed, strlen(two_letters), 0, 0, two_letters);
+    handed = (struct handed){high, strlen(high), bytes, pairs(bytes, high_opened, 2)};
+    list("listing, no signal", handed, strlen(high_text), 0, 0, high_text);
+}
+
+/* 16 names of eight letters, four signals, and minutes of five digits: no listing is longer. */
+static void longest_listing(void)
+{
+    static char sheet[OPENING_SHEET_MOST], text[OPENING_SHEET_MOST];
+    static uint8_t bytes[OPENING_TABLE_MOST];
+    size_t end = (size_t)sprintf(sheet, "horizon,60\nevents,16\n"), at = (size_t)sprintf(text, "case");
+    for (int i = 0; i < 16; i++) {
+        end += (size_t)sprintf(sheet + end, "eventno%c\n", 'a' + i);
+        at += (size_t)sprintf(text + at, ",eventno%c", 'a' + i);
+    }
+    end += (size_t)sprintf(sheet + end, "signals,4\na,eventnoa\nb,eventnob\nc,eventnoc\nd,eventnod\nrules,0\n");
+    at += (size_t)sprintf(text + at, "\n");
+    for (unsigned s = 0; s < 16; s++) {
+        for (unsigned p = 0; p < 4; p++)
+            at += (size_t)sprintf(text + at, "%c", s >> p & 1 ? 'T' : 'F');
+        for (unsigned u = 0; u < 16; u++) {
+            const uint16_t minute = (uint16_t)(65535 - 16 * s - u);
+            at += (size_t)sprintf(text + at, ",%u", minute);
+            pairs(bytes + 2 * (16 * s + u), &minute, 1);
+        }
+        at += (size_t)sprintf(text + at, "\n");
+    }
+    const struct handed handed = {sheet, end, bytes, sizeof bytes};
+    expect("longest listing", "its length", at, OPENING_LISTING_MOST);
+    list("longest listing, exact", handed, OPENING_LISTING_MOST, 0, 0, text);
+    list("longest listing, a byte less", handed, OPENING_LISTING_MOST - 1, 12, 0, NULL);
+}
+
+static void house_forms(void)
+{
+    static const char form[] = HEAD "max,start,door,30,-\nmax,call,start,-5,-\nmax,door,call,-15,p\n";
+    static const char typed[] = "horizon,60\nevents,3\nstart\ncall\ndoor\nsignals,2\nq,call\np,door\nrules,5\n"
+                                "fix,call,door,0,p!q\nmin,start,door,7,-\nmax,call,door,4,!qp\nmin,start,door,9,-\n"
+                                "max,start,start,0,q\n";
+    static const char merged[] = "horizon,60\nevents,3\nstart\ncall\ndoor\nsignals,2\nq,call\np,door\nrules,4\n"
+                                 "max,start,start,0,q\nmax,call,door,0,!qp\nmax,door,start,-9,-\nmax,door,call,0,!qp\n";
+    const size_t exact = strlen(form);
+    house("house form, exact", example, strlen(example), exact, 0, 0, form);
+    house("house form, a byte more", example, strlen(example), exact + 1, 0, 0, form);
+    house("house form, generous", example, strlen(example), OPENING_SHEET_MOST, 0, 0, form);
+    house("house form, a byte less", example, strlen(example), exact - 1, 12, 0, NULL);
+    house("house form, no bytes", example, strlen(example), 0, 12, 0, NULL);
+    house("house form of a form", form, strlen(form), exact, 0, 0, form);
+    house("house form, shorter than its sheet", typed, strlen(typed), strlen(merged), 0, 0, merged);
+    house("house form, shorter than its sheet, a byte less", typed, strlen(typed), strlen(merged) - 1, 12, 0, NULL);
+}
+
+/* A sheet of `fix` rules, each between two events of its own, and the form, in which each leaves two rows; for an odd number of
+ * rows the last rule is a `max`, which leaves one. */
+static void sheet_with_rows(char *sheet, char *form, unsigned rows)
+{
+    int limit[16][16] = {{0}};
+    size_t end = (size_t)sprintf(sheet, "horizon,60\nevents,16\n");
+    for (int i = 0; i < 16; i++)
+        end += (size_t)sprintf(sheet + end, "e%d\n", i);
+    end += (size_t)sprintf(sheet + end, "signals,0\n");
+    memcpy(form, sheet, end);
+    size_t at = end + (size_t)sprintf(form + end, "rules,%u\n", rows);
+    end += (size_t)sprintf(sheet + end, "rules,%u\n", (rows + 1) / 2);
+    for (int left = (int)rows, from = 15, to = 0; left > 0; left -= 2) {
+        end += (size_t)sprintf(sheet + end, "%s,e%d,e%d,%d,-\n", left == 1 ? "max" : "fix", from, to, left);
+        limit[from][to] = left;
+        limit[to][from] = left == 1 ? 0 : -left;
+        if (++to == from) {
+            from--;
+            to = 0;
+        }
+    }
+    for (int from = 0; from < 16; from++) {
+        for (int to = 0; to < 16; to++) {
+            if (limit[from][to] != 0)
+                at += (size_t)sprintf(form + at, "max,e%d,e%d,%d,-\n", from, to, limit[from][to]);
+        }
+    }
+}
+
+/* 64 rows may be left, 65 may not, and that is said before 12. */
+static void rows_left(void)
+{
+    static char sheet[OPENING_SHEET_MOST], form[OPENING_SHEET_MOST];
+    sheet_with_rows(sheet, form, 63);
+    house("63 rows", sheet, strlen(sheet), strlen(form), 0, 0, form);
+    sheet_with_rows(sheet, form, 64);
+    house("64 rows, exact", sheet, strlen(sheet), strlen(form), 0, 0, form);
+    house("64 rows, a byte less", sheet, strlen(sheet), strlen(form) - 1, 12, 0, NULL);
+    sheet_with_rows(sheet, form, 65);
+    house("65 rows", sheet, strlen(sheet), OPENING_SHEET_MOST, 17, 0, NULL);
+    house("65 rows, a byte less: 17 comes first", sheet, strlen(sheet), strlen(form) - 1, 17, 0, NULL);
+    house("65 rows, no bytes: 17 comes first", sheet, strlen(sheet), 0, 17, 0, NULL);
+    strcat(sheet, "x");
+    house("65 rows and a byte: 10 comes first", sheet, strlen(sheet), OPENING_SHEET_MOST, 10, 54, NULL);
 }
 
 /* 16 events, 4 signals: 256 minutes in 512 bytes, so that both bytes of their count are used. Event i waits for minute i. */
@@ -347,6 +725,7 @@ static void largest_table(void)
     end += (size_t)sprintf(sheet + end, "signals,4\na,e1\nb,e2\nc,e3\nd,e4\nrules,15\n");
     for (int i = 1; i < 16; i++)
         end += (size_t)sprintf(sheet + end, "min,start,e%d,%d,-\n", i, i);
+    play(sheet, 16, "abcd", (const unsigned[]){1, 2, 3, 4});
     for (size_t i = 0; i < 256; i++)
         minutes[i] = (uint16_t)(i % 16);
     solve("256 minutes, exact", sheet, end, 512, 0, 0, minutes, 256);
@@ -386,10 +765,17 @@ int main(void)
     two_signals_apart();
     judge_lengths();
     largest_table();
+    played_tables();
+    questions();
+    questions_turned_away();
+    listings();
+    longest_listing();
+    house_forms();
+    rows_left();
     solve_then_judge(example);
     solve_then_judge(signal_last);
     solve_then_judge(two_signals);
     solve_then_judge(high);
-    printf("bench: %u calls, all answers and all lent bytes as document 01 asks\n", calls);
+    printf("bench: %u calls, all answers and all lent bytes as the papers ask\n", calls);
     return 0;
 }
