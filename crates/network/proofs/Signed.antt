@@ -12,7 +12,7 @@ use mir.Val.{Fits, SFits, toZ, ofZ}
 use mir.Facts.{toZ-pos, toZ-ofZ}
 use Rattle.prelude.proofs.Tests.{by-cond}
 use Rattle.network.specs.WellFormed.{InLimits}
-use Rattle.network.specs.Raised.{raised, lowered}
+use Rattle.network.specs.Biased.{biased, unbiased}
 
 -- a limit fits an i32, and is read back from it
 pub limit-fits : (w : ℤ) → InLimits w → SFits w32 w
@@ -45,11 +45,11 @@ module _ (w : ℤ) (h : InLimits w) where
   pub negated-limit : InLimits (toZ w32 (ofZ w32 negated))
   negated-limit = rw negated-read (neg-limit w h)
 
-pub raised-few : (w : ℤ) → InLimits w → raised w ≤ 20160
-raised-few (pos w) h = omega arith
-raised-few (negsuc w) h = omega arith
+pub biased-few : (w : ℤ) → InLimits w → biased w ≤ 20160
+biased-few (pos w) h = omega arith
+biased-few (negsuc w) h = omega arith
 
-sum-is : (w : ℤ) → InLimits w → w +ℤ pos 10080 ≡ pos (raised w)
+sum-is : (w : ℤ) → InLimits w → w +ℤ pos 10080 ≡ pos (biased w)
 sum-is (pos w) h = ap pos (omega arith)
 sum-is (negsuc w) h = rw (le-ltb 10080 (suc w) h)
 
@@ -72,21 +72,21 @@ module _ (w : ℤ) (h : InLimits w) where
   abbrev sum : ℤ
   sum = toZ w32 (ofZ w32 w) +ℤ pos 10080
 
-  total : sum ≡ pos (raised w)
+  total : sum ≡ pos (biased w)
   total = rw (read-back w h) (sum-is w h)
 
   pub sum-fits : SFits w32 sum
-  sum-fits = unsigned-fits sum (raised w) total (raised-few w h)
+  sum-fits = unsigned-fits sum (biased w) total (biased-few w h)
 
   pub sum-cast : T (nonNeg (toZ w32 (ofZ w32 sum))) × Fits w16 (natAbs (toZ w32 (ofZ w32 sum)))
-  sum-cast = unsigned-cast sum (raised w) total (raised-few w h)
+  sum-cast = unsigned-cast sum (biased w) total (biased-few w h)
 
-  pub sum-value : natAbs (toZ w32 (ofZ w32 sum)) ≡ raised w
-  sum-value = unsigned-value sum (raised w) total (raised-few w h)
+  pub sum-value : natAbs (toZ w32 (ofZ w32 sum)) ≡ biased w
+  sum-value = unsigned-value sum (biased w) total (biased-few w h)
 
 -- 10,080 less, as the code subtracts it from a number of 16 bits
 module _ (v : ℕ) (h : v < 65536) where
-  less-is : toZ w32 v -ℤ pos 10080 ≡ lowered v
+  less-is : toZ w32 v -ℤ pos 10080 ≡ unbiased v
   less-is = ap (λ (z : ℤ). z -ℤ pos 10080) (toZ-pos w32 {n = v} (omega arith))
 
   pub less-fits : SFits w32 (toZ w32 v -ℤ pos 10080)
@@ -96,17 +96,17 @@ module _ (v : ℕ) (h : v < 65536) where
       (λ e. record { sfits = omega arith })
       (λ e. record { sfits = omega arith }))
 
-  pub less-value : toZ w32 (ofZ w32 (toZ w32 v -ℤ pos 10080)) ≡ lowered v
+  pub less-value : toZ w32 (ofZ w32 (toZ w32 v -ℤ pos 10080)) ≡ unbiased v
   less-value = toZ-ofZ less-fits ∙ less-is
 
--- limits are ordered as they are raised
-pub le-raised : (v w : ℤ) → InLimits v → InLimits w → raised v ≤ raised w → v ≤ℤ w
-le-raised (pos v) (pos w) h l k = record { le = le→leb v w (omega arith) }
-le-raised (pos v) (negsuc w) h l k = absurd (omega arith)
-le-raised (negsuc v) (pos w) h l k = record { le = tt }
-le-raised (negsuc v) (negsuc w) h l k = record { le = le→leb w v (omega arith) }
+-- limits are ordered as they are biased
+pub le-biased : (v w : ℤ) → InLimits v → InLimits w → biased v ≤ biased w → v ≤ℤ w
+le-biased (pos v) (pos w) h l k = record { le = le→leb v w (omega arith) }
+le-biased (pos v) (negsuc w) h l k = absurd (omega arith)
+le-biased (negsuc v) (pos w) h l k = record { le = tt }
+le-biased (negsuc v) (negsuc w) h l k = record { le = le→leb w v (omega arith) }
 
--- raised and lowered, a limit is as it was
-pub lowered-raised : (w : ℤ) → InLimits w → lowered (raised w) ≡ w
-lowered-raised (pos w) h = rw (le-ltb (10080 + w) 10080 (omega arith)) (ap pos (omega arith))
-lowered-raised (negsuc w) h = rw (lt-ltb (10080 - suc w) 10080 (omega arith)) (ap negsuc (omega arith))
+-- biased and unbiased, a limit is as it was
+pub unbiased-biased : (w : ℤ) → InLimits w → unbiased (biased w) ≡ w
+unbiased-biased (pos w) h = rw (le-ltb (10080 + w) 10080 (omega arith)) (ap pos (omega arith))
+unbiased-biased (negsuc w) h = rw (lt-ltb (10080 - suc w) 10080 (omega arith)) (ap negsuc (omega arith))

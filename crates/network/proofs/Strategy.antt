@@ -1,14 +1,32 @@
 -- The reaction time, and what is known when. Proofs elsewhere use these laws, and not the text of `reaction` and
 -- `known`. Assumes nothing.
-use mathlib.Core.Path.{_≡_}
+use mathlib.Core.Path.{_≡_, refl, _∙_, ap}
 use mathlib.Core.Bool.{true, false}
 use mathlib.Core.List.{List}
-use Prim.Native.Nat.{ℕ, _≤_, _<_}
+use Prim.Native.Nat.{ℕ, _+_, _*_, _≤_, _<_}
 use native.Mathlib.Omega.{arith}
 use borrow.Author.Tests.{leb-true, leb-false, le-leb, lt-leb}
-use Rattle.network.specs.Build.{observation}
-use Rattle.network.specs.Strategy.{time, reaction, knownFrom, known}
+use lib.ListN.{length}
+use Rattle.prelude.proofs.Cells.{cell-lt}
+use Rattle.network.specs.Limits as L
+use Rattle.network.specs.Build.{observation, scenarios, cells}
+use Rattle.network.specs.Strategy.{time, knownAfter, reaction, knownFrom, known}
 use Rattle.network.specs.declared.Network.{Network}
+
+-- every event of a scenario has its cell in a table of the network's size
+pub cell-in : (Γ : Network) (σ : List ℕ) → length σ ≡ cells Γ → (s u : ℕ) → s < scenarios Γ → u < Γ .events
+    → s * Γ .events + u < length σ
+cell-in Γ σ e s u h l = rw e (cell-lt (Γ .events) (scenarios Γ) s u h l)
+
+-- the reaction is the same for every signal
+pub reaction-is : (Γ : Network) (p : ℕ) → L.reaction ≡ reaction Γ p
+unfolding reaction
+reaction-is Γ p = refl
+
+-- so the time that is reckoned with it is that from which on p is known
+pub known-after-is : (Γ : Network) (σ : List ℕ) (s p : ℕ) {k : ℕ}
+    → k ≡ knownAfter (Γ .events) σ s (observation Γ p) L.reaction → k ≡ knownFrom Γ σ s p
+known-after-is Γ σ s p e = e ∙ ap (knownAfter (Γ .events) σ s (observation Γ p)) (reaction-is Γ p)
 
 -- nothing is known in the minute in which it is observed
 pub reaction-some : (Γ : Network) (p : ℕ) → 1 ≤ reaction Γ p

@@ -13,7 +13,7 @@ use Rattle.network.specs.declared.Limits.{Limits}
 
 -- document 01's numbers, as the code's struct
 abbrev pub limits : Limits
-limits = record { horizon = L.horizon; events = L.events; signals = L.signals; rules = L.rules }
+limits = record { horizon = L.horizon; events = L.events; signals = L.signals; rules = L.rules; reaction = L.reaction }
 
 -- what stands where no constraint does
 abbrev pub noConstraint : Constraint

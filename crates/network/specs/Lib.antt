@@ -1,5 +1,5 @@
 -- The model. Read in this order: the limits, how a network is built, scenarios, constraints, strategies, what makes a
--- strategy a solution, the least one; what every network that was read keeps; and limits raised by 10,080.
+-- strategy a solution, the least one; what every network that was read keeps; and limits plus 10,080.
 pub mod Limits
 pub mod Build
 pub mod Scenario
@@ -8,4 +8,4 @@ pub mod Strategy
 pub mod Solution
 pub mod Least
 pub mod WellFormed
-pub mod Raised
+pub mod Biased

@@ -1,26 +1,37 @@
 -- Execution strategies (004, Definition 6): a time for each event in each scenario. Document 01 calls one a table,
 -- its times minutes.
-use mathlib.Core.Bool.{Bool}
+use mathlib.Core.Bool.{Bool, not}
 use mathlib.Core.List.{List}
 use Prim.Native.Nat.{ℕ, _+_, _*_}
 use lib.Dec.{leb}
 use lib.ListN.{getD}
+use Rattle.prelude.specs.Bounded.{minWhere}
+use Rattle.network.specs.Limits as L
 use Rattle.network.specs.Build.{observation}
+use Rattle.network.specs.Scenario.{agree}
 use Rattle.network.specs.declared.Network.{Network}
 
 -- the time of event u in scenario s, of n events: "case 0 first, events in sheet order"
 abbrev pub time : ℕ → List ℕ → ℕ → ℕ → ℕ
 time n σ s u = getD σ (s * n + u) 0
 
--- "a signal given at minute 5 may change what happens from minute 6 on": the reaction time (004, Definition 13)
+-- from when on what event u tells is known in s, where it is trusted after x minutes
+abbrev pub knownAfter : ℕ → List ℕ → ℕ → ℕ → ℕ → ℕ
+knownAfter n σ s u x = time n σ s u + x
+
+-- after how many minutes p is known: the reaction time (004, Definition 13)
 unfoldable pub reaction : Network → ℕ → ℕ
-reaction Γ p = 1
+reaction Γ p = L.reaction
 
 module _ (Γ : Network) (σ : List ℕ) where
   -- from when on the truth of p is known in s
   abbrev pub knownFrom : ℕ → ℕ → ℕ
-  knownFrom s p = time (Γ .events) σ s (observation Γ p) + reaction Γ p
+  knownFrom s p = knownAfter (Γ .events) σ s (observation Γ p) (reaction Γ p)
 
   -- whether it is known at the time m; document 01 says heard
   abbrev pub known : ℕ → ℕ → ℕ → Bool
   known s p m = leb (knownFrom s p) m
+
+  -- the least of m and the times from which on, in s, one of the k first propositions is known on which s and r differ
+  abbrev pub leastKnown : ℕ → ℕ → ℕ → ℕ → ℕ
+  leastKnown s r m k = minWhere k (λ p. not (agree s r p)) (knownFrom s) m

@@ -6,7 +6,11 @@ ghost use Rattle.network.specs.Limits as L;
 ghost use Rattle.network.specs.Scenario as S;
 ghost use Rattle.network.specs.Build.{limits, empty};
 ghost use Rattle.network.specs.WellFormed.{InLimits};
-ghost use Rattle.network.specs.Raised as R;
+ghost use Rattle.network.specs.Biased as B;
+ghost use Rattle.network.specs.Constraint as C;
+ghost use Rattle.network.specs.declared.Network.{Network};
+
+pub mod times;
 
 // What a rule says of the difference between its two times.
 pub enum Kind {
@@ -48,12 +52,13 @@ pub struct Network {
     pub constraints: [Constraint; Network::RULES],
 }
 
-// The most of each that a network holds.
+// The most of each that a network holds, and the reaction of its signals.
 pub struct Limits {
     pub horizon: u16,
     pub events: usize,
     pub signals: usize,
     pub rules: usize,
+    pub reaction: u16,
 }
 
 impl Network {
@@ -64,6 +69,9 @@ impl Network {
     pub const SIGNALS: usize = 4;
 
     pub const RULES: usize = 64;
+
+    // How many minutes after its event a signal is known.
+    pub const REACTION: u16 = 1;
 
     // As many cases as the signals make, and as many cells as a table then has.
     pub const CASES: usize = 1 << Self::SIGNALS;
@@ -79,6 +87,7 @@ impl Network {
             events: Self::EVENTS,
             signals: Self::SIGNALS,
             rules: Self::RULES,
+            reaction: Self::REACTION,
         }
     }
 
@@ -111,7 +120,7 @@ impl Network {
 }
 
 // Whether s satisfies the label: all of its true letters, and none of its false ones.
-pub fn satisfies(s: usize, label: Label) -> bool
+fn satisfies(s: usize, label: Label) -> bool
     requires { ⌜ (s < L.cases) × (label .positive < L.cases) × (label .negative < L.cases) ⌝ }
     ensures { λ r. ⌜ r ≡ S.satisfies s label ⌝ }
 {
@@ -121,6 +130,15 @@ pub fn satisfies(s: usize, label: Label) -> bool
         return false;
     }
     s & negative == 0
+}
+
+// Whether the constraint counts in s.
+pub fn covers(constraint: Constraint, s: usize) -> bool
+    requires { ⌜ (s < L.cases) × (constraint .label .positive < L.cases) × (constraint .label .negative < L.cases) ⌝ }
+    ensures { λ r. ⌜ ((Γ : Network) → r ≡ C.covers Γ constraint s) ⌝ }
+{
+    let label = constraint.label;
+    satisfies(s, label)
 }
 
 // How many scenarios so many propositions have.
@@ -140,16 +158,16 @@ pub fn cell_count(events: usize, signals: usize) -> usize
 }
 
 // The limit plus 10,080, so never negative.
-pub fn raised(bound: i32) -> u16
+pub fn biased(bound: i32) -> u16
     requires { ⌜ InLimits bound ⌝ }
-    ensures { λ r. ⌜ r ≡ R.raised bound ⌝ }
+    ensures { λ r. ⌜ r ≡ B.biased bound ⌝ }
 {
     (bound + Network::HORIZON as i32) as u16
 }
 
-// The limit that was raised to v.
-pub fn lowered(v: u16) -> i32
-    ensures { λ r. ⌜ r ≡ R.lowered v ⌝ }
+// The limit that, so biased, is v.
+pub fn unbiased(v: u16) -> i32
+    ensures { λ r. ⌜ r ≡ B.unbiased v ⌝ }
 {
     v as i32 - Network::HORIZON as i32
 }

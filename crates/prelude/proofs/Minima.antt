@@ -1,12 +1,15 @@
--- Laws of guarded minima: no guarded value is less, the least is one of them or top, one number more, and what it
--- depends on. Assumes nothing.
-use mathlib.Core.Path.{_≡_, refl}
+-- Laws of guarded minima: no guarded value is less, the least is one of them or top, one number more, what it depends
+-- on, and what comes before it. Assumes nothing.
+use mathlib.Core.Path.{_≡_, refl, sym, _∙_}
 use mathlib.Core.Logic.{_⊎_, inl, inr}
-use mathlib.Core.Bool.{Bool, true, false}
+use mathlib.Core.Bool.{Bool, true, false, _&&_, _||_, not, cond}
+use mathlib.Core.Bool.{and-true as and-true-right, and-false as and-false-right}
 use Prim.Native.Nat.{ℕ, zero, suc, _+_, _≤_, _<_, min}
 use native.Mathlib.Numerals.{add-one}
 use native.Mathlib.Omega.{arith}
-use Rattle.prelude.specs.Bounded.{minWhere}
+use borrow.Author.Tests.{le-ltb, lt-ltb, leb-true, leb-false, ltb-true, ltb-false}
+use lib.Dec.{leb, ltb}
+use Rattle.prelude.specs.Bounded.{allBelow, minWhere}
 use Rattle.prelude.proofs.Tests.{either, eq-or-ne, lt-or-ge}
 
 module _ (test : ℕ → Bool) (f : ℕ → ℕ) (top : ℕ) where
@@ -94,6 +97,18 @@ minWhere-ext test other f g top (suc n) t h =
       minWhere-ext test other f g top n (λ k l. t k (omega arith)) (λ k l. h k (omega arith)),
     )
 
+-- numbers from k on that do not count change nothing
+pub minWhere-fewer : (test : ℕ → Bool) (f : ℕ → ℕ) (top k n : ℕ) → k ≤ n
+    → ((j : ℕ) → k ≤ j → j < n → test j ≡ false) → minWhere n test f top ≡ minWhere k test f top
+minWhere-fewer test f top k zero l h = let none : k ≡ 0 = omega arith in rw none
+minWhere-fewer test f top k (suc n) l h =
+    elim (eq-or-ne k (suc n)) [
+      | inl e ↦ rw e
+      | inr e ↦
+          skips test f top n (h n (omega arith) (omega arith))
+          ∙ minWhere-fewer test f top k n (omega arith) (λ j a b. h j a (omega arith))
+    ]
+
 -- with a lesser top it is the lesser of that and it
 pub minWhere-lesser : (test : ℕ → Bool) (f : ℕ → ℕ) (m top n : ℕ) → m ≤ top
     → minWhere n test f m ≡ min m (minWhere n test f top)
@@ -115,3 +130,21 @@ minWhere-near test f g a b c (suc n) l h =
       | inl e ↦ omega (arith, counts test f a n e, counts test g b n e, h n (omega arith) e)
       | inr e ↦ omega (arith, skips test f a n e, skips test g b n e)
     ]
+
+-- a number below top comes before it exactly where it comes before each value that is not passed over
+pub before-minWhere : (over : ℕ → Bool) (f : ℕ → ℕ) (top t n : ℕ) → t < top
+    → ltb t (minWhere n (λ k. not (over k)) f top) ≡ allBelow n (λ k. over k || not (leb (f k) t))
+before-minWhere over f top t zero l = lt-ltb t top l
+before-minWhere over f top t (suc n) l =
+    one-more (minWhere n (λ k. not (over k)) f top) (f n) (over n) ∙ rw (before-minWhere over f top t n l) where
+      one-more : (m v : ℕ) (b : Bool) → ltb t (cond (not b) (min m v) m) ≡ ltb t m && (b || not (leb v t))
+      one-more m v true = sym (and-true-right (ltb t m))
+      one-more m v false =
+          elim (either (leb v t)) [
+            | inl e ↦ rw (e, le-ltb t (min m v) (omega (arith, leb-true v t e))) (sym (and-false-right (ltb t m)))
+            | inr e ↦
+                elim (either (ltb t m)) [
+                  | inl d ↦ rw (e, d, lt-ltb t (min m v) (omega (arith, ltb-true t m d, leb-false v t e)))
+                  | inr d ↦ rw (e, d, le-ltb t (min m v) (omega (arith, ltb-false t m d)))
+                ]
+          ]

@@ -13,7 +13,7 @@ use Rattle.prelude.proofs.Lists.{in-place, each-in}
 use Rattle.prelude.proofs.Gather.{Silent}
 use Rattle.network.specs.Build.{noConstraint}
 use Rattle.network.specs.declared.Constraint.{Constraint}
-use Rattle.network.proofs.Signed.{le-raised}
+use Rattle.network.proofs.Signed.{le-biased}
 use Rattle.tighten.specs.declared.Numbers.{Numbers}
 use Rattle.tighten.specs.Tightest.{rank, tightest}
 use Rattle.tighten.specs.Numbers.{perKey, numberOf, rowOf, top, leastBelow}
@@ -101,7 +101,7 @@ module _ {xs : List Constraint} (r : Numbers) (regular : Each Regular xs noConst
         key = refl;
         least = λ y w p.
             let q = each-in Regular regular w in
-            le-raised (row .bound) (y .bound) (row-regular .numbered .bound) (q .numbered .bound)
+            le-biased (row .bound) (y .bound) (row-regular .numbered .bound) (q .numbered .bound)
             (omega (arith, least-row y w (omega (arith, p, rank-is, least-from)), is-least, p));
       }
 

@@ -1,6 +1,6 @@
 -- Rows that are upper bounds and have a number: the number tells the row, its order among rows of one key is that of
 -- the limits, and the rows of every network that was read are such rows. The parts of a key are digits in base 16,
--- and a raised limit is a digit in base 32,768. Assumes nothing.
+-- and a biased limit is a digit in base 32,768. Assumes nothing.
 use mathlib.Core.Path.{_≡_, refl, sym, _∙_, ap}
 use Prim.Native.Nat.{_/_, _%_, _≤_, _<_}
 use native.Mathlib.Omega.{arith}
@@ -8,8 +8,8 @@ use lib.Pow.{pow-mono}
 use Rattle.prelude.specs.Lists.{Each}
 use Rattle.network.specs.Build.{noConstraint, constraint}
 use Rattle.network.specs.WellFormed.{Proper, WellFormed}
-use Rattle.network.specs.Raised.{raised, lowered}
-use Rattle.network.proofs.Signed.{neg-limit, raised-few, lowered-raised}
+use Rattle.network.specs.Biased.{biased, unbiased}
+use Rattle.network.proofs.Signed.{neg-limit, biased-few, unbiased-biased}
 use Rattle.network.specs.declared.Kind.the-variants.{Max}
 use Rattle.network.specs.declared.Constraint.{Constraint}
 use Rattle.network.specs.declared.Network.{Network}
@@ -34,8 +34,8 @@ same-row k f t b p n = λ i. record {
 }
 
 module _ {r : Constraint} (h : Regular r) where
-  few : raised (r .bound) ≤ 20160
-  few = raised-few (r .bound) (h .numbered .bound)
+  few : biased (r .bound) ≤ 20160
+  few = biased-few (r .bound) (h .numbered .bound)
 
   pub rank-lt : rank r < ranks
   rank-lt = let d = h .numbered in omega (arith, d .from-few, d .to-few, d .positive-few, d .negative-few)
@@ -58,10 +58,10 @@ module _ {r : Constraint} (h : Regular r) where
   negative-is : numberOf r / perKey % 16 ≡ r .label .negative
   negative-is = let d = h .numbered in omega (arith, few, d .negative-few)
 
-  bound-is : lowered (numberOf r % perKey) ≡ r .bound
+  bound-is : unbiased (numberOf r % perKey) ≡ r .bound
   bound-is =
-      let e : numberOf r % perKey ≡ raised (r .bound) = omega (arith, few) in
-      ap lowered e ∙ lowered-raised (r .bound) (h .numbered .bound)
+      let e : numberOf r % perKey ≡ biased (r .bound) = omega (arith, few) in
+      ap unbiased e ∙ unbiased-biased (r .bound) (h .numbered .bound)
 
   pub rowOf-numberOf : rowOf (numberOf r) ≡ r
   rowOf-numberOf = same-row (sym (h .kind)) from-is to-is bound-is positive-is negative-is
@@ -69,7 +69,7 @@ module _ {r : Constraint} (h : Regular r) where
 -- a row is told by its key and its limit
 pub row-unique : {x y : Constraint} → Regular x → Regular y → rank x ≡ rank y → x .bound ≡ y .bound → x ≡ y
 row-unique {x} {y} h l k b =
-    let e : numberOf x ≡ numberOf y = omega (arith, k, ap raised b) in
+    let e : numberOf x ≡ numberOf y = omega (arith, k, ap biased b) in
     sym (rowOf-numberOf h) ∙ ap rowOf e ∙ rowOf-numberOf l
 
 -- the rows of a network that was read

@@ -4,7 +4,7 @@ use mathlib.Core.Bool.{cond}
 use Prim.Native.Nat.{ℕ, zero, suc, _+_, _*_, _/_, _%_, _<_, min}
 use lib.IntN.{ℤ}
 use lib.Dec.{leb}
-use Rattle.network.specs.Raised.{raised, lowered}
+use Rattle.network.specs.Biased.{biased, unbiased}
 use Rattle.network.specs.WellFormed.{InLimits}
 use Rattle.network.specs.declared.Label.{Label}
 use Rattle.network.specs.declared.Constraint.{Constraint}
@@ -16,12 +16,12 @@ abbrev pub perKey : ℕ
 perKey = 32768
 
 abbrev pub numberOf : Constraint → ℕ
-numberOf r = rank r * perKey + raised (r .bound)
+numberOf r = rank r * perKey + biased (r .bound)
 
 -- the row that a number stands for: its parts in front of the limit are digits in base 16
 abbrev pub rowOf : ℕ → Constraint
 rowOf v =
-    upper (v / 134217728) (v / 8388608 % 16) (lowered (v % perKey)) (record { positive = v / 524288 % 16; negative = v / perKey % 16 })
+    upper (v / 134217728) (v / 8388608 % 16) (unbiased (v % perKey)) (record { positive = v / 524288 % 16; negative = v / perKey % 16 })
 
 -- each part of the key is a digit in base 16, and the limit is in range
 pub record Numbered (from to : ℕ) (w : ℤ) (ℓ : Label) : Type 0 where

@@ -38,7 +38,7 @@ fn number_of(from: usize, to: usize, bound: i32, label: Label) -> u32
 {
     let ends = from as u32 * 16 + to as u32;
     let key = (ends * 16 + label.positive as u32) * 16 + label.negative as u32;
-    key * 32768 + network::raised(bound) as u32
+    key * 32768 + network::biased(bound) as u32
 }
 
 // The row of a number: each part of its key is a digit in base 16 in front of the 32,768 numbers that a key has for
@@ -50,7 +50,7 @@ fn row_of(number: u32) -> Constraint
         kind: Kind::Max,
         from: (number / 134217728) as usize,
         to: (number / 8388608 % 16) as usize,
-        bound: network::lowered((number % 32768) as u16),
+        bound: network::unbiased((number % 32768) as u16),
         label: Label {
             positive: (number / 524288 % 16) as u8,
             negative: (number / 32768 % 16) as u8,

@@ -3,7 +3,7 @@
 use mathlib.Core.Path.{_∙_, ap}
 use Prim.Native.Nat.{ℕ, _+_, _*_}
 use borrow.Author.Needs.{needs}
-use Rattle.network.specs.Raised.{raised}
+use Rattle.network.specs.Biased.{biased}
 use Rattle.network.proofs.Signed.{read-back}
 use Rattle.tighten.specs.Upper.{upper}
 use Rattle.tighten.specs.Tightest.{rank}
@@ -44,8 +44,8 @@ add-key-2 c = search needs
 mul-result : tie.Need-mul-result
 mul-result c = search needs
 
-raised-requires : tie.Need-raised-requires
-raised-requires c κs = search needs
+biased-requires : tie.Need-biased-requires
+biased-requires c κs = search needs
 
 cast-result : tie.Need-cast-result
 cast-result c = search needs
@@ -57,7 +57,7 @@ returns : tie.Need-returns
 returns c =
     let z = c .before .before .before in
     ap (λ (v : ℕ). rank (upper (z .args .from) (z .args .to) (z .args .bound) (z .args .label)) * perKey + v)
-    (c .raised .ensures ∙ ap raised (read-back (z .args .bound) (z .pre .bound)))
+    (c .biased .ensures ∙ ap biased (read-back (z .args .bound) (z .pre .bound)))
 
 pub number-of-spec : {M : Type 1} → statement M
 number-of-spec =
@@ -74,7 +74,7 @@ number-of-spec =
     cast-key-2
     add-key-2
     mul-result
-    raised-requires
+    biased-requires
     cast-result
     add-result
     returns)

@@ -16,11 +16,11 @@ cast-t4 c = search needs
 cast-t7 : tie.Need-cast-t7
 cast-t7 c = search needs
 
-cast-lowered : tie.Need-cast-lowered
-cast-lowered c = search needs
+cast-unbiased : tie.Need-cast-unbiased
+cast-unbiased c = search needs
 
-lowered-requires : tie.Need-lowered-requires
-lowered-requires c κs = search needs
+unbiased-requires : tie.Need-unbiased-requires
+unbiased-requires c κs = search needs
 
 cast-t13 : tie.Need-cast-t13
 cast-t13 c = search needs
@@ -30,11 +30,11 @@ cast-t16 c = search needs
 
 returns : tie.Need-returns
 returns c =
-    let e : toZ w32 (ofZ w32 (c .lowered .result)) ≡ c .lowered .result = search needs in
+    let e : toZ w32 (ofZ w32 (c .unbiased .result)) ≡ c .unbiased .result = search needs in
     let v = c .before .args .number in
     ap (λ (w : ℤ). upper (v / 134217728) (v / 8388608 % 16) w (record { positive = v / 524288 % 16; negative = v / perKey % 16 }))
-    (e ∙ c .lowered .ensures)
+    (e ∙ c .unbiased .ensures)
 
 pub row-of-spec : {M : Type 1} → statement M
 row-of-spec =
-    tie.close (tie.spec cast-t4 cast-t7 cast-lowered lowered-requires cast-t13 cast-t16 returns)
+    tie.close (tie.spec cast-t4 cast-t7 cast-unbiased unbiased-requires cast-t13 cast-t16 returns)

@@ -2,8 +2,8 @@
 -- nothing.
 use borrow.Author.Needs.{needs}
 use Rattle.network.proofs.Signed.{sum-fits, sum-cast, sum-value}
-use Rattle.network.proofs.raised.Statement.{statement}
-use Rattle.network.proofs.raised.Tie as tie
+use Rattle.network.proofs.biased.Statement.{statement}
+use Rattle.network.proofs.biased.Tie as tie
 
 cast-result : tie.Need-cast-result
 cast-result c = search needs
@@ -17,5 +17,5 @@ cast-result-2 c = sum-cast (c .args .bound) (c .pre)
 returns : tie.Need-returns
 returns c = sum-value (c .args .bound) (c .pre)
 
-pub raised-spec : {M : Type 1} → statement M
-raised-spec = tie.close (tie.spec cast-result add-result cast-result-2 returns)
+pub biased-spec : {M : Type 1} → statement M
+biased-spec = tie.close (tie.spec cast-result add-result cast-result-2 returns)

@@ -2,8 +2,8 @@
 use native.Mathlib.Omega.{arith}
 use borrow.Author.Needs.{needs}
 use Rattle.network.proofs.Signed.{less-fits, less-value}
-use Rattle.network.proofs.lowered.Statement.{statement}
-use Rattle.network.proofs.lowered.Tie as tie
+use Rattle.network.proofs.unbiased.Statement.{statement}
+use Rattle.network.proofs.unbiased.Tie as tie
 
 cast-result : tie.Need-cast-result
 cast-result c = search needs
@@ -17,5 +17,5 @@ sub-result c = less-fits (c .args .v) (omega arith)
 returns : tie.Need-returns
 returns c = less-value (c .args .v) (omega arith)
 
-pub lowered-spec : {M : Type 1} → statement M
-lowered-spec = tie.close (tie.spec cast-result cast-result-2 sub-result returns)
+pub unbiased-spec : {M : Type 1} → statement M
+unbiased-spec = tie.close (tie.spec cast-result cast-result-2 sub-result returns)
