@@ -23,11 +23,11 @@ use Rattle.checker.proofs.Points.{isOnTime-iff, doesHold-iff, isAlike-i
 use Rattle.checker.proofs.Nested.{Decided, decided}
 
 -- a pass has no breach, and a breach is the one that was found
-none-of-pass : (o : Option Breach) → verdictOf o ≡ Pass → o ≡ none
+pub none-of-pass : (o : Option Breach) → verdictOf o ≡ Pass → o ≡ none
 none-of-pass none e = refl
 none-of-pass (some b) e = zero-is-one cc
 
-some-of-breached : (o : Option Breach) (b : Breach) → verdictOf o ≡ Breached b → o ≡ some b
+pub some-of-breached : (o : Option Breach) (b : Breach) → verdictOf o ≡ Breached b → o ≡ some b
 some-of-breached none b e = zero-is-one cc
 some-of-breached (some a) b e = cc
 

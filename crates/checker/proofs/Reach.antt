@@ -2,14 +2,14 @@
 -- table. Assumes nothing.
 use mathlib.Core.Path.{_≡_}
 use mathlib.Core.List.{List}
-use Prim.Native.Nat.{ℕ, _+_, _*_, _≤_, _<_}
+use Prim.Native.Nat.{ℕ, _≤_, _<_}
 use native.Mathlib.Omega.{arith}
 use lib.ListN.{length}
 use lib.Pow.{pow-mono}
-use Rattle.prelude.proofs.Cells.{cell-lt}
 use Rattle.network.specs.Build.{observation, constraint, scenarios, cells}
 use Rattle.network.specs.WellFormed.{WellFormed}
 use Rattle.network.specs.declared.Network.{Network}
+use Rattle.network.proofs.Strategy.{cell-in}
 use Rattle.checker.specs.Plain.{InReach, Observed}
 
 module _ (Γ : Network) (σ : List ℕ) (pre : WellFormed Γ × (length σ ≡ cells Γ)) where
@@ -19,16 +19,13 @@ module _ (Γ : Network) (σ : List ℕ) (pre : WellFormed Γ × (length σ ≡ c
   pub scenario-lt : (s : ℕ) → s < scenarios Γ → s < 16
   scenario-lt s l = omega (arith, few-scenarios)
 
-  pub cell-in : (s u : ℕ) → s < scenarios Γ → u < Γ .events → s * Γ .events + u < length σ
-  cell-in s u l h = rw (pre .1) (cell-lt (Γ .events) (scenarios Γ) s u l h)
-
   pub in-reach : (s c : ℕ) → s < scenarios Γ → c < Γ .rules → InReach (Γ .events) σ s (constraint Γ c)
   in-reach s c l h =
       let proper = pre .0 .proper c h in
       record {
         scenario = scenario-lt s l;
-        from = cell-in s (constraint Γ c .from) l (proper .from);
-        to = cell-in s (constraint Γ c .to) l (proper .to);
+        from = cell-in Γ σ (pre .1) s (constraint Γ c .from) l (proper .from);
+        to = cell-in Γ σ (pre .1) s (constraint Γ c .to) l (proper .to);
         positive = scenario-lt (constraint Γ c .label .positive) (proper .positive);
         negative = scenario-lt (constraint Γ c .label .negative) (proper .negative);
       }
@@ -39,5 +36,5 @@ module _ (Γ : Network) (σ : List ℕ) (pre : WellFormed Γ × (length σ ≡ c
         scenario = scenario-lt s l;
         few = pre .0 .signals;
         array = pre .0 .arrays .observations;
-        inside = λ p h. cell-in s (observation Γ p) l (pre .0 .observed p h);
+        inside = λ p h. cell-in Γ σ (pre .1) s (observation Γ p) l (pre .0 .observed p h);
       }

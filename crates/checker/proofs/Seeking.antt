@@ -1,45 +1,35 @@
 -- The labelled loops. A loop's invariant is `Seeking f n i found`: its search has come to i, and nothing was found.
 -- It goes on past an index (`seeking-on`) or past a whole search within (`past-row`), ends with nothing
 -- (`nothing-found`), and is left from inside with what the inner search hit (`row-hit`). Assumes nothing.
-use mathlib.Core.Path.{_≡_, refl, sym, _∙_, ap}
+use mathlib.Core.Path.{_≡_, sym, _∙_, ap}
 use mathlib.Core.Option.{Option, none, some}
 use Prim.Native.Nat.{ℕ, _+_, _≤_, _<_}
 use Rattle.prelude.specs.Search.{firstBelow}
 use Rattle.prelude.proofs.Search.{Searching, searching-start, searching-on, found-at, found-nothing}
-use Rattle.prelude.proofs.Tests.{zero-is-one}
-use Rattle.checker.specs.Found.{foundOf}
+use Rattle.checker.specs.Verdict.{verdictOf}
 use Rattle.checker.specs.declared.Breach.{Breach}
-use Rattle.checker.specs.declared.Found.{Found}
-use Rattle.checker.specs.declared.Found.the-variants.{Nothing, At}
+use Rattle.checker.specs.declared.Verdict.{Verdict}
+use Rattle.checker.specs.declared.Verdict.the-variants.{Pass}
 
--- what a search of the code answers tells what its definition found
-pub some-of-found : (o : Option Breach) (b : Breach) → foundOf o ≡ At b → o ≡ some b
-some-of-found none b e = zero-is-one cc
-some-of-found (some a) b e = cc
-
-pub none-of-found : (o : Option Breach) → foundOf o ≡ Nothing → o ≡ none
-none-of-found none e = refl
-none-of-found (some a) e = zero-is-one cc
-
-pub record Seeking (f : ℕ → Option Breach) (n i : ℕ) (found : Found) : Type 0 where
+pub record Seeking (f : ℕ → Option Breach) (n i : ℕ) (found : Verdict) : Type 0 where
   pub search : Searching f n i
-  pub nothing : found ≡ Nothing
+  pub nothing : found ≡ Pass
 
-pub seeking-start : (f : ℕ → Option Breach) (n : ℕ) {found : Found} → found ≡ Nothing → Seeking f n 0 found
+pub seeking-start : (f : ℕ → Option Breach) (n : ℕ) {found : Verdict} → found ≡ Pass → Seeking f n 0 found
 seeking-start f n e = record { search = searching-start f n; nothing = e }
 
-module _ {f : ℕ → Option Breach} {n i : ℕ} {found : Found} (here : Seeking f n i found) where
+module _ {f : ℕ → Option Breach} {n i : ℕ} {found : Verdict} (here : Seeking f n i found) where
   pub seeking-on : i < n → f i ≡ none → Seeking f n (i + 1) found
   seeking-on h e = record { search = searching-on (here .search) h e; nothing = here .nothing }
 
-  pub nothing-found : n ≤ i → found ≡ foundOf (firstBelow n f)
-  nothing-found h = here .nothing ∙ ap foundOf (sym (found-nothing (here .search) h))
+  pub nothing-found : n ≤ i → found ≡ verdictOf (firstBelow n f)
+  nothing-found h = here .nothing ∙ ap verdictOf (sym (found-nothing (here .search) h))
 
   pub hit : (b : Breach) → i < n → f i ≡ some b → firstBelow n f ≡ some b
   hit b h e = found-at (here .search) b h e
 
 -- where f's answer at i is that of a search within
-module _ {f g : ℕ → Option Breach} {n m i k : ℕ} {before found : Found} (here : Seeking f n i before)
+module _ {f g : ℕ → Option Breach} {n m i k : ℕ} {before found : Verdict} (here : Seeking f n i before)
     (row : Seeking g m k found) (within : f i ≡ firstBelow m g) where
   pub past-row : i < n → m ≤ k → Seeking f n (i + 1) found
   past-row h e =

@@ -2,17 +2,18 @@
 use network::Constraint;
 use network::Kind;
 use network::Network;
+use network::times;
 ghost use mathlib.Core.Path.{_≡_};
-ghost use Prim.Native.Nat.{_+_, _*_, _^_, _<_, min};
+ghost use Prim.Native.Nat.{_<_, min};
 ghost use lib.ListN.{length};
 ghost use Rattle.network.specs.Limits as L;
 ghost use Rattle.network.specs.Build.{cells};
 ghost use Rattle.network.specs.Scenario as S;
 ghost use Rattle.network.specs.Constraint as C;
-ghost use Rattle.network.specs.Strategy.{time};
+ghost use Rattle.network.specs.Strategy.{leastKnown};
 ghost use Rattle.network.specs.WellFormed.{WellFormed};
-ghost use Rattle.checker.specs.Verdict.{firstLate, firstBroken, firstUnheard, verdict};
-ghost use Rattle.checker.specs.Found.{foundOf};
+ghost use Rattle.network.specs.declared.Network.{Network};
+ghost use Rattle.checker.specs.Verdict.{doesHold, firstLate, firstBroken, firstUnheard, verdictOf, verdict};
 ghost use Rattle.checker.specs.Plain as P;
 
 // Point 1: over the horizon, or an origin that is not at 0. Point 2: a constraint that its scenario covers. Point 3:
@@ -38,20 +39,6 @@ pub enum Verdict {
     Breach(Breach),
 }
 
-// What the search for one point's breach answers.
-enum Found {
-    Nothing,
-    At(Breach),
-}
-
-// The time of event u in scenario s.
-pub fn time_of(table: &[u16], events: usize, s: usize, u: usize) -> u16
-    requires { ⌜ s * events + u < length (now table) ⌝ }
-    ensures { λ r. ⌜ r ≡ time events (now (table .entry)) s u ⌝ }
-{
-    table[s * events + u]
-}
-
 // Point 1 in one cell. The origin's own limit is 0.
 fn on_time(horizon: u16, u: usize, time: u16) -> bool
     ensures { λ r. ⌜ r ≡ P.onTime horizon u time ⌝ }
@@ -63,21 +50,21 @@ fn on_time(horizon: u16, u: usize, time: u16) -> bool
 }
 
 // The first cell that breaks point 1.
-fn first_late(network: Network, table: &[u16]) -> Found
+fn first_late(network: Network, table: &[u16]) -> Verdict
     requires { ⌜ WellFormed network × (length (now table) ≡ cells network) ⌝ }
-    ensures { λ r. ⌜ r ≡ foundOf (firstLate network (now (table .entry))) ⌝ }
+    ensures { λ r. ⌜ r ≡ verdictOf (firstLate network (now (table .entry))) ⌝ }
 {
     let horizon = network.horizon;
     let events = network.events;
     let signals = network.signals;
     let scenarios = network::scenario_count(signals);
-    let mut found = Found::Nothing;
+    let mut found = Verdict::Pass;
     let mut s = 0;
     'late: while s < scenarios {
         let mut u = 0;
         while u < events {
-            if !on_time(horizon, u, time_of(table, events, s, u)) {
-                found = Found::At(Breach::Late {
+            if !on_time(horizon, u, times::time_of(table, events, s, u)) {
+                found = Verdict::Breach(Breach::Late {
                     scenario: s,
                     event: u,
                 });
@@ -105,35 +92,34 @@ fn admits(kind: Kind, a: u16, b: u16, bound: i32) -> bool
 // Point 2 for one constraint in scenario s.
 fn keeps(table: &[u16], events: usize, s: usize, constraint: Constraint) -> bool
     requires { ⌜ P.InReach events (now table) s constraint ⌝ }
-    ensures { λ r. ⌜ r ≡ P.keeps events (now (table .entry)) s constraint ⌝ }
+    ensures { λ r. ⌜ ((Γ : Network) → events ≡ Γ .events → r ≡ doesHold Γ (now (table .entry)) s constraint) ⌝ }
 {
-    let label = constraint.label;
-    if !network::satisfies(s, label) {
+    if !network::covers(constraint, s) {
         return true;
     }
     let kind = constraint.kind;
-    let a = time_of(table, events, s, constraint.from);
-    let b = time_of(table, events, s, constraint.to);
+    let a = times::time_of(table, events, s, constraint.from);
+    let b = times::time_of(table, events, s, constraint.to);
     admits(kind, a, b, constraint.bound)
 }
 
 // The first scenario and constraint that break point 2.
-fn first_broken(network: Network, table: &[u16]) -> Found
+fn first_broken(network: Network, table: &[u16]) -> Verdict
     requires { ⌜ WellFormed network × (length (now table) ≡ cells network) ⌝ }
-    ensures { λ r. ⌜ r ≡ foundOf (firstBroken network (now (table .entry))) ⌝ }
+    ensures { λ r. ⌜ r ≡ verdictOf (firstBroken network (now (table .entry))) ⌝ }
 {
     let events = network.events;
     let rules = network.rules;
     let signals = network.signals;
     let scenarios = network::scenario_count(signals);
-    let mut found = Found::Nothing;
+    let mut found = Verdict::Pass;
     let mut s = 0;
     'broken: while s < scenarios {
         let mut c = 0;
         while c < rules {
             let constraint = network.constraints[c];
             if !keeps(table, events, s, constraint) {
-                found = Found::At(Breach::Rule {
+                found = Verdict::Breach(Breach::Rule {
                     scenario: s,
                     constraint: c,
                 });
@@ -152,14 +138,6 @@ fn agree(s: usize, r: usize, p: usize) -> bool
     ensures { λ b. ⌜ b ≡ S.agree s r p ⌝ }
 {
     ((s ^ r) >> p) & 1 == 0
-}
-
-// From when on the truth of a proposition is known in s, by its observation event: the minute after.
-pub fn known_after(table: &[u16], events: usize, s: usize, observation: usize) -> u32
-    requires { ⌜ s * events + observation < length (now table) ⌝ }
-    ensures { λ r. ⌜ r ≡ P.knownAfter events (now (table .entry)) s observation ⌝ }
-{
-    time_of(table, events, s, observation) as u32 + 1
 }
 
 // The lesser of two times.
@@ -182,14 +160,16 @@ fn apart(
     r: usize,
 ) -> u32
     requires { ⌜ P.Observed events (now table) s (now observations) signals × (r < L.cases) ⌝ }
-    ensures { λ t. ⌜ t ≡ P.apart events (now (table .entry)) s (now (observations .entry)) r signals ⌝ }
+    ensures { λ t. ⌜ ((Γ : Network) → events ≡ Γ .events → now (observations .entry) ≡ Γ .observations
+        → t ≡ leastKnown Γ (now (table .entry)) s r P.never signals) ⌝ }
 {
     let mut first = NEVER;
     let mut p = 0;
     while p < signals {
         if !agree(s, r, p) {
             let observation = observations[p];
-            first = sooner(first, known_after(table, events, s, observation));
+            let known = times::known_after(table, events, s, observation, Network::REACTION);
+            first = sooner(first, known);
         }
         p += 1;
     }
@@ -198,25 +178,24 @@ fn apart(
 
 // The first two scenarios and event that break point 3. Before the scenarios are told apart the event has one time in
 // both.
-fn first_unheard(network: Network, table: &[u16]) -> Found
+fn first_unheard(network: Network, table: &[u16]) -> Verdict
     requires { ⌜ WellFormed network × (length (now table) ≡ cells network) ⌝ }
-    ensures { λ r. ⌜ r ≡ foundOf (firstUnheard network (now (table .entry))) ⌝ }
+    ensures { λ r. ⌜ r ≡ verdictOf (firstUnheard network (now (table .entry))) ⌝ }
 {
     let events = network.events;
-    let signals = network.signals;
     let observations = network.observations;
-    let scenarios = network::scenario_count(signals);
-    let mut found = Found::Nothing;
+    let scenarios = network::scenario_count(network.signals);
+    let mut found = Verdict::Pass;
     let mut s = 0;
     'unheard: while s < scenarios {
         let mut r = 0;
         while r < scenarios {
-            let told = apart(table, &observations, events, signals, s, r);
+            let told = apart(table, &observations, events, network.signals, s, r);
             let mut u = 0;
             while u < events {
-                let time = time_of(table, events, s, u);
-                if (time as u32) < told && time != time_of(table, events, r, u) {
-                    found = Found::At(Breach::Unheard {
+                let time = times::time_of(table, events, s, u);
+                if (time as u32) < told && time != times::time_of(table, events, r, u) {
+                    found = Verdict::Breach(Breach::Unheard {
                         scenario: s,
                         other: r,
                         event: u,
@@ -238,15 +217,15 @@ pub fn check(network: Network, table: &[u16]) -> Verdict
     ensures { λ r. ⌜ r ≡ verdict network (now (table .entry)) ⌝ }
 {
     let late = first_late(network, table);
-    if let Found::At(breach) = late {
+    if let Verdict::Breach(breach) = late {
         return Verdict::Breach(breach);
     }
     let broken = first_broken(network, table);
-    if let Found::At(breach) = broken {
+    if let Verdict::Breach(breach) = broken {
         return Verdict::Breach(breach);
     }
     let unheard = first_unheard(network, table);
-    if let Found::At(breach) = unheard {
+    if let Verdict::Breach(breach) = unheard {
         return Verdict::Breach(breach);
     }
     Verdict::Pass

@@ -1,25 +1,31 @@
--- `apart` meets its contract. The loop's invariant: `first` is the definition's time for the propositions passed; one
--- more that differs may make it sooner. The measure is what is left of the propositions. Assumes nothing.
+-- `apart` meets its contract. The loop's invariant: over any network with these parts, `first` is the definition's
+-- time for the propositions passed; one more that differs may make it sooner. The measure is what is left of the
+-- propositions. Assumes nothing.
 use mathlib.Core.Path.{_≡_, refl, sym, _∙_, ap₂}
+use mathlib.Core.Bool.{Bool, not}
 use mathlib.Core.Logic.{⊎-elim}
-use Prim.Native.Nat.{_-_, _≤_, min}
+use Prim.Native.Nat.{ℕ, _-_, _≤_, min}
 use native.Mathlib.Omega.{arith}
 use borrow.Author.Needs.{needs}
-use borrow.Author.Tests.{not-true, not-false}
 use denote.Ref.{now}
-use Rattle.checker.specs.Plain.{apart}
-use Rattle.checker.proofs.Plain.{apart-agree, apart-differ}
+use Rattle.prelude.proofs.Minima.{minWhere-more, minWhere-skip}
+use Rattle.network.specs.Scenario.{agree}
+use Rattle.network.specs.Strategy.{knownFrom, leastKnown}
+use Rattle.network.specs.declared.Network.{Network}
+use Rattle.checker.specs.Plain.{never}
+use Rattle.checker.proofs.Plain.{known-part}
 use Rattle.checker.proofs.apart.Statement.{statement}
 use Rattle.checker.proofs.apart.Tie as tie
 
 abbrev Inv-loop : tie.InvT-loop
-Inv-loop σ os n k s r first₀ p₀ first p = (p ≤ k) × (first ≡ apart n σ s os r p)
+Inv-loop σ os n k s r first₀ p₀ first p =
+    (p ≤ k) × ((Γ : Network) → n ≡ Γ .events → os ≡ Γ .observations → first ≡ leastKnown Γ σ s r never p)
 
 abbrev μ-loop : tie.MeasureT-loop
 μ-loop σ os n k s r first₀ p₀ first p = k - p
 
 loop-holds : tie.Need-loop-holds Inv-loop μ-loop
-loop-holds c = (omega arith, refl)
+loop-holds c = (omega arith, λ Γ d e. refl)
 
 agree-requires : tie.Need-agree-requires Inv-loop μ-loop
 agree-requires c κs =
@@ -52,24 +58,26 @@ loop-again : tie.Need-loop-again Inv-loop μ-loop
 loop-again c =
     let at-loop = c .before .before .before in
     let a = at-loop .before .before .args in
-    let here = at-loop .loop .inv .1 in
     let p = at-loop .loop .p in
-    let agreed = sym (c .before .agree .ensures) in
-    let os = now (a .observations) in
+    let agreed = c .before .agree .ensures in
+    let differ : ℕ → Bool = λ q. not (agree (a .s) (a .r) q) in
     let σ = now (a .table) in (
       omega arith,
-      ⊎-elim
+      λ Γ d e.
+          let here = at-loop .loop .inv .1 Γ d e in
+          let known = knownFrom Γ σ (a .s) in
+          ⊎-elim
           (λ w.
-          w .4 ∙ w .3 .ensures ∙ ap₂ min here (w .2 .ensures)
-          ∙ apart-differ (a .events) os σ (a .s) (a .r) p (agreed ∙ not-true _ (w .0 .taken)))
-          (λ w. w .1 ∙ here ∙ apart-agree (a .events) os σ (a .s) (a .r) p (agreed ∙ not-false _ (w .0 .left)))
+          w .4 ∙ w .3 .ensures ∙ ap₂ min here (w .2 .ensures ∙ known-part Γ σ (a .s) p d e)
+          ∙ sym (minWhere-more differ known never p (rw (← agreed) (w .0 .taken))))
+          (λ w. w .1 ∙ here ∙ sym (minWhere-skip differ known never p (rw (← agreed) (w .0 .left))))
           (c .if1 .came),
     )
 
 returns : tie.Need-returns Inv-loop μ-loop
 returns c =
     let all : c .before .loop .p ≡ c .before .before .before .args .signals = omega arith in
-    rw (← all) (c .before .loop .inv .1)
+    λ Γ d e. rw (← all) (c .before .loop .inv .1 Γ d e)
 
 pub apart-spec : {M : Type 1} → statement M
 apart-spec =

@@ -5,7 +5,7 @@ use mathlib.Core.Option.{none}
 use borrow.Author.Needs.{needs}
 use denote.Ref.{now}
 use Rattle.checker.specs.Verdict.{firstLate, firstBroken, firstUnheard, verdict}
-use Rattle.checker.proofs.Seeking.{some-of-found, none-of-found}
+use Rattle.checker.proofs.Judged.{none-of-pass, some-of-breached}
 use Rattle.checker.proofs.check.Statement.{statement}
 use Rattle.checker.proofs.check.Tie as tie
 
@@ -14,13 +14,15 @@ no-late : (c : tie.After-enum-told)
     → let a = c .before .before .before .before .args in firstLate (a .network) (now (a .table)) ≡ none
 no-late c =
     let a = c .before .before .before .before .args in
-    none-of-found (firstLate (a .network) (now (a .table))) (sym (c .before .before .first-late .ensures) ∙ c .enum-told .given .1)
+    none-of-pass (firstLate (a .network) (now (a .table)))
+    (sym (c .before .before .first-late .ensures) ∙ c .enum-told .given .1)
 
 no-broken : (c : tie.After-enum-told2)
     → let a = c .before .before .before .before .before .before .before .args in firstBroken (a .network) (now (a .table)) ≡ none
 no-broken c =
     let a = c .before .before .before .before .before .before .before .args in
-    none-of-found (firstBroken (a .network) (now (a .table))) (sym (c .before .before .first-broken .ensures) ∙ c .enum-told2 .given .1)
+    none-of-pass (firstBroken (a .network) (now (a .table)))
+    (sym (c .before .before .first-broken .ensures) ∙ c .enum-told2 .given .1)
 
 first-late-requires : tie.Need-first-late-requires
 first-late-requires c κs = search needs
@@ -33,7 +35,7 @@ unfolding verdict
 returns c =
     let a = c .before .before .before .before .before .args in
     let found = sym (c .before .before .before .first-late .ensures) ∙ c .before .late .given .1 in
-    rw (some-of-found (firstLate (a .network) (now (a .table))) _ found)
+    rw (some-of-breached (firstLate (a .network) (now (a .table))) _ found)
 
 enum-told : tie.Need-enum-told
 enum-told c = search needs
@@ -49,7 +51,8 @@ unfolding verdict
 returns-2 c =
     let a = c .before .before .before .before .before .before .before .before .args in
     let found = sym (c .before .before .before .first-broken .ensures) ∙ c .before .broken .given .1 in
-    rw (no-late (c .before .before .before .before), some-of-found (firstBroken (a .network) (now (a .table))) _ found)
+    let broken = some-of-breached (firstBroken (a .network) (now (a .table))) _ found in
+    rw (no-late (c .before .before .before .before), broken)
 
 enum-told-2 : tie.Need-enum-told-2
 enum-told-2 c = search needs
@@ -66,7 +69,8 @@ returns-3 c =
     let a = c .before .before .before .before .before .before .before .before .before .before .before .args in
     let at = c .before .before .before .before in
     let found = sym (c .before .before .before .first-unheard .ensures) ∙ c .before .unheard .given .1 in
-    rw (no-late (at .before .before .before), no-broken at, some-of-found (firstUnheard (a .network) (now (a .table))) _ found)
+    let unheard = some-of-breached (firstUnheard (a .network) (now (a .table))) _ found in
+    rw (no-late (at .before .before .before), no-broken at, unheard)
 
 enum-told-3 : tie.Need-enum-told-3
 enum-told-3 c = search needs
@@ -77,7 +81,8 @@ returns-4 c =
     let a = c .before .before .before .before .before .before .before .before .before .before .args in
     let at = c .before .before .before in
     let nothing = sym (c .before .before .first-unheard .ensures) ∙ c .enum-told3 .given .1 in
-    rw (no-late (at .before .before .before), no-broken at, none-of-found (firstUnheard (a .network) (now (a .table))) nothing)
+    let no-unheard = none-of-pass (firstUnheard (a .network) (now (a .table))) nothing in
+    rw (no-late (at .before .before .before), no-broken at, no-unheard)
 
 pub check-spec : {M : Type 1} → statement M
 check-spec =

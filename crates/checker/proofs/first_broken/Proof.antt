@@ -12,11 +12,9 @@ use denote.Ref.{now}
 use Rattle.prelude.specs.Search.{unless}
 use Rattle.network.specs.Build.{constraint}
 use Rattle.network.specs.declared.Network.{Network}
-use Rattle.checker.specs.Verdict.{doesHold, brokenIn}
-use Rattle.checker.specs.Found.{foundOf}
+use Rattle.checker.specs.Verdict.{doesHold, brokenIn, verdictOf}
 use Rattle.checker.specs.declared.Breach.{Breach}
 use Rattle.checker.specs.declared.Breach.the-variants.{Rule}
-use Rattle.checker.proofs.Plain.{keeps-is}
 use Rattle.checker.proofs.Reach.{in-reach}
 use Rattle.checker.proofs.Seeking.{Seeking, seeking-start, seeking-on, nothing-found, past-row, row-hit}
 use Rattle.checker.proofs.first_broken.Statement.{statement}
@@ -44,9 +42,7 @@ tested : (c : tie.After-keeps Inv-loop μ-loop Inv-broken μ-broken)
     let s = c .before .before .before .before .before .broken .s in
     c .keeps .result ≡ doesHold (a .t1) (now (a .table)) s (constraint (a .t1) (c .before .before .before .loop .c))
 tested c =
-    let a = c .before .before .before .before .before .before .before .before .args in
-    let s = c .before .before .before .before .before .broken .s in
-    c .keeps .ensures ∙ keeps-is (a .t1) (now (a .table)) s (constraint (a .t1) (c .before .before .before .loop .c))
+    c .keeps .ensures (c .before .before .before .before .before .before .before .before .args .t1) refl
 
 scenario-count-requires : tie.Need-scenario-count-requires Inv-loop μ-loop Inv-broken μ-broken
 scenario-count-requires c κs = c .before .pre .0 .signals
@@ -104,7 +100,7 @@ returns-2 c =
     let at-broken = in-loop .before .before .before in
     let broken = sym (tested (c .before)) ∙ not-true _ (c .if1 .taken) in
     let at = row-hit (at-broken .broken .inv) (in-loop .before .loop .inv) refl in
-    ap foundOf (sym (at _ (omega arith) (in-loop .loop-test .taken) (rw broken)))
+    ap verdictOf (sym (at _ (omega arith) (in-loop .loop-test .taken) (rw broken)))
 
 pub first-broken-spec : {M : Type 1} → statement M
 first-broken-spec =

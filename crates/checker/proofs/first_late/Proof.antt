@@ -11,11 +11,11 @@ use borrow.Author.Tests.{not-true, not-false}
 use denote.Ref.{now}
 use Rattle.prelude.specs.Search.{firstBelow, unless}
 use Rattle.network.specs.Strategy.{time}
-use Rattle.checker.specs.Found.{foundOf}
+use Rattle.checker.specs.Verdict.{verdictOf}
 use Rattle.checker.specs.Plain.{onTime}
 use Rattle.checker.specs.declared.Breach.{Breach}
 use Rattle.checker.specs.declared.Breach.the-variants.{Late}
-use Rattle.checker.proofs.Reach.{cell-in}
+use Rattle.network.proofs.Strategy.{cell-in}
 use Rattle.checker.proofs.Seeking.{Seeking, seeking-start, seeking-on, nothing-found, past-row, row-hit}
 use Rattle.checker.proofs.first_late.Statement.{statement}
 use Rattle.checker.proofs.first_late.Tie as tie
@@ -57,7 +57,8 @@ time-of-requires : tie.Need-time-of-requires Inv-loop μ-loop Inv-late μ-late
 time-of-requires c κs =
     let s = c .before .before .before .late .s in
     let start = c .before .before .before .before .before .before in
-    cell-in (start .args .network) (now (start .args .table)) (start .pre) s (c .before .loop .u) (omega arith) (c .loop-test .taken)
+    cell-in (start .args .network) (now (start .args .table)) (start .pre .1) s (c .before .loop .u) (omega arith)
+    (c .loop-test .taken)
 
 on-time-requires : tie.Need-on-time-requires Inv-loop μ-loop Inv-late μ-late
 on-time-requires c κs = search needs
@@ -92,7 +93,7 @@ returns-2 c =
     let at-late = in-loop .before .before .before in
     let late = sym (tested (c .before)) ∙ not-true _ (c .if1 .taken) in
     let at = row-hit (at-late .late .inv) (in-loop .before .loop .inv) refl in
-    ap foundOf (sym (at _ (omega arith) (in-loop .loop-test .taken) (rw late)))
+    ap verdictOf (sym (at _ (omega arith) (in-loop .loop-test .taken) (rw late)))
 
 pub first-late-spec : {M : Type 1} → statement M
 first-late-spec =

@@ -2,55 +2,57 @@
 -- comparisons are the definition's test, and the loops are its searches, by s, then r, then event. The invariant of
 -- each loop: its search has come to its index, and nothing was found. The measures are what is left of each. Assumes
 -- nothing.
-use mathlib.Core.Path.{_∙_, refl, sym, ap}
+use mathlib.Core.Path.{refl, sym, ap}
 use mathlib.Core.Logic.{⊎-elim}
-use mathlib.Core.List.{List}
-use mathlib.Core.Option.{Option}
-use Prim.Native.Nat.{ℕ, _-_, _^_}
+use Prim.Native.Nat.{_-_}
 use native.Mathlib.Omega.{arith}
 use borrow.Author.Needs.{needs}
 use borrow.Author.Tests.{not-true, not-false}
 use denote.Ref.{now}
-use Rattle.prelude.specs.Search.{firstBelow}
-use Rattle.checker.specs.Found.{foundOf}
-use Rattle.checker.specs.declared.Breach.{Breach}
+use Rattle.prelude.specs.Search.{unless}
+use Rattle.network.specs.Build.{scenarios}
+use Rattle.network.proofs.Strategy.{cell-in}
+use Rattle.checker.specs.Verdict.{isAlike, unheardIn, unheardFrom, verdictOf}
 use Rattle.checker.specs.declared.Breach.the-variants.{Unheard}
-use Rattle.checker.proofs.Plain.{unheardAt, unheard-is, Compared, alike-told, alike-same, not-alike}
-use Rattle.checker.proofs.Reach.{scenario-lt, cell-in, observed}
+use Rattle.checker.proofs.Plain.{Compared, alike-told, alike-same, not-alike}
+use Rattle.checker.proofs.Reach.{scenario-lt, observed}
 use Rattle.checker.proofs.Seeking.{Seeking, seeking-start, seeking-on, nothing-found, hit, past-row, row-hit}
 use Rattle.checker.proofs.first_unheard.Statement.{statement}
 use Rattle.checker.proofs.first_unheard.Tie as tie
 
--- the search over the events of two scenarios
-abbrev unheardIn : ℕ → ℕ → List ℕ → List ℕ → ℕ → ℕ → Option Breach
-unheardIn n k os σ s r = firstBelow n (unheardAt n os σ s r k)
-
 abbrev Inv-loop2 : tie.InvT-loop2
-Inv-loop2 σ n k os scenarios found₀ s r told u₀ found u = Seeking (unheardAt n os σ s r k) n u found
+Inv-loop2 Γ σ n os cases found₀ s r told u₀ found u =
+    Seeking (λ v. unless (isAlike Γ σ s r v) (Unheard s r v)) n u found
 
 abbrev μ-loop2 : tie.MeasureT-loop2
-μ-loop2 σ n k os scenarios found₀ s r told u₀ found u = n - u
+μ-loop2 Γ σ n os cases found₀ s r told u₀ found u = n - u
 
 abbrev Inv-loop : tie.InvT-loop
-Inv-loop σ n k os scenarios found₀ s r₀ found r = Seeking (unheardIn n k os σ s) (2 ^ k) r found
+Inv-loop Γ σ n os cases found₀ s r₀ found r = Seeking (unheardIn Γ σ s) (scenarios Γ) r found
 
 abbrev μ-loop : tie.MeasureT-loop
-μ-loop σ n k os scenarios found₀ s r₀ found r = 2 ^ k - r
+μ-loop Γ σ n os cases found₀ s r₀ found r = scenarios Γ - r
 
 abbrev Inv-unheard : tie.InvT-unheard
-Inv-unheard σ n k os scenarios found₀ s₀ found s = Seeking (λ t. firstBelow (2 ^ k) (unheardIn n k os σ t)) (2 ^ k) s found
+Inv-unheard Γ σ n os cases found₀ s₀ found s = Seeking (unheardFrom Γ σ) (scenarios Γ) s found
 
 abbrev μ-unheard : tie.MeasureT-unheard
-μ-unheard σ n k os scenarios found₀ s₀ found s = 2 ^ k - s
+μ-unheard Γ σ n os cases found₀ s₀ found s = scenarios Γ - s
 
 -- what the code compares of an event
 compared : (c : tie.After-time-of Inv-loop2 μ-loop2 Inv-loop μ-loop Inv-unheard μ-unheard)
     → let a = c .before .before .before .before .before .before .before .before .before .before .before .before .args in
     let s = c .before .before .before .before .before .before .before .before .unheard .s in
     let r = c .before .before .before .before .before .before .loop .r in
-    Compared (a .network .events) (a .network .observations) (now (a .table)) s r (a .network .signals) (c .before .before .loop2 .u)
-    (c .before .before .before .apart .result) (c .time-of .result)
-compared c = record { told-is = c .before .before .before .apart .ensures; mine-is = c .time-of .ensures; small = omega arith }
+    Compared (a .network) (now (a .table)) s r (c .before .before .loop2 .u) (c .before .before .before .apart .result)
+    (c .time-of .result)
+compared c =
+    let a = c .before .before .before .before .before .before .before .before .before .before .before .before .args in
+    record {
+      told-is = c .before .before .before .apart .ensures (a .network) refl refl;
+      mine-is = c .time-of .ensures;
+      small = omega arith;
+    }
 
 scenario-count-requires :
     tie.Need-scenario-count-requires Inv-loop2 μ-loop2 Inv-loop μ-loop Inv-unheard μ-unheard
@@ -79,7 +81,8 @@ time-of-requires :
 time-of-requires c κs =
     let start = c .before .before .before .before .before .before .before .before .before .before .before in
     let s = c .before .before .before .before .before .before .before .unheard .s in
-    cell-in (start .args .network) (now (start .args .table)) (start .pre) s (c .before .loop2 .u) (omega arith) (c .loop2-test .taken)
+    cell-in (start .args .network) (now (start .args .table)) (start .pre .1) s (c .before .loop2 .u) (omega arith)
+    (c .loop2-test .taken)
 
 cast-if1 : tie.Need-cast-if1 Inv-loop2 μ-loop2 Inv-loop μ-loop Inv-unheard μ-unheard
 cast-if1 c = search needs
@@ -91,7 +94,8 @@ time-of-requires-2 c κs =
     let start = c .before .before .before .before .before .before .before .before .before .before .before .before .before in
     let r = c .before .before .before .before .before .before .before .loop .r in
     let u = in-loop .before .loop2 .u in
-    cell-in (start .args .network) (now (start .args .table)) (start .pre) r u (omega arith) (in-loop .loop2-test .taken)
+    cell-in (start .args .network) (now (start .args .table)) (start .pre .1) r u (omega arith)
+    (in-loop .loop2-test .taken)
 
 add-u : tie.Need-add-u Inv-loop2 μ-loop2 Inv-loop μ-loop Inv-unheard μ-unheard
 add-u c = search needs
@@ -129,9 +133,7 @@ unheard-again : tie.Need-unheard-again Inv-loop2 μ-loop2 Inv-loop μ-loop Inv-u
 unheard-again c = past-row (c .before .before .before .unheard .inv) (c .before .loop .inv) refl (omega arith) (omega arith)
 
 returns : tie.Need-returns Inv-loop2 μ-loop2 Inv-loop μ-loop Inv-unheard μ-unheard
-returns c =
-    let a = c .before .before .before .before .before .args in
-    nothing-found (c .before .unheard .inv) (omega arith) ∙ ap foundOf (unheard-is (a .network) (now (a .table)))
+returns c = nothing-found (c .before .unheard .inv) (omega arith)
 
 returns-2 : tie.Need-returns-2 Inv-loop2 μ-loop2 Inv-loop μ-loop Inv-unheard μ-unheard
 returns-2 c =
@@ -144,8 +146,7 @@ returns-2 c =
     let breach = Unheard (at-unheard .unheard .s) (at-loop .loop .r) (in-loop2 .before .loop2 .u) in
     let at = row-hit (at-loop .loop .inv) (in-loop2 .before .loop2 .inv) refl breach (omega arith) in
     let found = hit (at-unheard .unheard .inv) breach (omega arith) (at (in-loop2 .loop2-test .taken) (rw unheard)) in
-    let a = at-unheard .before .before .before .before .args in
-    ap foundOf (sym found ∙ unheard-is (a .network) (now (a .table)))
+    ap verdictOf (sym found)
 
 pub first-unheard-spec : {M : Type 1} → statement M
 first-unheard-spec =

@@ -1,20 +1,23 @@
--- `keeps` meets its contract: a scenario that the label excludes keeps the constraint, and any other has its two
--- times compared. Assumes nothing.
-use mathlib.Core.Path.{sym, _∙_, ap}
+-- `keeps` meets its contract: a scenario in which the constraint does not count keeps it, and any other has its
+-- two times compared. Assumes nothing.
+use mathlib.Core.Path.{_≡_, sym, _∙_, ap, ap₂}
+use Prim.Native.Nat.{ℕ}
 use borrow.Author.Tests.{not-true, not-false}
 use borrow.Author.Needs.{needs}
+use denote.Ref.{now}
 use mir.Syntax.{w32}
 use mir.Val.{SFits}
 use mir.Facts.{toZ-ofZ}
 use Rattle.network.specs.Constraint.{admits}
+use Rattle.network.specs.Strategy.{time}
 use Rattle.checker.proofs.keeps.Statement.{statement}
 use Rattle.checker.proofs.keeps.Tie as tie
 
-satisfies-requires : tie.Need-satisfies-requires
-satisfies-requires c κs = search needs
+covers-requires : tie.Need-covers-requires
+covers-requires c κs = search needs
 
 returns : tie.Need-returns
-returns c = rw (sym (c .before .satisfies .ensures) ∙ not-true _ (c .if1 .taken))
+returns c = λ Γ _. rw (sym (c .before .covers .ensures Γ) ∙ not-true _ (c .if1 .taken))
 
 time-of-requires : tie.Need-time-of-requires
 time-of-requires c κs = search needs
@@ -27,21 +30,28 @@ admits-requires c κs = search needs
 
 returns-2 : tie.Need-returns-2
 returns-2 c =
-    let constraint = c .before .before .before .before .before .before .before .before .args .constraint in
+    let at-if = c .before .before .before .before in
+    let args = at-if .before .before .before .args in
+    let constraint = args .constraint in
+    let σ = now (args .table) in
     let a = c .before .before .before .time-of in
     let b = c .before .before .time-of2 in
     let fits : SFits w32 (constraint .bound) = search needs in
-    rw (
-      sym (c .before .before .before .before .before .satisfies .ensures) ∙ not-false _ (c .before .before .before .before .if1 .left),
-      ← a .ensures,
-      ← b .ensures,
-    ) (c .admits .ensures ∙ ap (admits (constraint .kind) (a .result) (b .result)) (toZ-ofZ fits))
+    λ Γ e.
+    let at : (u : ℕ) → time (args .events) σ (args .s) u ≡ time (Γ .events) σ (args .s) u =
+    λ u. ap (λ (n : ℕ). time n σ (args .s) u) e in
+    let covered = sym (at-if .before .covers .ensures Γ) ∙ not-false _ (at-if .if1 .left) in
+    rw covered
+    (c .admits .ensures
+    ∙ ap (admits (constraint .kind) (a .result) (b .result)) (toZ-ofZ fits)
+    ∙ ap₂ (λ (x y : ℕ). admits (constraint .kind) x y (constraint .bound)) (a .ensures ∙ at (constraint .from))
+    (b .ensures ∙ at (constraint .to)))
 
 pub keeps-spec : {M : Type 1} → statement M
 keeps-spec =
     tie.close
     (tie.spec
-    satisfies-requires
+    covers-requires
     returns
     time-of-requires
     time-of-requires-2
