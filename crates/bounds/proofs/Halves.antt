@@ -34,7 +34,7 @@ module _ (Γ : Network) (frame : Frame) (W : WellFormed Γ) (F : Framed Γ frame
 
 -- what may be listed for a constraint, and that it leaves lists
 module _ (frame : Frame) (c : Constraint) (ok : Listable frame c) where
-  pub upper-bound : Bound frame (c .label) (c .from) (c .to) (upperWeight (c .bound))
+  pub upper-bound : Bound frame c (c .from) (c .to) (upperWeight (c .bound))
   upper-bound = record {
     scenarios = ok .scenarios-few;
     events = ok .events-few;
@@ -44,7 +44,7 @@ module _ (frame : Frame) (c : Constraint) (ok : Listable frame c) where
     weight-in = upper-few (c .bound) (ok .bound);
   }
 
-  pub lower-bound : Bound frame (c .label) (c .to) (c .from) (lowerWeight (c .bound))
+  pub lower-bound : Bound frame c (c .to) (c .from) (lowerWeight (c .bound))
   lower-bound = record {
     scenarios = ok .scenarios-few;
     events = ok .events-few;

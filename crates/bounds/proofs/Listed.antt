@@ -10,8 +10,9 @@ use lib.ListN.{length, getD, set, length-set}
 use lib.Seq.{getD-set-same, getD-set-other}
 use Rattle.prelude.specs.Bounded.{maxBelow}
 use Rattle.prelude.proofs.Tests.{eq-or-ne}
-use Rattle.network.specs.Scenario.{satisfies}
-use Rattle.network.specs.declared.Label.{Label}
+use Rattle.network.specs.Constraint.{covers}
+use Rattle.network.specs.declared.Constraint.{Constraint}
+use Rattle.network.specs.declared.Network.{Network}
 use Rattle.bounds.specs.Listed.{asking, target, source, weight, listed, countAfter, listAfter, Lists, Short}
 use Rattle.bounds.specs.Listed.{Added}
 
@@ -132,25 +133,25 @@ module _ (n : ℕ) (counts lists : List ℕ) (s x y z : ℕ) (L : Lists n counts
         (maxBelow-ext _ _ (getD counts r 0) (λ j m. same (r * 128 + j) (λ q. e (omega arith))))
 
 -- the first scenarios
-module _ (ℓ : Label) (x y z : ℕ) (counts lists : List ℕ) where
-  pub added-none : Added ℓ x y z counts lists counts lists 0
+module _ (c : Constraint) (x y z : ℕ) (counts lists : List ℕ) where
+  pub added-none : Added c x y z counts lists counts lists 0
   added-none = record {
     keeps = λ n p q r L. L;
     grows = λ s. omega arith;
-    adds = λ s l. absurd (omega arith);
+    adds = λ Γ s l. absurd (omega arith);
     count-later = λ s l. refl;
     later = λ s l row u. refl;
   }
 
-  module _ {counts′ lists′ : List ℕ} {s : ℕ} (A : Added ℓ x y z counts lists counts′ lists′ s) where
-    pub added-skip : satisfies s ℓ ≡ false → Added ℓ x y z counts lists counts′ lists′ (s + 1)
+  module _ {counts′ lists′ : List ℕ} {s : ℕ} (A : Added c x y z counts lists counts′ lists′ s) where
+    pub added-skip : ((Γ : Network) → covers Γ c s ≡ false) → Added c x y z counts lists counts′ lists′ (s + 1)
     added-skip e = record {
       keeps = A .keeps;
       grows = A .grows;
       adds =
-          λ r l row u. elim (eq-or-ne r s) [
-            | inl q ↦ rw (q, e) (omega (arith, A .later s (omega arith) row u))
-            | inr q ↦ A .adds r (omega arith) row u
+          λ Γ r l row u. elim (eq-or-ne r s) [
+            | inl q ↦ rw (q, e Γ) (omega (arith, A .later s (omega arith) row u))
+            | inr q ↦ A .adds Γ r (omega arith) row u
           ];
       count-later = λ r l. A .count-later r (omega arith);
       later = λ r l. A .later r (omega arith);
@@ -163,8 +164,8 @@ module _ (ℓ : Label) (x y z : ℕ) (counts lists : List ℕ) where
       below : (r : ℕ) → getD counts′ r 0 ≤ 128
       below r = omega (arith, A .grows r, short r)
 
-      pub added-one : satisfies s ℓ ≡ true
-          → Added ℓ x y z counts lists (countAfter counts′ s) (listAfter lists′ (s * 128 + getD counts′ s 0) x y z)
+      pub added-one : ((Γ : Network) → covers Γ c s ≡ true)
+          → Added c x y z counts lists (countAfter counts′ s) (listAfter lists′ (s * 128 + getD counts′ s 0) x y z)
           (s + 1)
       added-one e = record {
         keeps = λ m p q r M. append-lists m counts′ lists′ s x y z (A .keeps m p q r M) h room p q r;
@@ -175,11 +176,11 @@ module _ (ℓ : Label) (x y z : ℕ) (counts lists : List ℕ) where
               | inr q ↦ omega (arith, countAfter-other counts′ s r q, A .grows r)
             ];
         adds =
-            λ r l row u. elim (eq-or-ne r s) [
-              | inl q ↦ rw (q, e) (omega
+            λ Γ r l row u. elim (eq-or-ne r s) [
+              | inl q ↦ rw (q, e Γ) (omega
                   (arith, append-here n counts′ lists′ s x y z L h room row u, A .later s (omega arith) row u))
               | inr q ↦ append-other n counts′ lists′ s x y z L h room row u r q (below r)
-                  ∙ A .adds r (omega arith) row u
+                  ∙ A .adds Γ r (omega arith) row u
             ];
         count-later = λ r l. countAfter-other counts′ s r (λ q. omega arith) ∙ A .count-later r (omega arith);
         later =

@@ -10,12 +10,12 @@ use lib.Signed.{nonNeg}
 use mir.Syntax.{w16, w32}
 use mir.Val.{Fits, SFits, toZ, ofZ}
 use Rattle.network.specs.WellFormed.{InLimits}
-use Rattle.network.specs.Raised.{raised}
+use Rattle.network.specs.Biased.{biased}
 use Rattle.network.proofs.Signed.{read-back, neg-limit, unsigned-fits, unsigned-cast, unsigned-value}
 use Rattle.bounds.specs.Listed.{upperWeight, lowerWeight}
 
--- the weight of a limit negated is the limit raised
-pub neg-weight : (w : ℤ) → upperWeight (negℤ w) ≡ raised w
+-- the weight of a limit negated is the limit biased
+pub neg-weight : (w : ℤ) → upperWeight (negℤ w) ≡ biased w
 neg-weight (pos zero) = omega arith
 neg-weight (pos (suc w)) = omega arith
 neg-weight (negsuc w) = omega arith

@@ -19,8 +19,8 @@ pub record Listable (frame : Frame) (c : Constraint) : Type 0 where
 -- the bound of one of its halves is listed
 abbrev pub UpperAdded : Frame → Constraint → List ℕ → List ℕ → List ℕ → List ℕ → Type 0
 UpperAdded frame c counts lists counts′ lists′ =
-    Added (c .label) (c .from) (c .to) (upperWeight (c .bound)) counts lists counts′ lists′ (frame .scenarios)
+    Added c (c .from) (c .to) (upperWeight (c .bound)) counts lists counts′ lists′ (frame .scenarios)
 
 abbrev pub LowerAdded : Frame → Constraint → List ℕ → List ℕ → List ℕ → List ℕ → Type 0
 LowerAdded frame c counts lists counts′ lists′ =
-    Added (c .label) (c .to) (c .from) (lowerWeight (c .bound)) counts lists counts′ lists′ (frame .scenarios)
+    Added c (c .to) (c .from) (lowerWeight (c .bound)) counts lists counts′ lists′ (frame .scenarios)

@@ -10,8 +10,10 @@ use lib.IntN.{ℤ, pos, negsuc, negℤ}
 use lib.ListN.{length, getD, set}
 use Rattle.prelude.specs.Bounded.{maxBelow}
 use Rattle.network.specs.Limits as L
-use Rattle.network.specs.Scenario.{satisfies}
+use Rattle.network.specs.Constraint.{covers}
 use Rattle.network.specs.declared.Label.{Label}
+use Rattle.network.specs.declared.Constraint.{Constraint}
+use Rattle.network.specs.declared.Network.{Network}
 use Rattle.rows.specs.declared.Frame.{Frame}
 
 -- the weight of b - a ≤ w, for the least time of a: 10,080 less w
@@ -77,21 +79,22 @@ pub record Small (ℓ : Label) : Type 0 where
   pub positive : ℓ .positive < L.cases
   pub negative : ℓ .negative < L.cases
 
--- what may be listed
-pub record Bound (frame : Frame) (ℓ : Label) (target source weight : ℕ) : Type 0 where
+-- what may be listed of a constraint
+pub record Bound (frame : Frame) (c : Constraint) (target source weight : ℕ) : Type 0 where
   pub scenarios : frame .scenarios ≤ L.cases
   pub events : frame .events ≤ L.events
-  pub label : Small ℓ
+  pub label : Small (c .label)
   pub target-in : target < frame .events
   pub source-in : source < frame .events
   pub weight-in : weight ≤ heaviest
 
--- the bound is listed for those of the first c scenarios that satisfy the label
-pub record Added (ℓ : Label) (target source weight : ℕ) (counts lists counts′ lists′ : List ℕ) (c : ℕ) : Type 0 where
+-- the bound is listed for those of the first k scenarios in which the constraint counts
+pub record Added (c : Constraint) (target source weight : ℕ) (counts lists counts′ lists′ : List ℕ) (k : ℕ)
+    : Type 0 where
   pub keeps : (n : ℕ) → target < n → source < n → weight ≤ heaviest → Lists n counts lists → Lists n counts′ lists′
   pub grows : (s : ℕ) → getD counts′ s 0 ≤ getD counts s 0 + 1
-  pub adds : (s : ℕ) → s < c → (row : List ℕ) (u : ℕ)
+  pub adds : (Γ : Network) (s : ℕ) → s < k → (row : List ℕ) (u : ℕ)
       → listed counts′ lists′ s row u ≡ max (listed counts lists s row u)
-      (cond (satisfies s ℓ) (asking target source weight row u) 0)
-  pub count-later : (s : ℕ) → c ≤ s → getD counts′ s 0 ≡ getD counts s 0
-  pub later : (s : ℕ) → c ≤ s → (row : List ℕ) (u : ℕ) → listed counts′ lists′ s row u ≡ listed counts lists s row u
+      (cond (covers Γ c s) (asking target source weight row u) 0)
+  pub count-later : (s : ℕ) → k ≤ s → getD counts′ s 0 ≡ getD counts s 0
+  pub later : (s : ℕ) → k ≤ s → (row : List ℕ) (u : ℕ) → listed counts′ lists′ s row u ≡ listed counts lists s row u

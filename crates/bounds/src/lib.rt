@@ -12,7 +12,6 @@ ghost use Rattle.bounds.specs.Listed.{most, room, Lists, Short, Bound, A
 ghost use Rattle.bounds.specs.Listed.{upperWeight, lowerWeight, countAfter, listAfter};
 ghost use Rattle.bounds.specs.Halves.{Listable, UpperAdded, LowerAdded};
 use network::Constraint;
-use network::Label;
 use network::Network;
 use rows::Frame;
 
@@ -60,25 +59,25 @@ fn append(
     counts[s] = count + 1;
 }
 
-// One more bound for each scenario that satisfies the label.
+// One more bound for each scenario in which the constraint counts.
 fn list_bound(
     frame: Frame,
-    label: Label,
+    c: Constraint,
     target: usize,
     source: usize,
     weight: u16,
     counts: &mut [usize; Network::CASES],
     lists: &mut [u16; LIST],
 )
-    requires { ⌜ Bound frame label target source weight × Lists (frame .events) (now counts) (now lists)
+    requires { ⌜ Bound frame c target source weight × Lists (frame .events) (now counts) (now lists)
         × Short (most - 1) (now counts) ⌝ }
-    ensures { λ _. ⌜ Added label target source weight (now (counts .entry)) (now (lists .entry)) (now (counts .exit))
+    ensures { λ _. ⌜ Added c target source weight (now (counts .entry)) (now (lists .entry)) (now (counts .exit))
         (now (lists .exit)) (frame .scenarios) ⌝ }
 {
     let scenarios = frame.scenarios;
     let mut s: usize = 0;
     while s < scenarios {
-        if network::satisfies(s, label) {
+        if network::covers(c, s) {
             append(s, target, source, weight, counts, lists);
         }
         s += 1;
@@ -96,9 +95,8 @@ pub fn list_upper(
     ensures { λ _. ⌜ UpperAdded frame c (now (counts .entry)) (now (lists .entry)) (now (counts .exit))
         (now (lists .exit)) ⌝ }
 {
-    let label = c.label;
     let weight = upper_weight(c.bound);
-    list_bound(frame, label, c.from, c.to, weight, counts, lists);
+    list_bound(frame, c, c.from, c.to, weight, counts, lists);
 }
 
 // The bound of its lower half: `to` comes at least the limit after `from`.
@@ -112,9 +110,8 @@ pub fn list_lower(
     ensures { λ _. ⌜ LowerAdded frame c (now (counts .entry)) (now (lists .entry)) (now (counts .exit))
         (now (lists .exit)) ⌝ }
 {
-    let label = c.label;
     let weight = lower_weight(c.bound);
-    list_bound(frame, label, c.to, c.from, weight, counts, lists);
+    list_bound(frame, c, c.to, c.from, weight, counts, lists);
 }
 
 // 10,080 more than each time, so that no bound needs a sign.

@@ -1,4 +1,4 @@
--- Laws of first known times: the table by doubling. Assumes nothing.
+-- Laws of first known times: the table by doubling, and known times by a row. Assumes nothing.
 use mathlib.Core.Path.{_≡_, refl, _∙_, ap}
 use mathlib.Core.Logic.{inl, inr}
 use mathlib.Core.Bool.{true, false}
@@ -10,8 +10,18 @@ use native.Mathlib.Omega.{arith}
 use lib.Dec.{eqb}
 use lib.ListN.{length, getD, set, length-set}
 use lib.Seq.{getD-set-same, getD-set-other}
-use Rattle.prelude.proofs.Tests.{lt-or-ge, eq-or-ne, by-cond}
+use Rattle.prelude.proofs.Tests.{lt-or-ge, eq-or-ne}
+use Rattle.prelude.proofs.Minima.{minWhere-top, minWhere-ext, minWhere-fewer}
+use Rattle.network.specs.Limits as L
+use Rattle.network.specs.Build.{observation}
 use Rattle.network.specs.Scenario.{truth}
+use Rattle.network.specs.Strategy.{knownFrom}
+use Rattle.network.specs.WellFormed.{WellFormed}
+use Rattle.network.specs.declared.Network.{Network}
+use Rattle.network.proofs.Strategy.{known-after-is}
+use Rattle.rows.specs.declared.Frame.{Frame}
+use Rattle.rows.specs.Framed.{Framed}
+use Rattle.rows.specs.Rows.{RowIn}
 use Rattle.rows.specs.Known.{firstOf, First, Doubled}
 
 -- the digits of d, and of d with proposition i added
@@ -62,9 +72,9 @@ doubled-next {p} {v} {d} {f₀} {f} x h b l e = record {
 }
 
 module _ (f : ℕ → ℕ) where
-  firstOf-high : (j i d : ℕ) → i < 4 → j ≤ i → firstOf j f (2 ^ i + d) ≡ firstOf j f d
-  firstOf-high zero i d l h = refl
-  firstOf-high (suc j) i d l h = rw (low i j d l (omega arith), firstOf-high j i d l (omega arith))
+  -- the first i propositions are in d as they are in d with i added
+  firstOf-high : (i d : ℕ) → i < 4 → firstOf i f (2 ^ i + d) ≡ firstOf i f d
+  firstOf-high i d l = minWhere-ext _ _ f f 32767 i (λ j h. low i j d l h) (λ j h. refl)
 
   pub first-start : (first : List ℕ) → length first ≡ 16 → getD first 0 0 ≡ 32767 → First 0 f first
   first-start first l e = record { sized = l; is = λ d b. let z : d ≡ 0 = omega arith in rw z e }
@@ -83,34 +93,18 @@ module _ (f : ℕ → ℕ) where
                   let x = d - 2 ^ i in
                   let s : d ≡ 2 ^ i + x = omega arith in
                   let y : x < 2 ^ i = omega (arith, twice i l) in
-                  rw (s, top i x l y .1, firstOf-high i i x l (omega arith)) (omega (arith, g .high x y, h .is x y))
+                  rw (s, top i x l y .1, firstOf-high i x l) (omega (arith, g .high x y, h .is x y))
             ]);
       }
 
-  firstOf-few : (k d : ℕ) → firstOf k f d ≤ 32767
-  firstOf-few zero d = omega arith
-  firstOf-few (suc k) d =
-      let rest = firstOf-few k d in
-      by-cond (λ n. n ≤ 32767) (truth d k) _ _ (λ e. omega arith) (λ e. rest)
-
   pub first-few : {k : ℕ} {first : List ℕ} → First k f first → (d : ℕ) → d < 2 ^ k → getD first d 0 ≤ 32767
-  first-few {k} F d l = omega (arith, F .is d l, firstOf-few k d)
+  first-few {k} F d l = omega (arith, F .is d l, minWhere-top (truth d) f 32767 k)
 
   -- a proposition that is in none of the sets asks nothing
   firstOf-more : (k m d : ℕ) → k ≤ m → m ≤ 4 → d < 2 ^ k → firstOf m f d ≡ firstOf k f d
-  firstOf-more k zero d h l b = let z : k ≡ 0 = omega arith in rw z
-  firstOf-more k (suc m) d h l b =
-      elim (eq-or-ne k (suc m)) [
-        | inl e ↦ rw e
-        | inr e ↦
-            let up : 2 ^ k ≤ 2 ^ m = pow-le-pow-right (omega arith) (omega arith) in
-            rw (top m d (omega arith) (omega arith) .0) (firstOf-more k m d (omega arith) (omega arith) b)
-      ]
-
--- the first known time depends on f below k only
-pub firstOf-ext : (f g : ℕ → ℕ) (k d : ℕ) → ((p : ℕ) → p < k → f p ≡ g p) → firstOf k f d ≡ firstOf k g d
-firstOf-ext f g zero d h = refl
-firstOf-ext f g (suc k) d h = rw (h k (omega arith), firstOf-ext f g k d (λ p l. h p (omega arith)))
+  firstOf-more k m d h l b = minWhere-fewer (truth d) f 32767 k m h (λ j a c.
+      let up : 2 ^ k ≤ 2 ^ j = pow-le-pow-right (omega arith) a in
+      top j d (omega arith) (omega arith) .0)
 
 -- a table for m propositions is one for the first k of them
 pub first-fewer : (f g : ℕ → ℕ) (k m : ℕ) {first : List ℕ} → First m f first → k ≤ m → m ≤ 4
@@ -120,5 +114,17 @@ first-fewer f g k m F h l e = record {
   is =
       λ d b.
       let up : 2 ^ k ≤ 2 ^ m = pow-le-pow-right (omega arith) h in
-      F .is d (omega arith) ∙ firstOf-more f k m d h l b ∙ firstOf-ext f g k d e;
+      F .is d (omega arith) ∙ firstOf-more f k m d h l b ∙ minWhere-ext (truth d) (truth d) f g 32767 k (λ p c. refl) e;
 }
+
+-- from when on p is known, by a row of its scenario; the remainder changes nothing, since observations are events
+pub known-in-row : (Γ : Network) (σ : List ℕ) (s : ℕ) {frame : Frame} {row : List ℕ} → WellFormed Γ → Framed Γ frame
+    → RowIn Γ σ s row → (p : ℕ) → p < frame .signals
+    → getD row (getD (frame .observations) p 0 % 16) 0 + L.reaction ≡ knownFrom Γ σ s p
+known-in-row Γ σ s {frame} {row} W F R p l =
+    let u = observation Γ p in
+    let inside : u < Γ .events = W .observed p (omega (arith, F .signals)) in
+    let seen : getD (frame .observations) p 0 ≡ u = ap (λ (xs : List ℕ). getD xs p 0) (F .observations) in
+    let place : getD (frame .observations) p 0 % 16 ≡ u = omega (arith, W .events) in
+    known-after-is Γ σ s p
+    (ap (λ (v : ℕ). getD row v 0 + L.reaction) place ∙ ap (λ (t : ℕ). t + L.reaction) (R .at u inside))

@@ -1,16 +1,15 @@
 -- When a set of propositions has its first known truth. A set is a number: p is in d where `truth d p`.
 use mathlib.Core.Path.{_≡_}
-use mathlib.Core.Bool.{cond}
 use mathlib.Core.List.{List}
-use Prim.Native.Nat.{ℕ, zero, suc, _+_, _^_, _≤_, _<_, min}
+use Prim.Native.Nat.{ℕ, _+_, _^_, _≤_, _<_, min}
 use lib.ListN.{length, getD}
+use Rattle.prelude.specs.Bounded.{minWhere}
 use Rattle.network.specs.Scenario.{truth}
 
 -- the least of f over those of the k first propositions that are in d, or 32,767, which is over every time and every
 -- known time
 abbrev pub firstOf : ℕ → (ℕ → ℕ) → ℕ → ℕ
-firstOf zero f d = 32767
-firstOf (suc p) f d = cond (truth d p) (min (firstOf p f d) (f p)) (firstOf p f d)
+firstOf k f d = minWhere k (truth d) f 32767
 
 -- the table of it
 pub record First (k : ℕ) (f : ℕ → ℕ) (first : List ℕ) : Type 0 where

@@ -7,6 +7,8 @@ use Prim.Native.Nat.{ℕ, _+_, _-_, _*_, _/_, _%_, _≤_, _<_, max}
 use lib.ListN.{length, getD, take, drop}
 use Rattle.prelude.specs.Bounded.{tabulate}
 use Rattle.network.specs.Limits as L
+use Rattle.network.specs.Strategy.{time}
+use Rattle.network.specs.declared.Network.{Network}
 
 -- the strategy that a table holds: n events in c scenarios, without gaps
 unfoldable pub packed : ℕ → ℕ → List ℕ → List ℕ
@@ -15,6 +17,10 @@ packed n c t = tabulate (n * c) (λ i. getD t (i / n * 16 + i % n) 0)
 -- the row of scenario s
 abbrev pub rowOf : List ℕ → ℕ → List ℕ
 rowOf t s = take 16 (drop (s * 16) t)
+
+-- row has the times of scenario s in σ
+pub record RowIn (Γ : Network) (σ : List ℕ) (s : ℕ) (row : List ℕ) : Type 0 where
+  pub at : (u : ℕ) → u < Γ .events → getD row u 0 ≡ time (Γ .events) σ s u
 
 -- sixteen numbers
 pub record Row (xs : List ℕ) (f : ℕ → ℕ) : Type 0 where

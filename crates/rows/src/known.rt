@@ -1,9 +1,14 @@
 // When two scenarios are known apart, for each set of propositions on which they differ.
 ghost use mathlib.Core.Path.{_≡_};
+ghost use mathlib.Core.List.{List};
 ghost use Prim.Native.Nat.{ℕ, _+_, _%_, _≤_, _<_};
 ghost use lib.ListN.{length, getD};
 ghost use Rattle.network.specs.Limits as L;
-ghost use Rattle.rows.specs.Rows.{Few};
+ghost use Rattle.network.specs.Strategy.{knownFrom};
+ghost use Rattle.network.specs.WellFormed.{WellFormed};
+ghost use Rattle.network.specs.declared.Network.{Network};
+ghost use Rattle.rows.specs.Framed.{Framed};
+ghost use Rattle.rows.specs.Rows.{Few, RowIn};
 ghost use Rattle.rows.specs.Known.{Doubled, First};
 use crate::Frame;
 use network::Network;
@@ -23,33 +28,31 @@ fn double(first: &mut [u16; Network::CASES], p: usize, v: u16)
 
 // From when on proposition p is known in a scenario whose times are row. Behind the last signal the observation is any
 // number, and the remainder keeps the index in the row.
-fn known_from(row: &[u16; Network::EVENTS], frame: Frame, p: usize) -> u16
-    requires { ⌜ (p < L.signals) × Few L.horizon (now row) ⌝ }
-    ensures { λ r. ⌜ r ≡ getD (now (row .entry)) (getD (frame .observations) p 0 % L.events) 0 + 1 ⌝ }
+fn known_from(row: &[u16; Network::EVENTS], frame: Frame, p: usize, reaction: u16) -> u16
+    requires { ⌜ (p < L.signals) × Few L.horizon (now row) × (reaction ≤ 60) ⌝ }
+    ensures { λ r. ⌜ r ≡ getD (now (row .entry)) (getD (frame .observations) p 0 % L.events) 0 + reaction ⌝ }
 {
     let u = frame.observations[p];
-    row[u % Network::EVENTS] + 1
+    row[u % Network::EVENTS] + reaction
 }
 
 // The first known time of each set d of propositions, for two propositions or for four: the sets that no scenario asks
 // for cost less than a loop over the signals.
 pub fn first_known(row: &[u16; Network::EVENTS], frame: Frame, first: &mut [u16; Network::CASES])
-    requires { ⌜ (frame .signals ≤ L.signals)
-        × ((p : ℕ) → p < frame .signals → getD (frame .observations) p 0 < L.events)
-        × Few L.horizon (now row) × (length (now first) ≡ L.cases) ⌝ }
-    ensures { λ _. ⌜ First (frame .signals) (λ p. getD (now (row .entry)) (getD (frame .observations) p 0) 0 + 1)
-        (now (first .exit)) ⌝ }
+    requires { ⌜ (frame .signals ≤ L.signals) × Few L.horizon (now row) × (length (now first) ≡ L.cases) ⌝ }
+    ensures { λ _. ⌜ ((Γ : Network) (σ : List ℕ) (s : ℕ) → WellFormed Γ → Framed Γ frame
+        → RowIn Γ σ s (now (row .entry)) → First (frame .signals) (knownFrom Γ σ s) (now (first .exit))) ⌝ }
 {
     first[0] = 32767;
     let signals = frame.signals;
     if signals == 0 {
         return;
     }
-    double(first, 1, known_from(row, frame, 0));
-    double(first, 2, known_from(row, frame, 1));
+    double(first, 1, known_from(row, frame, 0, Network::REACTION));
+    double(first, 2, known_from(row, frame, 1, Network::REACTION));
     if signals <= 2 {
         return;
     }
-    double(first, 4, known_from(row, frame, 2));
-    double(first, 8, known_from(row, frame, 3));
+    double(first, 4, known_from(row, frame, 2, Network::REACTION));
+    double(first, 8, known_from(row, frame, 3, Network::REACTION));
 }

@@ -1,26 +1,33 @@
 -- Each doubling takes in one proposition: after p of them the table has the sets of the first p (`First`). A table for
--- two or for four propositions is one for as many as there are signals (`first-fewer`). Assumes nothing.
-use mathlib.Core.Path.{_≡_, refl, ap}
+-- two or for four propositions is one for as many as there are signals (`first-fewer`), whose known times are the
+-- network's (`known-in-row`). Assumes nothing.
+use mathlib.Core.Path.{_≡_, refl}
 use mathlib.Core.List.{List}
 use Prim.Native.Nat.{ℕ, _+_, _%_, _^_, _≤_, _<_}
 use native.Mathlib.Omega.{arith}
 use borrow.Author.Needs.{needs}
 use lib.ListN.{length, getD, set, length-set}
 use lib.Seq.{getD-set-same}
+use Rattle.network.specs.Limits as L
+use Rattle.network.specs.Strategy.{knownFrom}
+use Rattle.network.specs.WellFormed.{WellFormed}
+use Rattle.network.specs.declared.Network.{Network}
+use Rattle.rows.specs.Framed.{Framed}
+use Rattle.rows.specs.Rows.{RowIn}
 use Rattle.rows.specs.Known.{First}
-use Rattle.rows.proofs.First.{first-start, first-next, first-few, first-fewer}
+use Rattle.rows.proofs.First.{first-start, first-next, first-few, first-fewer, known-in-row}
 use Rattle.rows.proofs.known.first_known.Statement.{statement}
 use Rattle.rows.proofs.known.first_known.Tie as tie
 
 -- from when on a proposition is known, also one behind the last signal
 abbrev known : tie.Start → ℕ → ℕ
-known z p = getD (z .args .row .now) (getD (z .args .frame .observations) p 0 % 16) 0 + 1
+known z p = getD (z .args .row .now) (getD (z .args .frame .observations) p 0 % 16) 0 + L.reaction
 
 -- the table of no proposition, and of one, two and three; where each stands, the function's start
 started : (z : tie.Start) → First 0 (known z) (set (z .args .first .now) 0 32767)
 started z =
-    first-start _ _ (simp length-set (z .pre .3))
-    (getD-set-same (z .args .first .now) 0 32767 0 (omega (arith, z .pre .3)))
+    first-start _ _ (simp length-set (z .pre .2))
+    (getD-set-same (z .args .first .now) 0 32767 0 (omega (arith, z .pre .2)))
 
 abbrev start₁ : tie.After-double → tie.Start
 start₁ c = c .before .before .before .before
@@ -48,18 +55,15 @@ three c =
 fit : (z : tie.Start) (k : ℕ) {v : ℕ} {first : List ℕ} → 2 ^ k ≤ 8 → First k (known z) first → v ≡ known z k
     → (2 ^ k ≤ 8) × (length first ≡ 16) × (v ≤ 32767) × ((d : ℕ) → d < 2 ^ k → getD first d 0 ≤ 32767)
 fit z k l F e =
-    let low = z .pre .2 (getD (z .args .frame .observations) k 0 % 16) (omega arith) in
+    let low = z .pre .1 (getD (z .args .frame .observations) k 0 % 16) (omega arith) in
     (l, F .sized, omega arith, first-few _ F)
 
 -- a table for at least the network's propositions
 ended : (z : tie.Start) (m : ℕ) {first : List ℕ} → First m (known z) first → z .args .frame .signals ≤ m → m ≤ 4
-    → let frame = z .args .frame in
-    First (frame .signals) (λ p. getD (z .args .row .now) (getD (frame .observations) p 0) 0 + 1) first
-ended z m F h l =
-    first-fewer (known z) _ (z .args .frame .signals) m F h l (λ p b.
-    let v = getD (z .args .frame .observations) p 0 in
-    let e : v % 16 ≡ v = omega (arith, z .pre .1 p b) in
-    ap (λ (u : ℕ). getD (z .args .row .now) u 0 + 1) e)
+    → (Γ : Network) (σ : List ℕ) (s : ℕ) → WellFormed Γ → Framed Γ (z .args .frame) → RowIn Γ σ s (z .args .row .now)
+    → First (z .args .frame .signals) (knownFrom Γ σ s) first
+ended z m F h l Γ σ s w f r =
+    first-fewer (known z) (knownFrom Γ σ s) (z .args .frame .signals) m F h l (known-in-row Γ σ s w f r)
 
 element-write-first : tie.Need-element-write-first
 element-write-first c = search needs

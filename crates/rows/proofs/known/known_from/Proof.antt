@@ -1,4 +1,4 @@
--- A place below sixteen is in the row, and the minute after its time is known to fit. Assumes nothing.
+-- A place below sixteen is in the row, and a time with an hour more fits. Assumes nothing.
 use Prim.Native.Nat.{_%_}
 use native.Mathlib.Omega.{arith}
 use borrow.Author.Needs.{needs}
