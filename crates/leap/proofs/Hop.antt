@@ -16,8 +16,8 @@ use Rattle.rounds.specs.Propagate.{propagate}
 use Rattle.rounds.specs.Cap.{cap}
 use Rattle.rounds.specs.Compiled.{Compiled, Usable}
 use Rattle.rounds.specs.Rounds.{held}
-use Rattle.rounds.proofs.Ends.{framed-times}
-use Rattle.rounds.proofs.Turns.{length-held, step-rises, step-near}
+use Rattle.rounds.proofs.Rounded.{framed-times}
+use Rattle.rounds.proofs.Effects.{length-held, step-rises, step-near}
 use Rattle.moves.specs.Moves.{Placed}
 use Rattle.moves.specs.Levels.{Some}
 use Rattle.moves.proofs.Moves.{placed-times}

@@ -18,7 +18,7 @@ use Rattle.rows.proofs.Packed.{length-packed}
 use Rattle.rounds.specs.Propagate.{propagate}
 use Rattle.rounds.specs.Cap.{cap}
 use Rattle.rounds.specs.Rounds.{held}
-use Rattle.rounds.proofs.Turns.{step-rises, length-held}
+use Rattle.rounds.proofs.Effects.{step-rises, length-held}
 use Rattle.moves.specs.Moves.{Between}
 use Rattle.moves.specs.Levels.{NextLevel}
 use Rattle.leap.specs.Levels.{Faster, Slower, Level}

@@ -18,12 +18,12 @@ use Rattle.network.specs.Build.{scenarios}
 use Rattle.network.specs.declared.Network.{Network}
 use Rattle.rows.specs.declared.Frame.{Frame}
 use Rattle.rows.specs.Rows.{Times}
-use Rattle.rounds.specs.declared.Outcome.the-variants.{Passes}
+use Rattle.rounds.specs.declared.Effect.the-variants.{Passes}
 use Rattle.rounds.specs.Propagate.{propagate}
 use Rattle.rounds.specs.Cap.{cap}
 use Rattle.rounds.specs.Compiled.{Compiled}
 use Rattle.rounds.specs.Rounds.{held, Rounded}
-use Rattle.rounds.proofs.Turns.{length-held, step-rises, step-near, round-out}
+use Rattle.rounds.proofs.Effects.{length-held, step-rises, step-near, round-out}
 use Rattle.leap.specs.Tables.{Advanced, Far}
 use Rattle.leap.specs.Passing.{Closing, Passing}
 use Rattle.leap.proofs.Tables.{moved-whole}

@@ -13,13 +13,13 @@ use Rattle.network.specs.declared.Network.{Network}
 use Rattle.rows.specs.declared.Frame.{Frame}
 use Rattle.rows.specs.Rows.{Times, Wrote}
 use Rattle.rows.proofs.Packed.{length-packed}
-use Rattle.rounds.specs.declared.Outcome.the-variants.{Rises}
+use Rattle.rounds.specs.declared.Effect.the-variants.{Rises}
 use Rattle.rounds.specs.Propagate.{propagate}
 use Rattle.rounds.specs.Cap.{cap}
 use Rattle.rounds.specs.Compiled.{Compiled, Usable}
 use Rattle.rounds.specs.Rounds.{held, Rounded}
-use Rattle.rounds.proofs.Ends.{framed-times}
-use Rattle.rounds.proofs.Turns.{times-framed, round-leads}
+use Rattle.rounds.proofs.Rounded.{framed-times}
+use Rattle.rounds.proofs.Effects.{times-framed, round-leads}
 use Rattle.moves.specs.Moves.{partOf, Placed}
 use Rattle.moves.proofs.Moves.{wrote-at, wrote-times}
 use Rattle.leap.specs.Tables.{Advanced, Far}

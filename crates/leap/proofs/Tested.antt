@@ -16,7 +16,7 @@ use Rattle.rows.proofs.Packed.{length-packed}
 use Rattle.rounds.specs.Propagate.{propagate}
 use Rattle.rounds.specs.Compiled.{Compiled}
 use Rattle.rounds.specs.Rounds.{held}
-use Rattle.rounds.proofs.Ends.{framed-times}
+use Rattle.rounds.proofs.Rounded.{framed-times}
 use Rattle.moves.specs.Moves.{partOf, Between}
 use Rattle.moves.specs.Levels.{NextLevel}
 use Rattle.leap.specs.Tables.{Advanced, Far}

@@ -8,7 +8,7 @@ ghost use Rattle.rounds.specs.Compiled.{Usable};
 ghost use Rattle.leap.specs.Passing.{Closing, Passing};
 use crate::test;
 use network::Network;
-use rounds::Outcome;
+use rounds::Effect;
 use rows::Frame;
 
 // In which round from `low` on a limit is passed, if none is passed in the rounds before it from `high`; 0 if that is
@@ -33,15 +33,15 @@ fn closing(
     while q < most {
         q += 1;
         match rounds::round(low, &mut b, frame, counts, lists) {
-            Outcome::Passes => return q,
-            Outcome::Rests => return 0,
-            Outcome::Rises => {}
+            Effect::Passes => return q,
+            Effect::Rests => return 0,
+            Effect::Rises => {}
         }
         moves::copy(&b, low, cells);
         match rounds::round(high, &mut b, frame, counts, lists) {
-            Outcome::Passes => return 0,
-            Outcome::Rests => return 0,
-            Outcome::Rises => {}
+            Effect::Passes => return 0,
+            Effect::Rests => return 0,
+            Effect::Rises => {}
         }
         moves::copy(&b, high, cells);
     }

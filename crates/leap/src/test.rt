@@ -16,7 +16,7 @@ ghost use Rattle.rounds.specs.Rounds.{held};
 ghost use Rattle.leap.specs.Tables.{Advanced, Far};
 ghost use Rattle.leap.specs.Levels.{AtLevel, Level, Faster, Slower};
 use network::Network;
-use rounds::Outcome;
+use rounds::Effect;
 use rows::Frame;
 
 // p rounds from a on, each of which raises within the limits.
@@ -36,9 +36,9 @@ pub fn advance(
     let mut i: u32 = 0;
     while i < p {
         match rounds::round(a, &mut b, frame, counts, lists) {
-            Outcome::Passes => return false,
-            Outcome::Rests => return false,
-            Outcome::Rises => {}
+            Effect::Passes => return false,
+            Effect::Rests => return false,
+            Effect::Rises => {}
         }
         moves::copy(&b, a, cells);
         i += 1;

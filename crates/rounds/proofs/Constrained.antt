@@ -9,21 +9,21 @@ use lib.Dec.{eqb}
 use lib.IntN.{ℤ, pos, negsuc}
 use lib.ListN.{getD}
 use Rattle.network.specs.Build.{constraint}
-use Rattle.network.specs.Scenario.{satisfies}
+use Rattle.network.specs.Constraint.{covers}
 use Rattle.network.specs.Strategy.{time}
 use Rattle.network.specs.WellFormed.{InLimits, WellFormed}
 use Rattle.network.specs.declared.Kind.the-variants.{Max, Min, Fix}
 use Rattle.network.specs.declared.Constraint.{Constraint}
 use Rattle.network.specs.declared.Network.{Network}
-use Rattle.network.proofs.Masks.{covers-satisfies}
 use Rattle.rows.specs.declared.Frame.{Frame}
 use Rattle.rows.specs.Framed.{Framed}
+use Rattle.rows.specs.Rows.{RowIn}
 use Rattle.bounds.specs.Listed.{asking, upperWeight, lowerWeight, Lists}
 use Rattle.bounds.specs.Halves.{Listable, UpperAdded, LowerAdded}
 use Rattle.bounds.proofs.Weights.{neg-weight}
 use Rattle.bounds.proofs.Halves.{upper-lists, lower-lists}
 use Rattle.rounds.specs.Propagate.{leastFrom, leastTo, isUpper, isLower, upperBound, lowerBound}
-use Rattle.rounds.specs.Compiled.{RowIn, Constrained, Listing}
+use Rattle.rounds.specs.Compiled.{Constrained, Listing}
 
 -- a weight adds what the definition does, for each sign, around zero and at both ends
 upper-adds : (b : ℕ) (w : ℤ) → InLimits w → b + upperWeight w - 10080 ≡ leastFrom b w
@@ -46,8 +46,8 @@ not-counted true k b y e = rw e
 not-counted false k b y e = refl
 
 -- the bias is taken off each part
-unbiased : (x m a h y : ℕ) → x ≡ max m a → a - h ≡ y → x - h ≡ max (m - h) y
-unbiased x m a h y e p = omega arith
+without-bias : (x m a h y : ℕ) → x ≡ max m a → a - h ≡ y → x - h ≡ max (m - h) y
+without-bias x m a h y e p = omega arith
 
 joined : (x y z p q : ℕ) → x ≡ max p z → p ≡ max q y → x ≡ max q (max y z)
 joined x y z p q e f = omega arith
@@ -59,28 +59,26 @@ module _ (frame : Frame) (c : Constraint) (ok : Listable frame c) (Γ : Network)
   time-at v l = R .at v (omega (arith, F .events))
 
   upper-is : isUpper (c .kind) ≡ true
-      → cond (satisfies s (c .label))
+      → cond (covers Γ c s)
       (asking (c .from) (c .to) (upperWeight (c .bound)) row u) 0 - 10080 ≡ upperBound Γ σ s u c
   upper-is e =
-      rw (covers-satisfies Γ c s, ← time-at (c .to) (ok .to))
-      (counts (satisfies s (c .label)) (isUpper (c .kind)) (eqb (c .from) u) _ _ 10080 e
+      rw (← time-at (c .to) (ok .to))
+      (counts (covers Γ c s) (isUpper (c .kind)) (eqb (c .from) u) _ _ 10080 e
       (upper-adds (getD row (c .to) 0) (c .bound) (ok .bound)))
 
   lower-is : isLower (c .kind) ≡ true
-      → cond (satisfies s (c .label))
+      → cond (covers Γ c s)
       (asking (c .to) (c .from) (lowerWeight (c .bound)) row u) 0 - 10080 ≡ lowerBound Γ σ s u c
   lower-is e =
-      rw (covers-satisfies Γ c s, ← time-at (c .from) (ok .from))
-      (counts (satisfies s (c .label)) (isLower (c .kind)) (eqb (c .to) u) _ _ 10080 e
+      rw (← time-at (c .from) (ok .from))
+      (counts (covers Γ c s) (isLower (c .kind)) (eqb (c .to) u) _ _ 10080 e
       (lower-adds (getD row (c .from) 0) (c .bound) (ok .bound)))
 
   no-upper : isUpper (c .kind) ≡ false → upperBound Γ σ s u c ≡ 0
-  no-upper e = rw (covers-satisfies Γ c s)
-      (not-counted (satisfies s (c .label)) (isUpper (c .kind)) (eqb (c .from) u) _ e)
+  no-upper e = not-counted (covers Γ c s) (isUpper (c .kind)) (eqb (c .from) u) _ e
 
   no-lower : isLower (c .kind) ≡ false → lowerBound Γ σ s u c ≡ 0
-  no-lower e = rw (covers-satisfies Γ c s)
-      (not-counted (satisfies s (c .label)) (isLower (c .kind)) (eqb (c .to) u) _ e)
+  no-lower e = not-counted (covers Γ c s) (isLower (c .kind)) (eqb (c .to) u) _ e
 
 -- a constraint is listed
 module _ (frame : Frame) (c : Constraint) (ok : Listable frame c) where
@@ -94,7 +92,7 @@ module _ (frame : Frame) (c : Constraint) (ok : Listable frame c) where
         λ Γ σ row s u F l R.
         omega (
           arith,
-          A .adds s l row u,
+          A .adds Γ s l row u,
           upper-is frame c ok Γ σ row s u F R (rw k),
           no-lower frame c ok Γ σ row s u F R (rw k),
         );
@@ -110,7 +108,7 @@ module _ (frame : Frame) (c : Constraint) (ok : Listable frame c) where
         λ Γ σ row s u F l R.
         omega (
           arith,
-          A .adds s l row u,
+          A .adds Γ s l row u,
           lower-is frame c ok Γ σ row s u F R (rw k),
           no-upper frame c ok Γ σ row s u F R (rw k),
         );
@@ -125,8 +123,8 @@ module _ (frame : Frame) (c : Constraint) (ok : Listable frame c) where
     asks =
         λ Γ σ row s u F l R.
         joined _ _ _ _ _
-        (unbiased _ _ _ 10080 _ (B .adds s l row u) (lower-is frame c ok Γ σ row s u F R (rw k)))
-        (unbiased _ _ _ 10080 _ (A .adds s l row u) (upper-is frame c ok Γ σ row s u F R (rw k)));
+        (without-bias _ _ _ 10080 _ (B .adds Γ s l row u) (lower-is frame c ok Γ σ row s u F R (rw k)))
+        (without-bias _ _ _ 10080 _ (A .adds Γ s l row u) (upper-is frame c ok Γ σ row s u F R (rw k)));
   }
 
 -- all constraints, one by one

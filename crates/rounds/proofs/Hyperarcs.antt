@@ -1,5 +1,5 @@
--- Point 3 and the hyperarcs agree (004, Lemma 1 and Definition 16). The reaction is `network`'s, one minute; the
--- argument uses of it only that it is at least 1.
+-- Point 3 and the hyperarcs agree (004, Lemma 1 and Definition 16). The reaction is `network`'s; the argument uses of
+-- it only that it is at least 1.
 --
 -- From point 3 to the hyperarcs: either something that differs is known in s at the time of u, and its hyperarc asks
 -- no more than that, or nothing is, and the two times are equal. Back: let nothing that differs be known in s at the
@@ -11,79 +11,62 @@ use mathlib.Core.Path.{_≡_, _∙_}
 use mathlib.Core.Logic.{_⊎_, inl, inr, _↔_}
 use mathlib.Core.Bool.{Bool, true, false, _||_, not}
 use mathlib.Core.List.{List}
-use Prim.Native.Nat.{ℕ, zero, suc, _≤_, _<_, min}
+use Prim.Native.Nat.{ℕ, zero, suc, _≤_, _<_}
 use native.Mathlib.Omega.{arith}
 use borrow.Author.Tests.{not-true, not-false}
 use Rattle.prelude.specs.Bounded.{allBelow}
-use Rattle.prelude.proofs.Tests.{zero-is-one, either, or-true, or-false, by-cond, lt-or-ge, eq-or-ne}
+use Rattle.prelude.proofs.Tests.{zero-is-one, either, or-true, or-false, lt-or-ge}
 use Rattle.prelude.proofs.Bounded.{true-of-allBelow, allBelow-false}
+use Rattle.prelude.proofs.Minima.{minWhere-top, minWhere-le, minWhere-attained}
 use Rattle.network.specs.Build.{observation, scenarios}
 use Rattle.network.specs.Scenario.{agree}
-use Rattle.network.specs.Strategy.{time, knownFrom, known}
+use Rattle.network.specs.Strategy.{time, knownFrom, known, leastKnown}
 use Rattle.network.specs.Solution.{Indistinct}
 use Rattle.network.specs.WellFormed.{WellFormed}
 use Rattle.network.specs.declared.Network.{Network}
 use Rattle.network.proofs.Scenario.{agree-comm}
 use Rattle.network.proofs.Strategy.{observed-before, from-known, from-unknown}
-use Rattle.rounds.specs.Propagate.{leastKnown}
 use Rattle.rounds.specs.Hyperarcs.{Dynamic, Hyperarcs}
 
 -- the time of u in s
 abbrev at : Network → List ℕ → ℕ → ℕ → ℕ
 at Γ σ s u = time (Γ .events) σ s u
 
-module _ (Γ : Network) (σ : List ℕ) (s r m : ℕ) where
-  abbrev least : ℕ → ℕ
-  least k = leastKnown Γ σ s r m k
+module _ (Γ : Network) (σ : List ℕ) (s r : ℕ) where
+  -- something on which s and r differ is known in s by the time q
+  record Differs (k q : ℕ) : Type 0 where
+    proposition : ℕ
+    proposition-lt : proposition < k
+    differs : agree s r proposition ≡ false
+    by-then : knownFrom Γ σ s proposition ≤ q
 
-  -- what is least is no more than the bound, and than each differing proposition's known time
-  pub least-bound : (k : ℕ) → least k ≤ m
-  least-bound zero = omega arith
-  least-bound (suc k) =
-      by-cond (λ (z : ℕ). z ≤ m) (agree s r k) (least k) (min (least k) (knownFrom Γ σ s k))
-      (λ _. least-bound k) (λ _. omega (arith, least-bound k))
+  abbrev differing : ℕ → Bool
+  differing p = not (agree s r p)
 
-  pub least-known : (k p : ℕ) → p < k → agree s r p ≡ false → least k ≤ knownFrom Γ σ s p
-  least-known zero p h e = absurd (omega arith)
-  least-known (suc k) p h e =
-      elim (eq-or-ne p k) [
-        | inl q ↦ rw (← q, e) (omega arith)
-        | inr q ↦
-            by-cond (λ (z : ℕ). z ≤ knownFrom Γ σ s p) (agree s r k) (least k) (min (least k) (knownFrom Γ σ s k))
-            (λ _. least-known k p (omega arith) e) (λ _. omega (arith, least-known k p (omega arith) e))
+  -- what is least is no more than each differing proposition's known time, and it is one of them or the bound
+  least-known : (m k : ℕ) {q : ℕ} → Differs k q → leastKnown Γ σ s r m k ≤ q
+  least-known m k w =
+      omega (
+        arith,
+        w .by-then,
+        minWhere-le differing (knownFrom Γ σ s) m k (w .proposition) (w .proposition-lt) (rw (w .differs)),
+      )
+
+  least-is : (m k q : ℕ) → leastKnown Γ σ s r m k ≤ q → (m ≤ q) ⊎ Differs k q
+  least-is m k q h =
+      elim (minWhere-attained differing (knownFrom Γ σ s) m k) [
+        | inl e ↦ inl (omega arith)
+        | inr a ↦ inr (record {
+          proposition = a .place;
+          proposition-lt = a .place-lt;
+          differs = not-true _ (a .counted);
+          by-then = omega (arith, a .is);
+        })
       ]
-
-  -- and it is one of them
-  pub record Differs (k q : ℕ) : Type 0 where
-    pub proposition : ℕ
-    pub proposition-lt : proposition < k
-    pub differs : agree s r proposition ≡ false
-    pub by-then : knownFrom Γ σ s proposition ≤ q
-
-  pub least-is : (k q : ℕ) → least k ≤ q → (m ≤ q) ⊎ Differs k q
-  least-is zero q h = inl h
-  least-is (suc k) q h =
-      by-cond (λ (z : ℕ). z ≤ q → (m ≤ q) ⊎ Differs (suc k) q) (agree s r k) (least k)
-      (min (least k) (knownFrom Γ σ s k))
-      (λ _ l. more (least-is k q l))
-      (λ e l. elim (lt-or-ge q (least k)) [
-        | inl a ↦ inr (record { proposition = k; proposition-lt = omega arith; differs = e; by-then = omega arith })
-        | inr a ↦ more (least-is k q a)
-      ])
-      h
-    where
-      more : (m ≤ q) ⊎ Differs k q → (m ≤ q) ⊎ Differs (suc k) q
-      more (inl a) = inl a
-      more (inr d) = inr (record {
-        proposition = d .proposition;
-        proposition-lt = omega (arith, d .proposition-lt);
-        differs = d .differs;
-        by-then = d .by-then;
-      })
 
 module _ (Γ : Network) (σ : List ℕ) where
   -- something that differs is known, or nothing is
-  told-or-not : (s r u : ℕ) → Differs Γ σ s r (at Γ σ r u) (Γ .signals) (at Γ σ s u) ⊎ Indistinct Γ σ s r (at Γ σ s u)
+  told-or-not : (s r u : ℕ) → Differs Γ σ s r (Γ .signals) (at Γ σ s u) ⊎ Indistinct Γ σ s r (at Γ σ s u)
   told-or-not s r u =
       elim (either (allBelow (Γ .signals) test)) [
         | inl e ↦ inr (record {
@@ -112,13 +95,13 @@ module _ (Γ : Network) (σ : List ℕ) where
   hyperarcs-of-dynamic d = record {
     kept = λ s r u hs hr hu.
         elim (told-or-not s r u) [
-          | inl w ↦
+          | inl w ↦ least-known Γ σ s r (at Γ σ r u) (Γ .signals) w
+          | inr i ↦
               omega (
                 arith,
-                w .by-then,
-                least-known Γ σ s r (at Γ σ r u) (Γ .signals) (w .proposition) (w .proposition-lt) (w .differs),
+                d .alike s r u hs hr hu .alike i,
+                minWhere-top (differing Γ σ s r) (knownFrom Γ σ s) (at Γ σ r u) (Γ .signals),
               )
-          | inr i ↦ omega (arith, d .alike s r u hs hr hu .alike i, least-bound Γ σ s r (at Γ σ r u) (Γ .signals))
         ];
   }
 

@@ -2,19 +2,23 @@
 -- Assumes nothing.
 use mathlib.Core.Path.{_≡_, _∙_, ap}
 use mathlib.Core.List.{List}
-use Prim.Native.Nat.{ℕ, _+_, _-_, _*_, _^_, _≤_, _<_, max, min}
+use Prim.Native.Nat.{ℕ, _+_, _-_, _*_, _≤_, _<_, max, min}
 use native.Mathlib.Numerals.{add-one}
 use native.Mathlib.Omega.{arith}
 use lib.Bits.{bitXor, xor-zero-r}
 use lib.ListN.{getD}
 use Rattle.prelude.specs.Bounded.{maxBelow}
+use Rattle.network.specs.Build.{scenarios}
+use Rattle.network.specs.Strategy.{knownFrom}
+use Rattle.network.specs.declared.Network.{Network}
 use Rattle.rows.specs.declared.Frame.{Frame}
+use Rattle.rows.specs.Framed.{Framed}
 use Rattle.rows.specs.Rows.{rowOf, Row, Stored}
 use Rattle.rows.specs.Known.{First}
 use Rattle.rows.proofs.Packed.{row-at}
 use Rattle.bounds.specs.Listed.{listed}
 use Rattle.bounds.proofs.Listed.{maxBelow-ext}
-use Rattle.rounds.specs.Compiled.{raisedAt}
+use Rattle.rounds.specs.Rounds.{held, raisedAt}
 
 -- what the first d differences ask
 abbrev pub across : List ℕ → List ℕ → ℕ → ℕ → ℕ → ℕ
@@ -45,21 +49,21 @@ module _ (counts lists t : List ℕ) (s : ℕ) where
       → (u : ℕ) → u < 16 → getD row u 0 ≤ getD o u 0
   rises f e h i u l = rw e (omega (arith, h .is u l, i .is u l, row-at t s u l))
 
-  pub raised-row : {first o₀ o : List ℕ} (frame : Frame) → frame .scenarios ≡ 2 ^ frame .signals
-      → First (frame .signals) (λ p. getD (rowOf t s) (getD (frame .observations) p 0) 0 + 1) first → Row o₀ ruled
+  pub raised-row : {first o₀ o : List ℕ} (Γ : Network) {frame : Frame} → Framed Γ frame
+      → First (frame .signals) (knownFrom Γ (held Γ t) s) first → Row o₀ ruled
       → Row o (λ u. max (getD o₀ u 0) (across t first s (frame .scenarios) u))
-      → Row o (λ u. raisedAt frame counts lists t s u)
+      → Row o (λ u. raisedAt Γ counts lists t s u)
   unfolding raisedAt
-  raised-row frame c F h i = record {
+  raised-row Γ F k h i = record {
     sized = i .sized;
     is =
         λ u l.
         omega (
           arith,
-          i .is u l,
+          (rw (F .scenarios-are) at i) .is u l,
           h .is u l,
-          maxBelow-ext _ _ (frame .scenarios)
-              (λ d m. ap (λ (x : ℕ). min (getD t (bitXor s d * 16 + u) 0) x) (F .is d (rw c at m))),
+          maxBelow-ext _ _ (scenarios Γ)
+              (λ d m. ap (λ (x : ℕ). min (getD t (bitXor s d * 16 + u) 0) x) ((rw (F .signals) at k) .is d m)),
         );
   }
 

@@ -1,13 +1,14 @@
 -- The round is a rising step on strategies of the network's size, under which no difference grows; and what it asks
 -- no raise of keeps the constraints and the hyperarcs. Assumes nothing.
 use mathlib.Core.Path.{_≡_, _∙_}
-use mathlib.Core.Bool.{Bool, true, false, _&&_, cond}
+use mathlib.Core.Bool.{_&&_, not}
 use mathlib.Core.List.{List}
-use Prim.Native.Nat.{ℕ, zero, suc, _+_, _*_, _/_, _%_, _≤_, _<_, max, min}
+use Prim.Native.Nat.{ℕ, _+_, _*_, _/_, _%_, _≤_, _<_, max}
 use native.Mathlib.Omega.{arith}
 use lib.Dec.{eqb}
 use lib.ListN.{length, getD}
 use Rattle.prelude.proofs.Bounded.{le-maxBelow, maxBelow-le, maxBelow-near, length-tabulate, getD-tabulate}
+use Rattle.prelude.proofs.Minima.{minWhere-near}
 use Rattle.prelude.proofs.Cells.{cell-lt, row-of, column-of, by-cell}
 use Rattle.fixpoint.specs.Order.{Below}
 use Rattle.fixpoint.specs.Step.{Rising}
@@ -17,11 +18,11 @@ use Rattle.fixpoint.proofs.Iterate.{near-monotone}
 use Rattle.network.specs.Build.{observation, constraint, scenarios, cells}
 use Rattle.network.specs.Scenario.{agree}
 use Rattle.network.specs.Constraint.{covers}
-use Rattle.network.specs.Strategy.{time}
+use Rattle.network.specs.Strategy.{time, knownFrom}
 use Rattle.network.specs.Solution.{Holds}
 use Rattle.network.specs.WellFormed.{WellFormed}
 use Rattle.network.specs.declared.Network.{Network}
-use Rattle.rounds.specs.Propagate.{isUpper, isLower, upperBound, lowerBound, leastKnown, hyperarc, raised}
+use Rattle.rounds.specs.Propagate.{isUpper, isLower, upperBound, lowerBound, hyperarc, raised}
 use Rattle.rounds.specs.Propagate.{propagate}
 use Rattle.rounds.specs.Hyperarcs.{Hyperarcs}
 use Rattle.rounds.proofs.Bounds.{leastFrom-near, leastTo-near, cond-near, upper-of-holds, lower-of-holds}
@@ -30,11 +31,6 @@ use Rattle.rounds.proofs.Bounds.{holds-of-bounds}
 -- what one constraint asks, by both halves
 abbrev asks : Network → List ℕ → ℕ → ℕ → ℕ → ℕ
 asks Γ σ s u c = max (upperBound Γ σ s u (constraint Γ c)) (lowerBound Γ σ s u (constraint Γ c))
-
--- the lesser of what is asked so far and a known time, where the two scenarios differ
-cond-min-near : (e : ℕ) (t : Bool) (x y v w : ℕ) → x ≤ y + e → v ≤ w + e → cond t x (min x v) ≤ cond t y (min y w) + e
-cond-min-near e true x y v w h k = h
-cond-min-near e false x y v w h k = omega arith
 
 -- times that are at most e later ask for times that are at most e later: each bound is a time and a number, or the
 -- least of such, and a time is the greatest of its bounds
@@ -50,11 +46,10 @@ module _ (Γ : Network) (e : ℕ) (σ τ : List ℕ) (o : Over e τ σ) (s : ℕ
             (leastTo-near e _ _ (r .bound) (o .at (s * Γ .events + r .from))),
       )
 
-  leastKnown-near : (r m l k : ℕ) → m ≤ l + e → leastKnown Γ σ s r m k ≤ leastKnown Γ τ s r l k + e
-  leastKnown-near r m l zero h = h
-  leastKnown-near r m l (suc k) h =
-      cond-min-near e (agree s r k) _ _ _ _ (leastKnown-near r m l k h)
-      (omega (arith, o .at (s * Γ .events + observation Γ k)))
+  hyperarc-near : (r u : ℕ) → hyperarc Γ σ s r u ≤ hyperarc Γ τ s r u + e
+  hyperarc-near r u =
+      minWhere-near (λ p. not (agree s r p)) (knownFrom Γ σ s) (knownFrom Γ τ s) _ _ e (Γ .signals)
+      (o .at (r * Γ .events + u)) (λ p _ _. omega (arith, o .at (s * Γ .events + observation Γ p)))
 
   raised-near : (u : ℕ) → raised Γ σ s u ≤ raised Γ τ s u + e
   raised-near u =
@@ -63,7 +58,7 @@ module _ (Γ : Network) (e : ℕ) (σ τ : List ℕ) (o : Over e τ σ) (s : ℕ
         o .at (s * Γ .events + u),
         maxBelow-near (asks Γ σ s u) (asks Γ τ s u) e (Γ .rules) (λ c _. asks-near u c),
         maxBelow-near (λ r. hyperarc Γ σ s r u) (λ r. hyperarc Γ τ s r u) e (scenarios Γ)
-            (λ r _. leastKnown-near r _ _ (Γ .signals) (o .at (r * Γ .events + u))),
+            (λ r _. hyperarc-near r u),
       )
 
 module _ (Γ : Network) (σ : List ℕ) where

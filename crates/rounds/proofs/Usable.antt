@@ -8,6 +8,8 @@ use lib.Bits.{bitXor, xor-lt}
 use lib.ListN.{getD}
 use Rattle.prelude.specs.Bounded.{maxBelow}
 use Rattle.prelude.proofs.Bounded.{maxBelow-le}
+use Rattle.network.specs.Build.{scenarios}
+use Rattle.network.specs.Strategy.{knownFrom}
 use Rattle.rows.specs.declared.Frame.{Frame}
 use Rattle.rows.specs.Known.{firstOf}
 use Rattle.rows.specs.Rows.{Few, Row, Times, rowOf}
@@ -15,7 +17,8 @@ use Rattle.rows.proofs.Packed.{sixteen, row-at}
 use Rattle.bounds.specs.Listed.{Lists, Short}
 use Rattle.bounds.proofs.Listed.{lists-wider}
 use Rattle.bounds.proofs.Asked.{asked-few}
-use Rattle.rounds.specs.Compiled.{Usable, raisedAt}
+use Rattle.rounds.specs.Compiled.{Usable}
+use Rattle.rounds.specs.Rounds.{held, raisedAt}
 use Rattle.rounds.proofs.Raise.{across, ruled}
 
 module _ {frame : Frame} {counts lists : List ℕ} (U : Usable frame counts lists) where
@@ -27,12 +30,6 @@ module _ {frame : Frame} {counts lists : List ℕ} (U : Usable frame counts list
 
   pub scenarios-in : frame .scenarios ≤ 16
   scenarios-in = rw powers (sixteen (frame .signals) signals-in)
-
-  pub observed-in : (p : ℕ) → p < frame .signals → getD (frame .observations) p 0 < 16
-  observed-in p l =
-      let W = U .compiled .formed in
-      let F = U .compiled .framed in
-      rw (F .observations) (omega (arith, W .observed p (omega (arith, F .signals)), W .events))
 
   pub lists-in : Lists 16 counts lists
   lists-in =
@@ -66,8 +63,10 @@ module _ {frame : Frame} {counts lists : List ℕ} (U : Usable frame counts list
     raising-few first d b h i u l =
         omega (arith, i .is u l, h .is u l, ruled-few u l, across-few (λ e. getD first e 0) d u b l)
 
-    pub raised-few : (u : ℕ) → u < 16 → raisedAt frame counts lists t s u ≤ 20160
+    pub raised-few : (u : ℕ) → u < 16 → raisedAt (U .network) counts lists t s u ≤ 20160
     unfolding raisedAt
     raised-few u l =
-        let first = firstOf (frame .signals) (λ p. getD (rowOf t s) (getD (frame .observations) p 0) 0 + 1) in
-        omega (arith, ruled-few u l, across-few first (frame .scenarios) u (omega arith) l)
+        let Γ = U .network in
+        let first = firstOf (Γ .signals) (knownFrom Γ (held Γ t) s) in
+        let all : scenarios Γ ≤ frame .scenarios = omega (arith, U .compiled .framed .scenarios-are) in
+        omega (arith, ruled-few u l, across-few first (scenarios Γ) u all l)

@@ -1,26 +1,19 @@
 -- What the rounds are given of a network: its constraints as lists of bounds, beside its frame.
 use mathlib.Core.Path.{_≡_}
 use mathlib.Core.List.{List}
-use Prim.Native.Nat.{ℕ, _+_, _-_, _*_, _≤_, _<_, max, min}
-use lib.Bits.{bitXor}
+use Prim.Native.Nat.{ℕ, _+_, _-_, _≤_, _<_, max}
 use lib.ListN.{getD}
 use Rattle.prelude.specs.Bounded.{maxBelow}
 use Rattle.network.specs.Limits as L
 use Rattle.network.specs.Build.{constraint}
-use Rattle.network.specs.Strategy.{time}
 use Rattle.network.specs.WellFormed.{WellFormed}
 use Rattle.network.specs.declared.Constraint.{Constraint}
 use Rattle.network.specs.declared.Network.{Network}
 use Rattle.rows.specs.declared.Frame.{Frame}
 use Rattle.rows.specs.Framed.{Framed}
-use Rattle.rows.specs.Rows.{rowOf}
-use Rattle.rows.specs.Known.{firstOf}
+use Rattle.rows.specs.Rows.{RowIn}
 use Rattle.bounds.specs.Listed.{Lists, Short, listed}
 use Rattle.rounds.specs.Propagate.{upperBound, lowerBound}
-
--- row has the times of scenario s in σ
-pub record RowIn (Γ : Network) (σ : List ℕ) (s : ℕ) (row : List ℕ) : Type 0 where
-  pub at : (u : ℕ) → u < Γ .events → getD row u 0 ≡ time (Γ .events) σ s u
 
 -- the constraint is listed
 pub record Constrained (frame : Frame) (c : Constraint) (counts lists counts′ lists′ : List ℕ) : Type 0 where
@@ -47,12 +40,3 @@ pub record Compiled (Γ : Network) (frame : Frame) (counts lists : List ℕ) : T
 pub record Usable (frame : Frame) (counts lists : List ℕ) : Type 0 where
   pub network : Network
   pub compiled : Compiled network frame counts lists
-
--- what a round makes of event u in scenario s: the other scenarios are told by the set d of propositions on which
--- they differ from s
-unfoldable pub raisedAt : Frame → List ℕ → List ℕ → List ℕ → ℕ → ℕ → ℕ
-raisedAt frame counts lists t s u =
-    max (max (getD t (s * 16 + u) 0) (listed counts lists s (rowOf t s) u - L.horizon))
-    (maxBelow (frame .scenarios)
-    (λ d. min (getD t (bitXor s d * 16 + u) 0)
-    (firstOf (frame .signals) (λ p. getD (rowOf t s) (getD (frame .observations) p 0) 0 + 1) d)))

@@ -2,14 +2,13 @@
 -- value iteration). Document 02, point 8, fixes this round.
 use mathlib.Core.Bool.{Bool, true, false, _&&_, cond}
 use mathlib.Core.List.{List}
-use Prim.Native.Nat.{ℕ, zero, suc, _+_, _-_, _/_, _%_, max, min}
+use Prim.Native.Nat.{ℕ, suc, _+_, _-_, _/_, _%_, max}
 use lib.IntN.{ℤ, pos, negsuc}
 use lib.Dec.{eqb}
 use Rattle.prelude.specs.Bounded.{maxBelow, tabulate}
 use Rattle.network.specs.Build.{constraint, scenarios, cells}
-use Rattle.network.specs.Scenario.{agree}
 use Rattle.network.specs.Constraint.{covers}
-use Rattle.network.specs.Strategy.{time, knownFrom}
+use Rattle.network.specs.Strategy.{time, leastKnown}
 use Rattle.network.specs.declared.Kind.{Kind}
 use Rattle.network.specs.declared.Kind.the-variants.{Max, Min, Fix}
 use Rattle.network.specs.declared.Constraint.{Constraint}
@@ -53,15 +52,10 @@ module _ (Γ : Network) (σ : List ℕ) where
   constraintsBound s u = maxBelow (Γ .rules)
       (λ c. max (upperBound s u (constraint Γ c)) (lowerBound s u (constraint Γ c)))
 
-  -- the lesser of m and the times from which on, in s, one of the k first propositions is known on which s and r differ
-  abbrev pub leastKnown : ℕ → ℕ → ℕ → ℕ → ℕ
-  leastKnown s r m zero = m
-  leastKnown s r m (suc k) = cond (agree s r k) (leastKnown s r m k) (min (leastKnown s r m k) (knownFrom Γ σ s k))
-
   -- the hyperarc of s, r and u (004, Definition 16): "the lesser of the other case's minute and one more than the
   -- earliest differing signal in its own case"
   abbrev pub hyperarc : ℕ → ℕ → ℕ → ℕ
-  hyperarc s r u = leastKnown s r (at r u) (Γ .signals)
+  hyperarc s r u = leastKnown Γ σ s r (at r u) (Γ .signals)
 
   -- what all hyperarcs ask
   abbrev pub hyperarcsBound : ℕ → ℕ → ℕ

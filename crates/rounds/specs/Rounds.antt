@@ -1,16 +1,22 @@
--- What a round says of the table that it made, and what it makes.
+-- What a round makes of a table, and what its effect is.
 use mathlib.Core.Path.{_≡_}
 use mathlib.Core.Bool.{Bool, true, false}
 use mathlib.Core.List.{List}
-use Prim.Native.Nat.{ℕ}
-use lib.ListN.{length}
+use Prim.Native.Nat.{ℕ, _+_, _-_, _*_, max, min}
+use lib.Bits.{bitXor}
+use lib.ListN.{length, getD}
+use Rattle.prelude.specs.Bounded.{maxBelow}
 use Rattle.prelude.specs.Bytes.{same}
 use Rattle.fixpoint.specs.Run.{within}
+use Rattle.network.specs.Limits as L
 use Rattle.network.specs.Build.{scenarios}
+use Rattle.network.specs.Strategy.{knownFrom}
 use Rattle.network.specs.declared.Network.{Network}
-use Rattle.rows.specs.Rows.{packed, Times}
-use Rattle.rounds.specs.declared.Outcome.{Outcome}
-use Rattle.rounds.specs.declared.Outcome.the-variants.{Passes, Rests, Rises}
+use Rattle.rows.specs.Rows.{packed, rowOf, Times}
+use Rattle.rows.specs.Known.{firstOf}
+use Rattle.bounds.specs.Listed.{listed}
+use Rattle.rounds.specs.declared.Effect.{Effect}
+use Rattle.rounds.specs.declared.Effect.the-variants.{Passes, Rests, Rises}
 use Rattle.rounds.specs.Propagate.{propagate}
 use Rattle.rounds.specs.Cap.{cap}
 
@@ -18,18 +24,26 @@ use Rattle.rounds.specs.Cap.{cap}
 abbrev pub held : Network → List ℕ → List ℕ
 held Γ t = packed (Γ .events) (scenarios Γ) t
 
--- by the two tests of a run: no time is over its limit; no time was raised
-abbrev pub outcome : Bool → Bool → Outcome
-outcome false rests = Passes
-outcome true true = Rests
-outcome true false = Rises
+-- what it makes of event u in scenario s: the other scenarios are told by the set d of propositions on which they
+-- differ from s
+unfoldable pub raisedAt : Network → List ℕ → List ℕ → List ℕ → ℕ → ℕ → ℕ
+raisedAt Γ counts lists t s u =
+    max (max (getD t (s * 16 + u) 0) (listed counts lists s (rowOf t s) u - L.horizon))
+    (maxBelow (scenarios Γ)
+    (λ d. min (getD t (bitXor s d * 16 + u) 0) (firstOf (Γ .signals) (knownFrom Γ (held Γ t) s) d)))
 
-unfoldable pub outcomeOf : Network → List ℕ → Outcome
-outcomeOf Γ σ = outcome (within (cap Γ) (propagate Γ σ)) (same (propagate Γ σ) σ)
+-- by the two tests of a run: no time is over its limit; no time was raised
+abbrev pub effect : Bool → Bool → Effect
+effect false rests = Passes
+effect true true = Rests
+effect true false = Rises
+
+unfoldable pub effectOf : Network → List ℕ → Effect
+effectOf Γ σ = effect (within (cap Γ) (propagate Γ σ)) (same (propagate Γ σ) σ)
 
 -- a round from t to t′
-pub record Rounded (Γ : Network) (t t′ : List ℕ) (r : Outcome) : Type 0 where
+pub record Rounded (Γ : Network) (t t′ : List ℕ) (r : Effect) : Type 0 where
   pub sized : length t′ ≡ 256
   pub made : held Γ t′ ≡ propagate Γ (held Γ t)
-  pub outcome-is : r ≡ outcomeOf Γ (held Γ t)
+  pub effect-is : r ≡ effectOf Γ (held Γ t)
   pub times : r ≡ Rises → Times (Γ .events) (scenarios Γ) t′

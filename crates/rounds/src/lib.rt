@@ -6,17 +6,16 @@ ghost use lib.ListN.{length, getD};
 ghost use Rattle.network.specs.Limits as L;
 ghost use Rattle.network.specs.declared.Network.{Network};
 ghost use Rattle.rows.specs.Rows.{Few, Times, Stored};
-ghost use Rattle.rounds.specs.Compiled.{Compiled, Usable, raisedAt};
-ghost use Rattle.rounds.specs.Rounds.{Rounded};
+ghost use Rattle.rounds.specs.Compiled.{Compiled, Usable};
+ghost use Rattle.rounds.specs.Rounds.{raisedAt, Rounded};
 use network::Network;
 use rows::Frame;
 use rows::known;
 
 pub mod compile;
 
-// What a round says of the table that it made: a time is over its limit; no time was raised; or times were raised,
-// within limits.
-pub enum Outcome {
+// The effect of a round: a time is over its limit; no time was raised; or times were raised, within limits.
+pub enum Effect {
     Passes,
     Rests,
     Rises,
@@ -37,9 +36,10 @@ fn raise_row(
         × Times (frame .events) (frame .scenarios) (now t) × (length (now new) ≡ L.cells)
         × (length (now climb) ≡ L.events) × Few 32767 (now climb)
         × (length (now highest) ≡ L.events) × Few 32767 (now highest) ⌝ }
-    ensures { λ _. ⌜ Stored (now (new .entry)) (now (new .exit)) s (λ u. getD (now (t .entry)) (s * L.events + u) 0)
-        (λ u. raisedAt frame (now (counts .entry)) (now (lists .entry)) (now (t .entry)) s u)
-        (now (climb .entry)) (now (climb .exit)) (now (highest .entry)) (now (highest .exit)) ⌝ }
+    ensures { λ _. ⌜ ((Γ : Network) → Compiled Γ frame (now (counts .entry)) (now (lists .entry))
+        → Stored (now (new .entry)) (now (new .exit)) s (λ u. getD (now (t .entry)) (s * L.events + u) 0)
+        (λ u. raisedAt Γ (now (counts .entry)) (now (lists .entry)) (now (t .entry)) s u)
+        (now (climb .entry)) (now (climb .exit)) (now (highest .entry)) (now (highest .exit))) ⌝ }
 {
     let mut row: [u16; Network::EVENTS] = [0; Network::EVENTS];
     rows::read_row(t, s, &mut row);
@@ -58,14 +58,14 @@ fn raise_row(
     rows::store_row(new, s, &row, &o, climb, highest)
 }
 
-// The table after t, and what is to be said of it.
+// The table after t, and the round's effect.
 pub fn round(
     t: &[u16; Network::CELLS],
     new: &mut [u16; Network::CELLS],
     frame: Frame,
     counts: &[usize; Network::CASES],
     lists: &[u16; bounds::LIST],
-) -> Outcome
+) -> Effect
     requires { ⌜ Usable frame (now counts) (now lists) × Times (frame .events) (frame .scenarios) (now t)
         × (length (now new) ≡ L.cells) ⌝ }
     ensures { λ r. ⌜ ((Γ : Network) → Compiled Γ frame (now (counts .entry)) (now (lists .entry))
@@ -80,10 +80,10 @@ pub fn round(
         s += 1;
     }
     if frame.horizon < rows::greatest(&highest) || 0 < highest[0] {
-        return Outcome::Passes;
+        return Effect::Passes;
     }
     if rows::greatest(&climb) == 0 {
-        return Outcome::Rests;
+        return Effect::Rests;
     }
-    Outcome::Rises
+    Effect::Rises
 }

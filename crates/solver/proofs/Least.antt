@@ -25,7 +25,7 @@ use Rattle.solver.specs.Solve.{floor, solve}
 use Rattle.rounds.proofs.Hyperarcs.{hyperarcs-agree}
 use Rattle.rounds.proofs.Rising.{closed-of, viable-of, hyperarcs-of}
 use Rattle.rounds.proofs.Cap.{length-cap, within-cap, cap-within}
-use Rattle.rounds.proofs.Turns.{step-rises}
+use Rattle.rounds.proofs.Effects.{step-rises}
 
 module _ (Γ : Network) where
   -- point 1 is to be within the cap

@@ -23,7 +23,7 @@ use Rattle.rounds.specs.Propagate.{propagate}
 use Rattle.rounds.specs.Cap.{cap}
 use Rattle.rounds.specs.Rounds.{held}
 use Rattle.rounds.proofs.Cap.{length-cap, cap-few}
-use Rattle.rounds.proofs.Turns.{length-held, step-rises}
+use Rattle.rounds.proofs.Effects.{length-held, step-rises}
 use Rattle.solver.specs.declared.Solved.the-variants.{Found, Inconsistent}
 use Rattle.solver.specs.declared.Ended.{Ended}
 use Rattle.solver.specs.declared.Ended.the-variants as ended

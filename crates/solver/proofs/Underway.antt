@@ -13,13 +13,13 @@ use Rattle.fixpoint.specs.Run as run
 use Rattle.network.specs.declared.Network.{Network}
 use Rattle.rows.specs.declared.Frame.{Frame}
 use Rattle.rows.specs.Rows.{Times, Wrote}
-use Rattle.rounds.specs.declared.Outcome.{Outcome}
-use Rattle.rounds.specs.declared.Outcome.the-variants.{Passes, Rests, Rises}
+use Rattle.rounds.specs.declared.Effect.{Effect}
+use Rattle.rounds.specs.declared.Effect.the-variants.{Passes, Rests, Rises}
 use Rattle.rounds.specs.Propagate.{propagate}
 use Rattle.rounds.specs.Cap.{cap}
 use Rattle.rounds.specs.Compiled.{Compiled, Usable}
 use Rattle.rounds.specs.Rounds.{held, Rounded}
-use Rattle.rounds.proofs.Turns.{rounded-as, round-passes, round-rests}
+use Rattle.rounds.proofs.Effects.{rounded-as, round-passes, round-rests}
 use Rattle.leap.specs.Tables.{Advanced}
 use Rattle.leap.specs.Passing.{Passing}
 use Rattle.leap.proofs.Tables.{advanced-none, advanced-join, advanced-round, advanced-copied, advanced-here}
@@ -84,7 +84,7 @@ module _ {frame : Frame} {counts lists : List ℕ} {t base a : List ℕ} {at now
       }
 
 -- a turn of the loop, up to what it passes over: a round that rises is copied, and may be kept
-pub underway-turn : {frame : Frame} {counts lists t base base′ a b a′ : List ℕ} {at now cells q : ℕ} {r : Outcome}
+pub underway-turn : {frame : Frame} {counts lists t base base′ a b a′ : List ℕ} {at now cells q : ℕ} {r : Effect}
     → Underway frame counts lists t base a at now → Usable frame counts lists → r ≡ Rises
     → ((Γ : Network) → Compiled Γ frame counts lists → Rounded Γ a b r) → cells ≡ frame .scenarios * 16
     → Wrote a a′ 0 cells (λ i. getD b i 0) → Kept a′ base base′ cells at (now + 1) q

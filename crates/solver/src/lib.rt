@@ -12,7 +12,7 @@ ghost use Rattle.rounds.specs.Compiled.{Compiled, Usable};
 ghost use Rattle.solver.specs.Solved.{SolvedIs};
 ghost use Rattle.solver.specs.Run.{RunIs, Kept};
 use network::Network;
-use rounds::Outcome;
+use rounds::Effect;
 use rows::Frame;
 
 // The answer, with the count of rounds.
@@ -88,15 +88,15 @@ pub fn run(
         rounds += 1;
         turns = std::num::wrapping_add_u32(turns, 1);
         match rounds::round(a, &mut b, frame, counts, lists) {
-            Outcome::Passes => return Ended::Passes {
+            Effect::Passes => return Ended::Passes {
                 rounds: rounds,
                 turns: turns,
             },
-            Outcome::Rests => return Ended::Rests {
+            Effect::Rests => return Ended::Rests {
                 rounds: rounds,
                 turns: turns,
             },
-            Outcome::Rises => {}
+            Effect::Rises => {}
         }
         w = guess::watch(w, turns, rounds, rounds - at, &mut mark, a, &b, cells);
         v = guess::follow(v, turns, &mut since, a, &b, cells);

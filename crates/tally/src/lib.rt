@@ -7,7 +7,7 @@
 ghost use Prim.Native.Nat.{_+_, _*_};
 ghost use Rattle.rounds.specs.Compiled.{Usable};
 use network::Network;
-use rounds::Outcome;
+use rounds::Effect;
 use rows::Frame;
 use solver::BUDGET;
 use solver::Ended;
@@ -73,17 +73,17 @@ fn by_rounds(frame: Frame, counts: &[usize; Network::CASES], lists: &[u16; bound
     while rounds < BUDGET {
         rounds += 1;
         match rounds::round(&a, &mut b, frame, counts, lists) {
-            Outcome::Passes => return Count {
+            Effect::Passes => return Count {
                 rounds: rounds,
                 turns: rounds,
                 sum: NONE,
             },
-            Outcome::Rests => return Count {
+            Effect::Rests => return Count {
                 rounds: rounds,
                 turns: rounds,
                 sum: sum_of(&a),
             },
-            Outcome::Rises => {}
+            Effect::Rises => {}
         }
         moves::copy(&b, &mut a, cells);
     }

@@ -7,14 +7,19 @@ use Prim.Native.Nat.{ℕ, _+_, _-_, _*_, _≤_, _<_, max}
 use native.Mathlib.Omega.{arith}
 use borrow.Author.Needs.{needs}
 use lib.ListN.{getD}
+use Rattle.network.specs.Build.{scenarios}
+use Rattle.network.specs.Strategy.{knownFrom}
+use Rattle.network.specs.declared.Network.{Network}
 use Rattle.rows.specs.Known.{First}
 use Rattle.rows.specs.Rows.{Few, Row, rowOf}
 use Rattle.rows.proofs.Packed.{row-is}
 use Rattle.rows.proofs.First.{first-few}
-use Rattle.rounds.specs.Compiled.{raisedAt}
+use Rattle.rounds.specs.Compiled.{Compiled}
+use Rattle.rounds.specs.Rounds.{held, raisedAt}
 use Rattle.rounds.proofs.Raise.{across, ruled, ruled-is, across-start, across-next, rises, raised-row}
 use Rattle.rounds.proofs.Raise.{stored-ext}
-use Rattle.rounds.proofs.Usable.{powers, signals-in, scenarios-in, observed-in, lists-in, short-in}
+use Rattle.rounds.proofs.Raised.{row-in}
+use Rattle.rounds.proofs.Usable.{powers, signals-in, scenarios-in, lists-in, short-in}
 use Rattle.rounds.proofs.Usable.{other-in, row-few, raising-few}
 use Rattle.rounds.proofs.raise_row.Statement.{statement}
 use Rattle.rounds.proofs.raise_row.Tie as tie
@@ -51,13 +56,15 @@ read-few c = let z = c .before .before in rw (row-of c) (row-few (z .pre .1) (z 
 abbrev firsts : tie.After-lower Inv-loop μ-loop → List ℕ
 firsts c = c .before .before .before .before .before .before .before .before .first-known .last .1 .1 .0
 
-known-first : (c : tie.After-lower Inv-loop μ-loop)
-    → First (start c .args .frame .signals)
-    (λ p. getD (rowOf (start c .args .t .now) (start c .args .s))
-    (getD (start c .args .frame .observations) p 0) 0 + 1) (firsts c)
-known-first c =
+known-first : (c : tie.After-lower Inv-loop μ-loop) (Γ : Network)
+    → Compiled Γ (start c .args .frame) (start c .args .counts .now) (start c .args .lists .now)
+    → First (start c .args .frame .signals) (knownFrom Γ (held Γ (start c .args .t .now)) (start c .args .s)) (firsts c)
+known-first c Γ C =
+    let a = start c .args in
+    let in-s : a .s < scenarios Γ = omega (arith, start c .pre .0, C .framed .scenarios-are) in
     let first-known = c .before .before .before .before .before .before .before .before .first-known in
-    rw (row-of (reading c)) at (first-known .ensures)
+    first-known .ensures Γ (held Γ (a .t .now)) (a .s) (C .formed) (C .framed)
+    (row-in C (a .t .now) (a .s) in-s (row-of (reading c)))
 
 by-bounds : (c : tie.After-lower Inv-loop μ-loop)
     → Row (c .lower .last .0)
@@ -85,7 +92,7 @@ read-row-requires c κs = (s-in (c .before), refl)
 first-known-requires : tie.Need-first-known-requires Inv-loop μ-loop
 first-known-requires c κs =
     let U = c .before .before .before .before .pre .1 in
-    (signals-in U, observed-in U, read-few (c .before .before), refl)
+    (signals-in U, read-few (c .before .before), refl)
 
 lift-requires : tie.Need-lift-requires Inv-loop μ-loop
 lift-requires c κs = (read-few (c .before .before .before .before .before), refl)
@@ -124,10 +131,11 @@ raise-by-scenario-requires c κs =
     let z = start (l .before) in
     let d = l .loop .d in
     let taken = c .before .loop-test .taken in
-    let r = other-in (z .pre .1) (z .args .s) d (z .pre .0) taken in (
-      omega (arith, r, scenarios-in (z .pre .1)),
+    let U = z .pre .1 in
+    let r = other-in U (z .args .s) d (z .pre .0) taken in (
+      omega (arith, r, scenarios-in U),
       l .loop .inv .2 .sized,
-      first-few _ (known-first (l .before)) d (rw (powers (z .pre .1)) at taken),
+      first-few _ (known-first (l .before) (U .network) (U .compiled)) d (rw (powers U) at taken),
       o-few l,
       λ u h. omega (arith, z .pre .2 .few _ u r h),
     )
@@ -177,13 +185,13 @@ returns c =
     let z = start (l .before) in
     let a = z .args in
     let e : loop .d ≡ a .frame .scenarios = omega (arith, test .left) in
-    let made = raised-row (a .counts .now) (a .lists .now) (a .t .now) (a .s) (a .frame) (powers (z .pre .1))
-    (known-first (l .before))
-    (by-bounds (l .before)) (rw e at (loop .inv .2))
+    λ Γ C.
+    let made = raised-row (a .counts .now) (a .lists .now) (a .t .now) (a .s) Γ (C .framed)
+    (known-first (l .before) Γ C) (by-bounds (l .before)) (rw e at (loop .inv .2))
     in
     stored-ext (λ u. getD (read (reading (l .before))) u 0) (λ u. getD (a .t .now) (a .s * 16 + u) 0)
     (λ u. getD (loop .o) u 0)
-    (λ u. raisedAt (a .frame) (a .counts .now) (a .lists .now) (a .t .now) (a .s) u)
+    (λ u. raisedAt Γ (a .counts .now) (a .lists .now) (a .t .now) (a .s) u)
     (reading (l .before) .read-row .ensures .is)
     (made .is) (c .store-row .ensures)
 

@@ -8,7 +8,7 @@ use native.Mathlib.Omega.{arith}
 use borrow.Author.Needs.{needs}
 use lib.ListN.{length}
 use Rattle.rounds.proofs.Usable.{scenarios-in}
-use Rattle.rounds.proofs.Turns.{rounded-as}
+use Rattle.rounds.proofs.Effects.{rounded-as}
 use Rattle.solver.proofs.Underway.{Underway, underway-start, underway-turn, underway-leapt, all-of}
 use Rattle.solver.proofs.Underway.{ended-passing, ended-resting, ended-later, ended-spent}
 use Rattle.solver.proofs.run.Statement.{statement}

@@ -7,7 +7,7 @@ use borrow.Author.Needs.{needs}
 use lib.ListN.{length}
 use Rattle.rows.specs.Rows.{Times}
 use Rattle.rounds.proofs.Usable.{scenarios-in}
-use Rattle.rounds.proofs.Turns.{rounded-as, times-framed}
+use Rattle.rounds.proofs.Effects.{rounded-as, times-framed}
 use Rattle.moves.proofs.Moves.{wrote-times}
 use Rattle.solver.proofs.Solving.{zero-times}
 use Rattle.tally.proofs.by_rounds.Statement.{statement}

@@ -8,7 +8,7 @@ use borrow.Author.Needs.{needs}
 use lib.ListN.{length}
 use Rattle.prelude.proofs.Tests.{clash}
 use Rattle.rounds.proofs.Usable.{scenarios-in}
-use Rattle.rounds.proofs.Turns.{rounded-as}
+use Rattle.rounds.proofs.Effects.{rounded-as}
 use Rattle.leap.specs.Tables.{Advanced}
 use Rattle.leap.proofs.Tables.{advanced-none, advanced-join, advanced-round, advanced-copied}
 use Rattle.leap.proofs.test.advance.Statement.{statement}

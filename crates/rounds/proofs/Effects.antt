@@ -1,4 +1,4 @@
--- What a round's outcome says of a run that comes to its table: one that rises leads on, one that passes or rests
+-- What a round's effect says of a run that comes to its table: one that rises leads on, one that passes or rests
 -- ends the run. Assumes nothing.
 use mathlib.Core.Path.{_≡_, refl, sym, _∙_}
 use mathlib.Core.Bool.{Bool, true, false}
@@ -19,32 +19,32 @@ use Rattle.rows.specs.declared.Frame.{Frame}
 use Rattle.rows.specs.Rows.{Times}
 use Rattle.rows.specs.Framed.{Framed}
 use Rattle.rows.proofs.Packed.{length-packed}
-use Rattle.rounds.specs.declared.Outcome.{Outcome}
-use Rattle.rounds.specs.declared.Outcome.the-variants.{Passes, Rests, Rises}
+use Rattle.rounds.specs.declared.Effect.{Effect}
+use Rattle.rounds.specs.declared.Effect.the-variants.{Passes, Rests, Rises}
 use Rattle.rounds.specs.Propagate.{propagate}
 use Rattle.rounds.specs.Cap.{cap}
-use Rattle.rounds.specs.Rounds.{held, outcome, outcomeOf, Rounded}
+use Rattle.rounds.specs.Rounds.{held, effect, effectOf, Rounded}
 use Rattle.rounds.proofs.Rising.{rising, nonexpansive}
 use Rattle.rounds.proofs.Cap.{length-cap}
 
--- what an outcome tells of the two tests
-passes-false : (a b : Bool) → Passes ≡ outcome a b → a ≡ false
+-- what an effect tells of the two tests
+passes-false : (a b : Bool) → Passes ≡ effect a b → a ≡ false
 passes-false true true e = cc
 passes-false true false e = cc
 passes-false false b e = refl
 
-rests-true : (a b : Bool) → Rests ≡ outcome a b → (a ≡ true) × (b ≡ true)
+rests-true : (a b : Bool) → Rests ≡ effect a b → (a ≡ true) × (b ≡ true)
 rests-true true true e = (refl, refl)
 rests-true true false e = (refl, cc)
 rests-true false b e = (cc, cc)
 
-rises-false : (a b : Bool) → Rises ≡ outcome a b → (a ≡ true) × (b ≡ false)
+rises-false : (a b : Bool) → Rises ≡ effect a b → (a ≡ true) × (b ≡ false)
 rises-false true true e = (refl, cc)
 rises-false true false e = (refl, refl)
 rises-false false b e = (cc, cc)
 
--- a round whose outcome is told
-pub rounded-as : {Γ : Network} {t t′ : List ℕ} {r r′ : Outcome} → r ≡ r′ → Rounded Γ t t′ r → Rounded Γ t t′ r′
+-- a round whose effect is told
+pub rounded-as : {Γ : Network} {t t′ : List ℕ} {r r′ : Effect} → r ≡ r′ → Rounded Γ t t′ r → Rounded Γ t t′ r′
 rounded-as e h = rw e at h
 
 -- times in the frame's terms
@@ -65,8 +65,8 @@ module _ (Γ : Network) where
   module _ {t t′ : List ℕ} where
     -- a round that passes is over a limit
     pub round-out : Rounded Γ t t′ Passes → within (cap Γ) (propagate Γ (held Γ t)) ≡ false
-    unfolding outcomeOf
-    round-out r = passes-false _ _ (r .outcome-is)
+    unfolding effectOf
+    round-out r = passes-false _ _ (r .effect-is)
 
     pub round-passes : Rounded Γ t t′ Passes → (k n : ℕ)
         → runFrom (propagate Γ) (cap Γ) k (suc n) (held Γ t) ≡ ran (suc k) (propagate Γ (held Γ t)) run.Passes
@@ -74,15 +74,15 @@ module _ (Γ : Network) where
 
     pub round-rests : Rounded Γ t t′ Rests → (k n : ℕ)
         → runFrom (propagate Γ) (cap Γ) k (suc n) (held Γ t) ≡ ran (suc k) (held Γ t) run.Rests
-    unfolding outcomeOf
+    unfolding effectOf
     round-rests r k n =
-        let w = rests-true _ _ (r .outcome-is) in
+        let w = rests-true _ _ (r .effect-is) in
         rest-turn (propagate Γ) (cap Γ) step-rises k n (held Γ t) (w .0) (w .1)
 
     pub round-leads : Rounded Γ t t′ Rises → Leads (propagate Γ) (cap Γ) 1 (held Γ t) (held Γ t′)
-    unfolding outcomeOf
+    unfolding effectOf
     round-leads r =
         let w : (within (cap Γ) (propagate Γ (held Γ t)) ≡ true) × (same (propagate Γ (held Γ t)) (held Γ t) ≡ false) =
-        rises-false _ _ (r .outcome-is)
+        rises-false _ _ (r .effect-is)
         in
         rw (r .made) (leads-one (propagate Γ) (cap Γ) step-rises (held Γ t) (w .0) (w .1))

@@ -21,12 +21,12 @@ use Rattle.network.specs.declared.Network.{Network}
 use Rattle.rows.specs.declared.Frame.{Frame}
 use Rattle.rows.specs.Rows.{packed, Times}
 use Rattle.rows.proofs.Packed.{length-packed, packed-at}
-use Rattle.rounds.specs.declared.Outcome.{Outcome}
-use Rattle.rounds.specs.declared.Outcome.the-variants.{Passes, Rests, Rises}
+use Rattle.rounds.specs.declared.Effect.{Effect}
+use Rattle.rounds.specs.declared.Effect.the-variants.{Passes, Rests, Rises}
 use Rattle.rounds.specs.Propagate.{propagate, raised}
 use Rattle.rounds.specs.Cap.{cap}
-use Rattle.rounds.specs.Compiled.{Compiled, raisedAt}
-use Rattle.rounds.specs.Rounds.{outcomeOf, Rounded}
+use Rattle.rounds.specs.Compiled.{Compiled}
+use Rattle.rounds.specs.Rounds.{raisedAt, effectOf, Rounded}
 use Rattle.rounds.proofs.Rounding.{Rounding, greatest, le-greatest, greatest-le}
 use Rattle.rounds.proofs.Raised.{raised-is, raised-beyond}
 use Rattle.rounds.proofs.Rising.{length-propagate, time-propagate}
@@ -34,12 +34,12 @@ use Rattle.rounds.proofs.Cap.{cond-few, within-cap, cap-within}
 
 module _ {Γ : Network} {frame : Frame} {counts lists t new climb highest : List ℕ} (C : Compiled Γ frame counts lists)
     (T : Times (Γ .events) (scenarios Γ) t)
-    (R : Rounding (raisedAt frame counts lists t) (scenarios Γ) t new climb highest (scenarios Γ)) where
+    (R : Rounding (raisedAt Γ counts lists t) (scenarios Γ) t new climb highest (scenarios Γ)) where
   abbrev σ : List ℕ
   σ = packed (Γ .events) (scenarios Γ) t
 
   abbrev made : ℕ → ℕ → ℕ
-  made s u = raisedAt frame counts lists t s u
+  made s u = raisedAt Γ counts lists t s u
 
   -- a cell that was made is the definition's, and behind the events it is zero
   made-is : (s u : ℕ) → s < scenarios Γ → u < Γ .events → made s u ≡ raised Γ σ s u
@@ -139,11 +139,11 @@ module _ {Γ : Network} {frame : Frame} {counts lists t new climb highest : List
       omega arith
 
   -- the three ways
-  rounded : (r : Outcome) → r ≡ outcomeOf Γ σ → (r ≡ Rises → Times (Γ .events) (scenarios Γ) new) → Rounded Γ t new r
-  rounded r e f = record { sized = R .sized; made = packed-made; outcome-is = e; times = f }
+  rounded : (r : Effect) → r ≡ effectOf Γ σ → (r ≡ Rises → Times (Γ .events) (scenarios Γ) new) → Rounded Γ t new r
+  rounded r e f = record { sized = R .sized; made = packed-made; effect-is = e; times = f }
 
   pub ends-passing : (Γ .horizon < greatest highest) ⊎ (0 < getD highest 0 0) → Rounded Γ t new Passes
-  unfolding outcomeOf
+  unfolding effectOf
   ends-passing p =
       let out : within (cap Γ) (propagate Γ σ) ≡ false =
       false-of-not-true (within (cap Γ) (propagate Γ σ)) (λ e.
@@ -153,12 +153,12 @@ module _ {Γ : Network} {frame : Frame} {counts lists t new climb highest : List
 
   module _ (low : greatest highest ≤ Γ .horizon) (zeros : getD highest 0 0 ≤ 0) where
     pub ends-resting : greatest climb ≡ 0 → Rounded Γ t new Rests
-    unfolding outcomeOf
+    unfolding effectOf
     ends-resting e = rounded Rests (rw (within-is low zeros, same-is e))
         (λ e. zero-is-one cc)
 
     pub ends-rising : (greatest climb ≡ 0 → ⊥) → Rounded Γ t new Rises
-    unfolding outcomeOf
+    unfolding effectOf
     ends-rising e =
         let rose : same (propagate Γ σ) σ ≡ false = false-of-not-true (same (propagate Γ σ) σ) (λ z. e (climb-of z)) in
         rounded Rises (rw (within-is low zeros, rose)) (λ _. record {
