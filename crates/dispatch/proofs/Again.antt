@@ -18,7 +18,7 @@ use Rattle.dispatch.specs.Heard.{lettersOf, Lettered, recordsFrom}
 use Rattle.dispatch.specs.Said.{place, withBit, saidOn, standsOn, added, saidFrom, recordsOn}
 use Rattle.dispatch.specs.declared.Heard.{Heard}
 use Rattle.dispatch.proofs.Bits.{add-bit}
-use Rattle.dispatch.proofs.Told.{isDefined, found-defined}
+use Rattle.dispatch.proofs.History.{isDefined, found-defined}
 use Rattle.dispatch.proofs.Letters.{nothing-said, said-with}
 use Rattle.dispatch.proofs.Fold.{free, fits, free-unsaid, added-free, fits-added, fits-first}
 

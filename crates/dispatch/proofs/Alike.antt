@@ -29,7 +29,7 @@ use Rattle.dispatch.specs.Heard.{Lettered}
 use Rattle.dispatch.specs.History.{History}
 use Rattle.dispatch.specs.Due.{dueIn, hears}
 use Rattle.dispatch.specs.declared.Heard.{Heard}
-use Rattle.dispatch.proofs.Told.{named-of-history, told-of-history, history-of-told}
+use Rattle.dispatch.proofs.History.{named-of-history, told-of-history, history-of-told}
 
 module _ (Γ : Network) (σ : List ℕ) (m : ℕ) where
   -- the time of u in s
@@ -105,9 +105,6 @@ module _ (Γ : Network) (σ : List ℕ) (m : ℕ) where
         eq-eqb (at r u) m (omega (arith, same-time hs hr i u h (omega arith)))
 
     module _ {s r : ℕ} (hs : s < scenarios Γ) (hr : r < scenarios Γ) (i : Indistinct Γ σ s r m) where
-      pub indistinct-known : (p : ℕ) → p < Γ .signals → known Γ σ s p m ≡ known Γ σ r p m
-      indistinct-known p h = both-ways (λ x. known Γ σ x p m) (known-carried p h) hs hr i
-
       pub indistinct-hears : (p : ℕ) (v : Bool) → p < Γ .signals → hears Γ σ m s p v ≡ hears Γ σ m r p v
       indistinct-hears p v h = both-ways (λ x. hears Γ σ m x p v) (hears-carried p v h) hs hr i
 

@@ -24,7 +24,7 @@ use Rattle.dispatch.specs.Due.{hears, dueIn, asHeard, hasHeard, hearer, 
 use Rattle.dispatch.specs.declared.Heard.{Heard}
 use Rattle.dispatch.specs.declared.Dispatched.{Dispatched}
 use Rattle.dispatch.specs.declared.Dispatched.the-variants.{Events, Misnamed, NeverHeard}
-use Rattle.dispatch.proofs.Told.{well-named, named-of-history, told-of-history, history-of-told}
+use Rattle.dispatch.proofs.History.{well-named, named-of-history, told-of-history, history-of-told}
 use Rattle.dispatch.proofs.Alike.{history-indistinct, indistinct-due}
 
 -- searches by what is said alike of each letter

@@ -15,13 +15,11 @@ use lib.Pow.{pow-mono}
 use Rattle.prelude.specs.Search.{when}
 use Rattle.prelude.specs.Bounded.{sumBelow}
 use Rattle.prelude.proofs.Search.{Searching}
-use Rattle.network.specs.Build.{letter, observation, scenarios, cells}
+use Rattle.network.specs.Build.{letter, scenarios, cells}
 use Rattle.network.specs.Scenario.{truth}
-use Rattle.network.specs.Strategy.{time}
+use Rattle.network.specs.Strategy.{time, knownFrom}
 use Rattle.network.specs.declared.Network.{Network}
 use Rattle.names.proofs.Finds.{finds-on, finds-at, finds-end}
-use Rattle.checker.specs.Plain.{knownAfter}
-use Rattle.checker.proofs.Plain.{known-after-is}
 use Rattle.dispatch.specs.Due.{asHeard, dueIn, hasHeard}
 use Rattle.dispatch.specs.Said.{saidOn, standsOn, asSaid, added, saidFrom}
 use Rattle.dispatch.specs.Said.{recordsOn, wellNamedOn, dueOn}
@@ -45,12 +43,11 @@ as-said-is x l p n true true e d = rw (← e, ← d) (ap₂ _&&_ (beq-with-true 
 as-said-is x l p n true false e d = rw (← e, ← d) (ap₂ _&&_ (beq-with-false p) (beq-with-true n))
 as-said-is x l p n false t e d = rw (← e, ← d) (ap₂ _&&_ (beq-with-false p) (beq-with-false n))
 
--- over a network, whose reaction is one minute, with k from when on p is known and t its truth, that is what s has
--- heard
+-- with k from when on p is known and t its truth, that is what s has heard
 pub as-heard-is : (Γ : Network) (σ : List ℕ) (m x s p k : ℕ) (t : Bool)
-    → k ≡ knownAfter (Γ .events) σ s (observation Γ p) → t ≡ truth s p
+    → k ≡ knownFrom Γ σ s p → t ≡ truth s p
     → asSaid x (letter Γ p) (leb k m) t ≡ asHeard Γ σ m (saidOn x) s p
-as-heard-is Γ σ m x s p k t e d = rw (known-after-is Γ σ s p m, e, d)
+as-heard-is Γ σ m x s p k t e d = rw (e, d)
 
 -- a loop over the n events of s has come to u, and due has a bit for each below u that is due at m
 pub record Summing (n : ℕ) (σ : List ℕ) (m s due u : ℕ) : Type 0 where

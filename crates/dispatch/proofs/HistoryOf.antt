@@ -8,7 +8,7 @@ use Rattle.network.specs.Strategy.{known}
 use Rattle.network.specs.declared.Network.{Network}
 use Rattle.dispatch.specs.Heard.{Lettered}
 use Rattle.dispatch.specs.History.{History, historyOf}
-use Rattle.dispatch.proofs.Told.{well-named, history-of-told}
+use Rattle.dispatch.proofs.History.{well-named, history-of-told}
 use Rattle.dispatch.proofs.Records.{records-named, says-records}
 
 pub history-of : (Γ : Network) (σ : List ℕ) (m : ℕ) → Lettered Γ → (s : ℕ) → History Γ σ m (historyOf Γ σ m s) s

@@ -2,7 +2,7 @@
 -- is answered; records in the order of the signals, and the list of what a case has heard; examples. Then the list as a
 -- mask: bits, the bits of letters, one record at a time, the records that a mask names; the code's loops; and what all
 -- this says of masks. Then the list as text, with examples.
-pub mod Told
+pub mod History
 pub mod Alike
 pub mod Answers
 pub mod Records

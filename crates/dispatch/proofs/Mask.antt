@@ -26,7 +26,7 @@ use Rattle.dispatch.specs.Said.{misnamed, saidOn, standsOn, saidFrom, re
 use Rattle.dispatch.specs.declared.Heard.{Heard}
 use Rattle.dispatch.specs.declared.Dispatched.the-variants.{Misnamed}
 use Rattle.dispatch.proofs.Letters.{nothing-said}
-use Rattle.dispatch.proofs.Told.{isDefined, found-defined, well-named}
+use Rattle.dispatch.proofs.History.{isDefined, found-defined, well-named}
 use Rattle.dispatch.proofs.Answers.{hearer-same, due-misnamed}
 use Rattle.dispatch.proofs.Records.{records-named}
 use Rattle.dispatch.proofs.Fold.{free, fits, free-letter, named-said, said-says, stands-said}

@@ -17,7 +17,7 @@ use Rattle.network.specs.declared.Network.{Network}
 use Rattle.names.specs.Defined.{allDefined}
 use Rattle.dispatch.specs.Heard.{lettersOf, isWellNamed, Lettered, recordsFrom, recordsOf, says}
 use Rattle.dispatch.specs.declared.Heard.{Heard}
-use Rattle.dispatch.proofs.Told.{isDefined, defined-found}
+use Rattle.dispatch.proofs.History.{isDefined, defined-found}
 
 module _ (Γ : Network) (lettered : Lettered Γ) (known truth : ℕ → Bool) where
   -- the records of the n signals from i on

@@ -13,6 +13,7 @@ ghost use Rattle.dispatch.specs.Heard.{Lettered};
 ghost use Rattle.dispatch.specs.Due as D;
 ghost use Rattle.dispatch.specs.Said as M;
 use network::Network;
+use network::times;
 
 pub mod text;
 
@@ -146,7 +147,8 @@ fn has_heard(network: Network, table: &[u16], minute: u16, said: u64, s: usize) 
     while p < signals {
         let observation = network.observations[p];
         let letter = network.letters[p];
-        let known = checker::known_after(table, events, s, observation) <= minute as u32;
+        let known = times::known_after(table, events, s, observation, Network::REACTION)
+            <= minute as u32;
         if !as_said(said, letter, known, has(s as u64, p as u32)) {
             return false;
         }
@@ -163,7 +165,7 @@ fn due_in(table: &[u16], events: usize, minute: u16, s: usize) -> u16
     let mut due: u16 = 0;
     let mut u = 0;
     while u < events {
-        if checker::time_of(table, events, s, u) == minute {
+        if times::time_of(table, events, s, u) == minute {
             due += 1 << u;
         }
         u += 1;

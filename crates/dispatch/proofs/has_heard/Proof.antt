@@ -5,7 +5,8 @@ use Prim.Native.Nat.{_-_}
 use borrow.Author.Needs.{needs}
 use borrow.Author.Tests.{not-true, not-false}
 use denote.Ref.{now}
-use Rattle.checker.proofs.Reach.{observed}
+use Rattle.network.specs.Build.{observation}
+use Rattle.network.proofs.Strategy.{cell-in, known-after-is}
 use Rattle.dispatch.specs.Due.{asHeard}
 use Rattle.dispatch.specs.Said.{saidOn}
 use Rattle.prelude.proofs.Bounded.{Passing, passing-start, passing-on, failed-at, passed-all}
@@ -28,9 +29,11 @@ tested c =
     let at-known = c .before .before in
     let at-loop = at-known .before .before .before .before in
     let a = at-loop .before .before .args in
+    let p = at-loop .loop .p in
+    let known = at-known .known-after in
     c .as-said .ensures
-    ∙ as-heard-is (a .t1) (now (a .table)) (a .minute) (a .said) (a .s) (at-loop .loop .p) _ _
-    (at-known .known-after .ensures) (c .before .has .ensures)
+    ∙ as-heard-is (a .t1) (now (a .table)) (a .minute) (a .said) (a .s) p (known .result) _
+    (known-after-is (a .t1) (now (a .table)) (a .s) p (known .ensures)) (c .before .has .ensures)
 
 loop-holds : tie.Need-loop-holds Inv-loop μ-loop
 loop-holds c = passing-start _ _
@@ -50,7 +53,9 @@ known-after-requires c κs =
     let start = in-loop .before .before .before in
     let a = start .args in
     let asked = start .pre in
-    observed (a .t1) (now (a .table)) (asked .0, asked .1) (a .s) (asked .3) .inside (in-loop .before .loop .p) (in-loop .loop-test .taken)
+    let p = in-loop .before .loop .p in
+    cell-in (a .t1) (now (a .table)) (asked .1) (a .s) (observation (a .t1) p) (asked .3)
+    (asked .0 .observed p (in-loop .loop-test .taken))
 
 cast-has : tie.Need-cast-has Inv-loop μ-loop
 cast-has c = search needs
