@@ -14,7 +14,7 @@ use Rattle.text.specs.Number.{isNumber, inRange}
 use Rattle.network.specs.Scenario.{satisfies}
 use Rattle.network.specs.Constraint.{covers}
 use Rattle.network.specs.Strategy.{reaction}
-use Rattle.line.specs.Rows.{sectionRefusal, eventRefusal, signalRefusal, ruleRefusal}
+use Rattle.line.specs.Tests.{sectionTests, eventTests, signalTests, endsTests, ruleTests}
 use Rattle.sheet.specs.Reading.{progress}
 use Rattle.checker.specs.Verdict.{verdict}
 use Rattle.rounds.specs.Propagate.{propagate}
@@ -91,7 +91,7 @@ allAgree [] = true
 allAgree (t ∷ ts) = same (tableText (lines (t .sheet))) (lines (t .prints)) && allAgree ts
 
 pub trials-agree : allAgree trials ≡ true
-unfolding isNumber inRange satisfies covers reaction sectionRefusal eventRefusal signalRefusal ruleRefusal progress propagate solve listing
+unfolding isNumber inRange satisfies covers reaction sectionTests eventTests signalTests endsTests ruleTests progress propagate solve listing
 trials-agree = refl
 
 -- of the first trial: a table, a minute, a list, and the number and the events that are answered
@@ -137,5 +137,5 @@ allAnswered (q ∷ qs) =
     (eqb (v .number) (q .number) && (eqb (v .line) 0 && eqb (v .value) (q .events))) && allAnswered qs
 
 pub questions-answered : allAnswered questions ≡ true
-unfolding isNumber inRange satisfies covers reaction sectionRefusal eventRefusal signalRefusal ruleRefusal progress verdict due eventsDue
+unfolding isNumber inRange satisfies covers reaction sectionTests eventTests signalTests endsTests ruleTests progress verdict due eventsDue
 questions-answered = refl

@@ -7,13 +7,16 @@ use Prim.Native.Nat.{ℕ, _<_}
 use borrow.Author.Tests.{eqb-true, not-true}
 use lib.ListN.{length, take, drop}
 use lib.Seq.{take-append-seam}
+use Rattle.prelude.specs.Checks.{firstFailing}
 use Rattle.prelude.proofs.Checks.{hold, none-fails}
 use Rattle.prelude.specs.Search.{answers}
 use Rattle.prelude.proofs.Tests.{clash, false-of-not-true}
 use Rattle.text.specs.Lines.{lineFeed, field}
 use Rattle.network.specs.Limits as L
 use Rattle.network.specs.declared.Network.{Network}
-use Rattle.line.specs.Rows.{eventOf, eventTests, eventRefusal, eventRow}
+use Rattle.line.specs.Tests.{eventOf, eventTests}
+use Rattle.line.specs.Sections.{withLine}
+use Rattle.line.specs.declared.Section.the-variants.{Events}
 use Rattle.layout.specs.Layout.{line}
 use Rattle.layout.proofs.Checks.{_&_}
 use Rattle.prelude.proofs.Lists.{all-of}
@@ -26,8 +29,8 @@ use Rattle.layout.proofs.Row.{Understood}
 
 module _ (sheet : List ℕ) (h : ℕ) where
   module _ {Γ : Network} {ns : List (List ℕ)} (c : Stands sheet Γ (contents h ns [] [])) where
-    name-read : (fs : List (List ℕ)) → eventRefusal sheet Γ fs ≡ none → (n : List ℕ) × (fs ≡ n ∷ []) × NewName ns n
-    unfolding eventRefusal
+    name-read : (fs : List (List ℕ)) → firstFailing (eventTests sheet Γ fs) ≡ none → (n : List ℕ) × (fs ≡ n ∷ []) × NewName ns n
+    unfolding eventTests
     name-read fs e =
         let t = hold (eventTests sheet Γ fs) e in
         let unknown = not-true (answers (eventOf sheet Γ (field 0 fs))) (t .1 .1 .0) in (
@@ -39,20 +42,20 @@ module _ (sheet : List ℕ) (h : ℕ) where
           },
         )
 
-    name-passes : (n : List ℕ) → NewName ns n → eventRefusal sheet Γ (n ∷ []) ≡ none
-    unfolding eventRefusal
+    name-passes : (n : List ℕ) → NewName ns n → firstFailing (eventTests sheet Γ (n ∷ [])) ≡ none
+    unfolding eventTests
     name-passes n m =
         let unknown = false-of-not-true (answers (eventOf sheet Γ n)) (λ e. m .new (event-in (c .holds) n e)) in
         none-fails (eventTests sheet Γ (n ∷ [])) (refl & m .is & ap not unknown & tt)
 
     name-adds : (n : List ℕ) → NewName ns n → length ns < L.events → (at : ℕ) (rest : List ℕ) → drop at sheet ≡ line n [] ++ rest
-        → Stands sheet (eventRow sheet .add Γ at (n ∷ [])) (contents h (ns ++ n ∷ []) [] [])
+        → Stands sheet (withLine sheet Events Γ at (n ∷ [])) (contents h (ns ++ n ∷ []) [] [])
     name-adds n m few at rest e =
         let part = ap (take (length n)) (e ∙ append-assoc n (lineFeed ∷ []) rest) ∙ take-append-seam n (lineFeed ∷ rest) in
         event-added c n at m few part
 
   pub events-understood :
-      Understood sheet (eventRow sheet) L.events (λ n. n) (λ n. [])
+      Understood sheet Events (λ n. n) (λ n. [])
       (λ Γ ns. Stands sheet Γ (contents h ns [] [])) KeptNames NewName
   events-understood = record {
     may = may-name;

@@ -17,7 +17,7 @@ use Rattle.network.specs.Build.{nameOf, letter, observation}
 use Rattle.network.specs.declared.Network.{Network}
 use Rattle.names.specs.Names.{Literal}
 use Rattle.names.specs.Defined.{placeOf, givesSignal, weight, weights, maskOf}
-use Rattle.line.specs.Rows.{eventOf}
+use Rattle.line.specs.Tests.{eventOf}
 use Rattle.prelude.specs.Lists.{In, Distinct}
 use Rattle.layout.specs.Layout.{Signal, Contents, noSignal, signalLetters, signalEvents}
 use Rattle.layout.specs.Contains.{Bears, Contains}

@@ -14,7 +14,7 @@ use Rattle.network.specs.declared.Kind.the-variants.{Max, Min, Fix}
 use Rattle.network.specs.declared.Network.{Network}
 use Rattle.names.specs.Defined.{placeOf, allDefined}
 use Rattle.names.proofs.Labels.{allDefined-every}
-use Rattle.line.specs.Rows.{kindOf}
+use Rattle.line.specs.Tests.{kindOf}
 use Rattle.prelude.specs.Lists.{In, Each}
 use Rattle.layout.specs.Layout.{Contents, signalLetters, kindText}
 use Rattle.layout.specs.Contains.{Contains}

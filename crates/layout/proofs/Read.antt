@@ -8,8 +8,10 @@ use Rattle.text.specs.Lines.{afterLine}
 use Rattle.network.specs.Limits as L
 use Rattle.network.specs.Build.{empty}
 use Rattle.network.specs.declared.Network.{Network}
-use Rattle.line.specs.Rows.{sectionCount}
-use Rattle.sheet.specs.Reading.{Progress, Go, andThen, readHorizon, readEvents, readSignals, readRules, readEnd}
+use Rattle.line.specs.Tests.{sectionCount}
+use Rattle.line.specs.Sections.{horizonHeading}
+use Rattle.line.specs.declared.Section.the-variants.{Events, Signals, Rules}
+use Rattle.sheet.specs.Reading.{Progress, Go, andThen, readHorizon, readSection, readEnd}
 use Rattle.sheet.specs.Reading.{progress}
 use Rattle.sheet.proofs.Whole.{toEvents, toSignals, toRules, toEnd, in-length}
 use Rattle.layout.specs.Layout.{Signal, Rule, Contents, Keeps, Layout, textOf}
@@ -59,7 +61,7 @@ module _ (sheet : List ℕ) (h : ℕ) (ns : List (List ℕ)) (xs : List Signal) 
 
   horizon-reads : (rest : List ℕ) → h ≤ L.horizon → drop 0 sheet ≡ horizonText h ++ rest → AtEvents (readHorizon sheet) [] rest
   horizon-reads rest high t =
-      let r = count-line-reads sheet "horizon" 0 L.horizon 0 1 (λ fs. Go (empty (sectionCount fs)) (afterLine sheet 0) 2)
+      let r = count-line-reads sheet horizonHeading 0 1 (λ fs. Go (empty (sectionCount fs)) (afterLine sheet 0) 2)
       refl h rest zero-le high t in
       record {
         network = empty h;
@@ -73,22 +75,22 @@ module _ (sheet : List ℕ) (h : ℕ) (ns : List (List ℕ)) (xs : List Signal) 
   events-read : (rest : List ℕ) → KeptNames ns → 1 ≤ length ns → length ns ≤ L.events
       → AtEvents (readHorizon sheet) [] (eventsText ns ++ rest) → AtEvents (toEvents sheet) ns rest
   events-read rest kept some few r =
-      andThen-reads sheet (readHorizon sheet) (readEvents sheet) r
-      (section-reads (events-understood sheet h) "events" 1 (r .network) (r .at) (r .number) (r .held)
+      andThen-reads sheet (readHorizon sheet) (readSection sheet Events) r
+      (section-reads (events-understood sheet h) (r .network) (r .at) (r .number) (r .held)
       refl ns rest kept some few (r .behind))
 
   signals-read : (rest : List ℕ) → KeptSignals ns xs → length xs ≤ L.signals
       → AtEvents (toEvents sheet) ns (signalsText xs ++ rest) → AtSignals (toSignals sheet) xs rest
   signals-read rest kept few r =
-      andThen-reads sheet (toEvents sheet) (readSignals sheet) r
-      (section-reads (signals-understood sheet h ns) "signals" 0 (r .network) (r .at) (r .number) (r .held)
+      andThen-reads sheet (toEvents sheet) (readSection sheet Signals) r
+      (section-reads (signals-understood sheet h ns) (r .network) (r .at) (r .number) (r .held)
       refl xs rest kept zero-le few (r .behind))
 
   rules-read : (rest : List ℕ) → KeptRules ns xs rs → length rs ≤ L.rules
       → AtSignals (toSignals sheet) xs (rulesText rs ++ rest) → AtRules (toRules sheet) rs rest
   rules-read rest kept few r =
-      andThen-reads sheet (toSignals sheet) (readRules sheet) r
-      (section-reads (rules-understood sheet h ns xs) "rules" 0 (r .network) (r .at) (r .number) (r .held)
+      andThen-reads sheet (toSignals sheet) (readSection sheet Rules) r
+      (section-reads (rules-understood sheet h ns xs) (r .network) (r .at) (r .number) (r .held)
       refl rs rest kept zero-le few (r .behind))
 
   end-read : AtRules (toRules sheet) rs [] → AtRules (toEnd sheet) rs []

@@ -1,39 +1,40 @@
 -- The lines of a section, whatever they hold: where a line of one thing is understood, so many lines are. Assumes
 -- nothing.
 use mathlib.Core.Path.{_≡_, refl, sym, _∙_, ap}
-use mathlib.Core.Option.{Option, none}
+use mathlib.Core.Option.{none}
 use mathlib.Core.List.{List, [], _∷_, _++_, append-nil, append-assoc, map}
 use Prim.Native.Nat.{ℕ, zero, suc, _+_, _≤_, _<_}
 use native.Mathlib.Omega.{arith}
 use lib.ListN.{length, drop, length-append}
 use lib.Seq.{append-snoc}
+use Rattle.prelude.specs.Checks.{firstFailing}
 use Rattle.text.specs.Lines.{lineAt, afterLine, fields}
-use Rattle.refusal.specs.Refusal.{refusal}
-use Rattle.refusal.specs.declared.Cause.{Cause}
 use Rattle.network.specs.declared.Network.{Network}
-use Rattle.line.specs.Rows.{Row}
+use Rattle.line.specs.Tests.{Tests}
+use Rattle.line.specs.Sections.{headingOf, testsOf, withLine}
+use Rattle.line.specs.declared.Section.{Section}
 use Rattle.sheet.specs.Reading.{Progress, Go, readLine, readRows}
-use Rattle.sheet.proofs.Rows.{went}
+use Rattle.sheet.proofs.Rows.{readLine-on, went}
 use Rattle.layout.specs.Layout.{line, lines}
 use Rattle.layout.proofs.Lines.{Plain, IsRead, is-read, line-read}
 
 -- a line of this kind is that of an x: the network holds the xs that have been read, and x may follow them
-pub record Understood (sheet : List ℕ) (row : Row) (hi : ℕ) {X : Type 0} (first : X → List ℕ) (others : X → List (List ℕ))
+pub record Understood (sheet : List ℕ) (s : Section) {X : Type 0} (first : X → List ℕ) (others : X → List (List ℕ))
     (Held : Network → List X → Type 0) (Kept : List X → Type 0) (May : List X → X → Type 0) : Type 0 where
   pub may : (xs ys : List X) (x : X) → Kept (xs ++ x ∷ ys) → May xs x
-  pub reads : {Γ : Network} {xs : List X} → Held Γ xs → (fs : List (List ℕ)) → row .refusal Γ fs ≡ none
+  pub reads : {Γ : Network} {xs : List X} → Held Γ xs → (fs : List (List ℕ)) → firstFailing (testsOf sheet s Γ fs) ≡ none
       → (x : X) × (fs ≡ first x ∷ others x) × May xs x
-  pub passes : {Γ : Network} {xs : List X} → Held Γ xs → (x : X) → May xs x → row .refusal Γ (first x ∷ others x) ≡ none
+  pub passes : {Γ : Network} {xs : List X} → Held Γ xs → (x : X) → May xs x → firstFailing (testsOf sheet s Γ (first x ∷ others x)) ≡ none
   pub plain : {Γ : Network} {xs : List X} → Held Γ xs → (x : X) → May xs x → Plain (first x ∷ others x)
-  pub adds : {Γ : Network} {xs : List X} → Held Γ xs → (x : X) → May xs x → length xs < hi → (at : ℕ) (rest : List ℕ)
-      → drop at sheet ≡ line (first x) (others x) ++ rest → Held (row .add Γ at (first x ∷ others x)) (xs ++ x ∷ [])
+  pub adds : {Γ : Network} {xs : List X} → Held Γ xs → (x : X) → May xs x → length xs < headingOf s .most → (at : ℕ) (rest : List ℕ)
+      → drop at sheet ≡ line (first x) (others x) ++ rest → Held (withLine sheet s Γ at (first x ∷ others x)) (xs ++ x ∷ [])
 
-pub readLine-passes : (sheet : List ℕ) (at k : ℕ) (refuses : List (List ℕ) → Option Cause) (next : List (List ℕ) → Progress)
-    (fs : List (List ℕ)) (rest : List ℕ) (p : Progress) → IsRead sheet at fs rest → refuses fs ≡ none → next fs ≡ p
-    → readLine sheet at k refuses next ≡ p
-readLine-passes sheet at k refuses next fs rest p e r n =
-    let passes : refuses (fields (lineAt sheet at)) ≡ none = ap refuses (e .fields-are) ∙ r in
-    rw (e .ends, readLine, passes) (ap next (e .fields-are) ∙ n)
+pub readLine-passes : (sheet : List ℕ) (at k : ℕ) (ts : List (List ℕ) → Tests) (next : List (List ℕ) → Progress)
+    (fs : List (List ℕ)) (rest : List ℕ) (p : Progress) → IsRead sheet at fs rest → firstFailing (ts fs) ≡ none → next fs ≡ p
+    → readLine sheet at k ts next ≡ p
+readLine-passes sheet at k ts next fs rest p e r n =
+    let passes : firstFailing (ts (fields (lineAt sheet at))) ≡ none = rw (e .fields-are) r in
+    readLine-on sheet at k ts next (rw (e .ends) passes) ∙ ap next (e .fields-are) ∙ n
 
 -- texts in a row
 pub joins : (s a r t u : List ℕ) → s ≡ a ++ r → r ≡ t ++ u → s ≡ (a ++ t) ++ u
@@ -63,19 +64,19 @@ module _ (sheet : List ℕ) {X : Type 0} (Held : Network → List X → Type 0) 
     pub held : Held network xs
     pub behind : drop at sheet ≡ rest
 
-module _ {sheet : List ℕ} {row : Row} {hi : ℕ} {X : Type 0} {first : X → List ℕ} {others : X → List (List ℕ)}
+module _ {sheet : List ℕ} {s : Section} {X : Type 0} {first : X → List ℕ} {others : X → List (List ℕ)}
     {Held : Network → List X → Type 0} {Kept : List X → Type 0} {May : List X → X → Type 0}
-    (w : Understood sheet row hi first others Held Kept May) where
+    (w : Understood sheet s first others Held Kept May) where
   abbrev text : X → List ℕ
   text x = line (first x) (others x)
 
   -- what follows a line
   abbrev next : ℕ → Network → ℕ → ℕ → List (List ℕ) → Progress
-  next m Γ at k fs = readRows sheet row m (row .add Γ at fs) (afterLine sheet at) (suc k)
+  next m Γ at k fs = readRows sheet s m (withLine sheet s Γ at fs) (afterLine sheet at) (suc k)
 
   -- so many lines that were read are those of some items
-  pub rows-read : (m : ℕ) (Γ : Network) (xs : List X) (at k : ℕ) → Held Γ xs → length xs + m ≤ hi
-      → (Δ : Network) (end number : ℕ) → readRows sheet row m Γ at k ≡ Go Δ end number → Read sheet Held text xs m at Δ end
+  pub rows-read : (m : ℕ) (Γ : Network) (xs : List X) (at k : ℕ) → Held Γ xs → length xs + m ≤ headingOf s .most
+      → (Δ : Network) (end number : ℕ) → readRows sheet s m Γ at k ≡ Go Δ end number → Read sheet Held text xs m at Δ end
   rows-read zero Γ xs at k h few Δ end number g =
       let same-network : Γ ≡ Δ = cc in
       let same-place : at ≡ end = cc in
@@ -86,15 +87,15 @@ module _ {sheet : List ℕ} {row : Row} {hi : ℕ} {X : Type 0} {first : X → L
         held = rw (append-nil xs, ← same-network) h;
       }
   rows-read (suc m) Γ xs at k h few Δ end number g =
-      let p = went sheet at k (row .refusal Γ) (next m Γ at k) Δ end number g in
+      let p = went sheet at k (testsOf sheet s Γ) (next m Γ at k) Δ end number g in
       let r = w .reads h (fields (lineAt sheet at)) (p .passed .accepted) in
       let x = r .0 in
       let behind = drop (afterLine sheet at) sheet in
       let t : drop at sheet ≡ text x ++ behind = rw (r .1) at (line-read sheet at (p .passed .ends)) in
       let held = w .adds h x (r .2) (omega arith) at behind t in
-      let few-left : length (xs ++ x ∷ []) + m ≤ hi = omega (arith, length-append xs (x ∷ [])) in
+      let few-left : length (xs ++ x ∷ []) + m ≤ headingOf s .most = omega (arith, length-append xs (x ∷ [])) in
       let on =
-      rows-read m (row .add Γ at (first x ∷ others x)) (xs ++ x ∷ []) (afterLine sheet at) (suc k) held few-left Δ end number
+      rows-read m (withLine sheet s Γ at (first x ∷ others x)) (xs ++ x ∷ []) (afterLine sheet at) (suc k) held few-left Δ end number
       (rw (r .1) at (p .then)) in
       record {
         items = x ∷ on .items;
@@ -105,8 +106,8 @@ module _ {sheet : List ℕ} {row : Row} {hi : ℕ} {X : Type 0} {first : X → L
 
   -- where the lines of ys stand, they are read
   pub rows-reads : (ys : List X) (Γ : Network) (xs : List X) (at k : ℕ) (rest : List ℕ) → Held Γ xs → Kept (xs ++ ys)
-      → length xs + length ys ≤ hi → drop at sheet ≡ texts text ys ++ rest
-      → Reads sheet Held (readRows sheet row (length ys) Γ at k) (xs ++ ys) rest
+      → length xs + length ys ≤ headingOf s .most → drop at sheet ≡ texts text ys ++ rest
+      → Reads sheet Held (readRows sheet s (length ys) Γ at k) (xs ++ ys) rest
   rows-reads [] Γ xs at k rest h kept few t =
       record { network = Γ; at = at; number = k; goes = refl; held = rw append-nil h; behind = t }
   rows-reads (x ∷ ys) Γ xs at k rest h kept few t =
@@ -115,16 +116,16 @@ module _ {sheet : List ℕ} {row : Row} {hi : ℕ} {X : Type 0} {first : X → L
       let l = parts (drop at sheet) (text x) (texts text ys) rest t in
       let r = is-read sheet at (first x) (others x) behind (w .plain h x m) l in
       let held = w .adds h x m (omega arith) at behind l in
-      let few-left : length (xs ++ x ∷ []) + length ys ≤ hi = omega (arith, length-append xs (x ∷ [])) in
+      let few-left : length (xs ++ x ∷ []) + length ys ≤ headingOf s .most = omega (arith, length-append xs (x ∷ [])) in
       let on =
-      rows-reads ys (row .add Γ at (first x ∷ others x)) (xs ++ x ∷ []) (afterLine sheet at) (suc k) rest held
+      rows-reads ys (withLine sheet s Γ at (first x ∷ others x)) (xs ++ x ∷ []) (afterLine sheet at) (suc k) rest held
       (rw append-snoc kept) few-left (r .behind) in
       record {
         network = on .network;
         at = on .at;
         number = on .number;
         goes =
-            readLine-passes sheet at k (row .refusal Γ) (next (length ys) Γ at k) (first x ∷ others x) behind
+            readLine-passes sheet at k (testsOf sheet s Γ) (next (length ys) Γ at k) (first x ∷ others x) behind
             (Go (on .network) (on .at) (on .number)) r (w .passes h x m) (on .goes);
         held = rw append-snoc at (on .held);
         behind = on .behind;

@@ -8,6 +8,7 @@ use Prim.Native.Nat.{ℕ}
 use borrow.Author.Tests.{le-leb}
 use Rattle.prelude.specs.Search.{answers}
 use Rattle.prelude.specs.Bytes.{every, distinct}
+use Rattle.prelude.specs.Checks.{firstFailing}
 use Rattle.prelude.specs.Lists.{In}
 use Rattle.prelude.proofs.Checks.{none-fails}
 use Rattle.prelude.proofs.Lists.{each-in, test-of-distinct}
@@ -17,7 +18,8 @@ use Rattle.network.specs.Limits as L
 use Rattle.network.specs.declared.Network.{Network}
 use Rattle.names.specs.Names.{isLetter, isName, isLabel, labelOf, lettersOf}
 use Rattle.names.specs.Defined.{allDefined, maskOf}
-use Rattle.line.specs.Rows.{eventOf, ruleOf, ruleTests, ruleRefusal}
+use Rattle.line.specs.Tests.{eventOf, endsTests, ruleTests}
+use Rattle.line.specs.Sections.{ruleOf}
 use Rattle.layout.specs.Layout.{Rule, Contents, KeepsRule, signalLetters}
 use Rattle.layout.specs.Layout.{kindText, signedText, labelText, ruleFields}
 use Rattle.layout.specs.Contains.{Bears, Means}
@@ -57,8 +59,8 @@ module _ {sheet : List ℕ} {Γ : Network} {c : Contents} (s : Stands sheet Γ c
   to-is : isName (x .to) ≡ true
   to-is = each-in (λ n. isName n ≡ true) (s .names .each) (m .to)
 
-  pub rule-passes : ruleRefusal sheet Γ (kindText (x .kind) ∷ ruleFields x) ≡ none
-  unfolding ruleRefusal
+  pub rule-passes : firstFailing (ruleTests sheet Γ (kindText (x .kind) ∷ ruleFields x)) ≡ none
+  unfolding endsTests ruleTests
   rule-passes =
       let from = x .from in
       let to = x .to in

@@ -9,6 +9,7 @@ use borrow.Author.Tests.{eqb-true, leb-true}
 use lib.Dec.{eqb}
 use lib.ListN.{length}
 use Rattle.prelude.specs.Search.{answers}
+use Rattle.prelude.specs.Checks.{firstFailing}
 use Rattle.prelude.proofs.Checks.{hold}
 use Rattle.prelude.proofs.Lists.{all-of, each-at, distinct-of-test}
 use Rattle.prelude.proofs.Tests.{and-true}
@@ -18,7 +19,9 @@ use Rattle.network.specs.Limits as L
 use Rattle.network.specs.declared.Network.{Network}
 use Rattle.names.specs.Names.{isName, isLabel, labelOf, lettersOf}
 use Rattle.names.specs.Defined.{allDefined}
-use Rattle.line.specs.Rows.{eventOf, kindOf, ruleOf, ruleTests, ruleRefusal, ruleRow}
+use Rattle.line.specs.Tests.{eventOf, kindOf, endsTests, ruleTests}
+use Rattle.line.specs.Sections.{ruleOf}
+use Rattle.line.specs.declared.Section.the-variants.{Rules}
 use Rattle.layout.specs.Layout.{Signal, Rule, Contents, KeepsRule, noRule, signalLetters}
 use Rattle.layout.specs.Layout.{kindText, signedText, labelText, ruleFields}
 use Rattle.layout.proofs.Numbers as N
@@ -37,9 +40,9 @@ five-are : (a a′ b c d d′ e e′ : List ℕ) → a ≡ a′ → d′ ≡ d �
 five-are a a′ b c d d′ e e′ p q r = rw (p, ← q, ← r)
 
 rule-read : {sheet : List ℕ} {Γ : Network} {c : Contents} → Stands sheet Γ c → (fs : List (List ℕ))
-    → ruleRefusal sheet Γ fs ≡ none
+    → firstFailing (ruleTests sheet Γ fs) ≡ none
     → (x : Rule) × (fs ≡ kindText (x .kind) ∷ ruleFields x) × KeepsRule (c .names) (signalLetters (c .signals)) x
-unfolding ruleRefusal
+unfolding endsTests ruleTests
 rule-read {sheet} {Γ} s fs e =
     let t = hold (ruleTests sheet Γ fs) e in
     let from = field 1 fs in
@@ -71,7 +74,7 @@ rule-read {sheet} {Γ} s fs e =
 
 module _ (sheet : List ℕ) (h : ℕ) (names : List (List ℕ)) (xs : List Signal) where
   pub rules-understood :
-      Understood sheet (ruleRow sheet) L.rules (λ x. kindText (x .kind)) ruleFields
+      Understood sheet Rules (λ x. kindText (x .kind)) ruleFields
       (λ Γ rs. Stands sheet Γ (contents h names xs rs)) (KeptRules names xs)
       (λ rs x. KeepsRule names (signalLetters xs) x)
   rules-understood = record {

@@ -4,11 +4,11 @@ use mathlib.Core.Bool.{true}
 use mathlib.Core.Option.{none}
 use mathlib.Core.List.{List, [], _∷_, _++_, map}
 use Prim.Native.Nat.{ℕ, suc, _≤_}
-use Prim.Native.String.{String}
 use native.Mathlib.Omega.{arith}
 use borrow.Author.Tests.{eqb-true}
 use lib.Dec.{eqb}
 use lib.ListN.{length, drop, length-map}
+use Rattle.prelude.specs.Checks.{firstFailing}
 use Rattle.prelude.proofs.Checks.{hold, none-fails}
 use Rattle.prelude.specs.Bytes.{ascii, same, every}
 use Rattle.prelude.proofs.Bytes.{same-true, same-refl}
@@ -17,7 +17,9 @@ use Rattle.text.specs.Lines.{field, lineAt, afterLine, fields}
 use Rattle.text.specs.Number.{magnitude}
 use Rattle.text.specs.Decimal.{decimal}
 use Rattle.network.specs.declared.Network.{Network}
-use Rattle.line.specs.Rows.{Row, sectionTests, sectionRefusal, sectionCount}
+use Rattle.line.specs.Tests.{sectionTests, sectionCount}
+use Rattle.line.specs.Sections.{Heading, headingOf, headingTests}
+use Rattle.line.specs.declared.Section.{Section}
 use Rattle.sheet.specs.Reading.{Progress, Go, readLine, readRows, readSection}
 use Rattle.sheet.proofs.Rows.{went}
 use Rattle.layout.specs.Layout.{line, lines, section}
@@ -28,41 +30,42 @@ use Rattle.layout.proofs.Numbers.{decimal-magnitude}
 use Rattle.prelude.proofs.Lists.{all-of}
 use Rattle.layout.proofs.Row.{Understood, rows-read, Reads, rows-reads, readLine-passes, joins, parts}
 
--- a count from lo to hi, behind its word
-module _ (word : String) (lo hi : ℕ) where
-  count-read : (fs : List (List ℕ)) → sectionRefusal word lo hi fs ≡ none
-      → (fs ≡ ascii word ∷ decimal (sectionCount fs) ∷ []) × (lo ≤ sectionCount fs) × (sectionCount fs ≤ hi)
-  unfolding sectionRefusal
+-- a count, behind its word
+module _ (h : Heading) where
+  count-read : (fs : List (List ℕ)) → firstFailing (headingTests h fs) ≡ none
+      → (fs ≡ ascii (h .word) ∷ decimal (sectionCount fs) ∷ []) × (h .least ≤ sectionCount fs) × (sectionCount fs ≤ h .most)
+  unfolding sectionTests
   count-read fs e =
-      let t = hold (sectionTests word lo hi fs) e in
-      let p = and-true (eqb (length fs) 2) (same (field 0 fs) (ascii word)) (t .0) in
-      let d = decimal-magnitude lo hi (field 1 fs) (t .1 .0) (t .1 .1 .0) in (
+      let word = ascii (h .word) in
+      let t = hold (headingTests h fs) e in
+      let p = and-true (eqb (length fs) 2) (same (field 0 fs) word) (t .0) in
+      let d = decimal-magnitude (h .least) (h .most) (field 1 fs) (t .1 .0) (t .1 .1 .0) in (
         all-of [] 2 fs (eqb-true (length fs) 2 (p .0))
-            ∙ ap₂ (λ (f g : List ℕ). f ∷ g ∷ []) (same-true (field 0 fs) (ascii word) (p .1)) (sym (d .0)),
+            ∙ ap₂ (λ (f g : List ℕ). f ∷ g ∷ []) (same-true (field 0 fs) word (p .1)) (sym (d .0)),
         d .1,
         d .2,
       )
 
-  count-passes : (n : ℕ) → lo ≤ n → n ≤ hi → sectionRefusal word lo hi (ascii word ∷ decimal n ∷ []) ≡ none
-  unfolding sectionRefusal
-  count-passes n h k =
-      none-fails (sectionTests word lo hi (ascii word ∷ decimal n ∷ []))
-      (same-refl (ascii word) & isNumber-decimal n & inRange-decimal n lo hi h k & tt)
+  count-passes : (n : ℕ) → h .least ≤ n → n ≤ h .most → firstFailing (headingTests h (ascii (h .word) ∷ decimal n ∷ [])) ≡ none
+  unfolding sectionTests
+  count-passes n l m =
+      none-fails (headingTests h (ascii (h .word) ∷ decimal n ∷ []))
+      (same-refl (ascii (h .word)) & isNumber-decimal n & inRange-decimal n (h .least) (h .most) l m & tt)
 
 -- the line of a count, with what follows it
-module _ (sheet : List ℕ) (word : String) (lo hi at k : ℕ) (next : List (List ℕ) → Progress) where
+module _ (sheet : List ℕ) (h : Heading) (at k : ℕ) (next : List (List ℕ) → Progress) where
   pub record CountRead (Δ : Network) (end number : ℕ) : Type 0 where
     pub fs : List (List ℕ)
-    pub low : lo ≤ sectionCount fs
-    pub high : sectionCount fs ≤ hi
-    pub text : drop at sheet ≡ line (ascii word) (decimal (sectionCount fs) ∷ []) ++ drop (afterLine sheet at) sheet
+    pub low : h .least ≤ sectionCount fs
+    pub high : sectionCount fs ≤ h .most
+    pub text : drop at sheet ≡ line (ascii (h .word)) (decimal (sectionCount fs) ∷ []) ++ drop (afterLine sheet at) sheet
     pub then : next fs ≡ Go Δ end number
 
-  pub count-line-read : (Δ : Network) (end number : ℕ) → readLine sheet at k (sectionRefusal word lo hi) next ≡ Go Δ end number
+  pub count-line-read : (Δ : Network) (end number : ℕ) → readLine sheet at k (headingTests h) next ≡ Go Δ end number
       → CountRead Δ end number
   count-line-read Δ end number g =
-      let p = went sheet at k (sectionRefusal word lo hi) next Δ end number g in
-      let c = count-read word lo hi (fields (lineAt sheet at)) (p .passed .accepted) in
+      let p = went sheet at k (headingTests h) next Δ end number g in
+      let c = count-read h (fields (lineAt sheet at)) (p .passed .accepted) in
       record {
         fs = fields (lineAt sheet at);
         low = c .1;
@@ -72,38 +75,41 @@ module _ (sheet : List ℕ) (word : String) (lo hi at k : ℕ) (next : List (Lis
         then = p .then;
       }
 
-  pub count-line-reads : every plain (ascii word) ≡ true → (n : ℕ) (rest : List ℕ) → lo ≤ n → n ≤ hi
-      → drop at sheet ≡ line (ascii word) (decimal n ∷ []) ++ rest
+  pub count-line-reads : every plain (ascii (h .word)) ≡ true → (n : ℕ) (rest : List ℕ) → h .least ≤ n → n ≤ h .most
+      → drop at sheet ≡ line (ascii (h .word)) (decimal n ∷ []) ++ rest
       → (drop (afterLine sheet at) sheet ≡ rest)
-      × ((p : Progress) → next (ascii word ∷ decimal n ∷ []) ≡ p → readLine sheet at k (sectionRefusal word lo hi) next ≡ p)
-  count-line-reads w n rest h l t =
-      let fs = ascii word ∷ decimal n ∷ [] in
-      let r = is-read sheet at (ascii word) (decimal n ∷ []) rest (w & plain-decimal n & tt) t in
-      (r .behind, λ p e. readLine-passes sheet at k (sectionRefusal word lo hi) next fs rest p r (count-passes word lo hi n h l) e)
+      × ((p : Progress) → next (ascii (h .word) ∷ decimal n ∷ []) ≡ p → readLine sheet at k (headingTests h) next ≡ p)
+  count-line-reads w n rest l m t =
+      let fs = ascii (h .word) ∷ decimal n ∷ [] in
+      let r = is-read sheet at (ascii (h .word)) (decimal n ∷ []) rest (w & plain-decimal n & tt) t in
+      (r .behind, λ p e. readLine-passes sheet at k (headingTests h) next fs rest p r (count-passes h n l m) e)
 
 -- the section that was read is that of some items, and the network holds them
-pub record SectionRead (sheet : List ℕ) {X : Type 0} (Held : Network → List X → Type 0) (word : String) (text : X → List ℕ)
-    (lo hi at : ℕ) (Γ : Network) (end : ℕ) : Type 0 where
+pub record SectionRead (sheet : List ℕ) {X : Type 0} (Held : Network → List X → Type 0) (h : Heading) (text : X → List ℕ)
+    (at : ℕ) (Γ : Network) (end : ℕ) : Type 0 where
   pub items : List X
-  pub low : lo ≤ length items
-  pub high : length items ≤ hi
-  pub written : drop at sheet ≡ section word (map text items) ++ drop end sheet
+  pub low : h .least ≤ length items
+  pub high : length items ≤ h .most
+  pub written : drop at sheet ≡ section (h .word) (map text items) ++ drop end sheet
   pub held : Held Γ items
 
-module _ {sheet : List ℕ} {row : Row} {hi : ℕ} {X : Type 0} {first : X → List ℕ} {others : X → List (List ℕ)}
+module _ {sheet : List ℕ} {s : Section} {X : Type 0} {first : X → List ℕ} {others : X → List (List ℕ)}
     {Held : Network → List X → Type 0} {Kept : List X → Type 0} {May : List X → X → Type 0}
-    (w : Understood sheet row hi first others Held Kept May) (word : String) (lo : ℕ) (Γ : Network) (at k : ℕ)
+    (w : Understood sheet s first others Held Kept May) (Γ : Network) (at k : ℕ)
     (start : Held Γ []) where
   abbrev text : X → List ℕ
   text x = line (first x) (others x)
 
-  abbrev rows : List (List ℕ) → Progress
-  rows fs = readRows sheet row (sectionCount fs) Γ (afterLine sheet at) (suc k)
+  abbrev head : Heading
+  head = headingOf s
 
-  pub section-read : (Δ : Network) (end number : ℕ) → readSection sheet word lo hi row Γ at k ≡ Go Δ end number
-      → SectionRead sheet Held word text lo hi at Δ end
+  abbrev rows : List (List ℕ) → Progress
+  rows fs = readRows sheet s (sectionCount fs) Γ (afterLine sheet at) (suc k)
+
+  pub section-read : (Δ : Network) (end number : ℕ) → readSection sheet s Γ at k ≡ Go Δ end number
+      → SectionRead sheet Held head text at Δ end
   section-read Δ end number g =
-      let c = count-line-read sheet word lo hi at k rows Δ end number g in
+      let c = count-line-read sheet head at k rows Δ end number g in
       let m = sectionCount (c .fs) in
       let r = rows-read w m Γ [] (afterLine sheet at) (suc k) start (omega (arith, c .high)) Δ end number (c .then) in
       let n : m ≡ length (map text (r .items)) = omega (arith, r .count, length-map (r .items) text) in
@@ -112,7 +118,7 @@ module _ {sheet : List ℕ} {row : Row} {hi : ℕ} {X : Type 0} {first : X → L
         low = omega (arith, c .low, r .count);
         high = omega (arith, c .high, r .count);
         written =
-            joins (drop at sheet) (line (ascii word) (decimal (length (map text (r .items))) ∷ [])) (drop (afterLine sheet at) sheet)
+            joins (drop at sheet) (line (ascii (head .word)) (decimal (length (map text (r .items))) ∷ [])) (drop (afterLine sheet at) sheet)
             (lines (map text (r .items))) (drop end sheet)
             (rw n at (c .text))
             (r .written);
@@ -120,14 +126,15 @@ module _ {sheet : List ℕ} {row : Row} {hi : ℕ} {X : Type 0} {first : X → L
       }
 
   -- where the section of ys stands, it is read
-  pub section-reads : every plain (ascii word) ≡ true → (ys : List X) (rest : List ℕ) → Kept ys → lo ≤ length ys → length ys ≤ hi
-      → drop at sheet ≡ section word (map text ys) ++ rest → Reads sheet Held (readSection sheet word lo hi row Γ at k) ys rest
+  pub section-reads : every plain (ascii (head .word)) ≡ true → (ys : List X) (rest : List ℕ) → Kept ys
+      → head .least ≤ length ys → length ys ≤ head .most
+      → drop at sheet ≡ section (head .word) (map text ys) ++ rest → Reads sheet Held (readSection sheet s Γ at k) ys rest
   section-reads p ys rest kept low high t =
       let n = length (map text ys) in
       let e : n ≡ length ys = length-map ys text in
       let body = lines (map text ys) in
-      let l = parts (drop at sheet) (line (ascii word) (decimal n ∷ [])) body rest t in
-      let c = count-line-reads sheet word lo hi at k rows p n (body ++ rest) (omega arith) (omega arith) l in
+      let l = parts (drop at sheet) (line (ascii (head .word)) (decimal n ∷ [])) body rest t in
+      let c = count-line-reads sheet head at k rows p n (body ++ rest) (omega arith) (omega arith) l in
       let r = rows-reads w ys Γ [] (afterLine sheet at) (suc k) rest start kept (omega arith) (c .0) in
       let count : magnitude (decimal n) ≡ length ys = magnitude-decimal n ∙ e in
       record {

@@ -7,6 +7,7 @@ use mathlib.Core.List.{List, [], _∷_, _++_}
 use Prim.Native.Nat.{ℕ, _<_}
 use borrow.Author.Tests.{eqb-true, not-true}
 use lib.ListN.{length, getD}
+use Rattle.prelude.specs.Checks.{firstFailing}
 use Rattle.prelude.proofs.Checks.{hold, none-fails}
 use Rattle.prelude.specs.Search.{answers}
 use Rattle.prelude.proofs.Tests.{clash, false-of-not-true, and-true, and-both, or-false, or-neither}
@@ -15,7 +16,9 @@ use Rattle.network.specs.Limits as L
 use Rattle.network.specs.declared.Network.{Network}
 use Rattle.names.specs.Names.{isName, isLetter, isOneLetter}
 use Rattle.names.specs.Defined.{placeOf}
-use Rattle.line.specs.Rows.{eventOf, isObservation, signalTests, signalRefusal, signalRow}
+use Rattle.line.specs.Tests.{eventOf, isObservation, signalTests}
+use Rattle.line.specs.Sections.{withLine}
+use Rattle.line.specs.declared.Section.the-variants.{Signals}
 use Rattle.prelude.specs.Lists.{In}
 use Rattle.layout.specs.Layout.{Signal, signalEvents}
 use Rattle.layout.proofs.Checks.{_&_}
@@ -57,9 +60,9 @@ module _ (sheet : List ℕ) (h : ℕ) (names : List (List ℕ)) where
         let p = event-named (c .holds) f (w .0) (w .1) in
         rw (w .1) (observed-test (c .holds) (w .0) (c .names .once) (p .defined) (rw (p .name) e))
 
-    signal-read : (fs : List (List ℕ)) → signalRefusal sheet Γ fs ≡ none
+    signal-read : (fs : List (List ℕ)) → firstFailing (signalTests sheet Γ fs) ≡ none
         → (x : Signal) × (fs ≡ (x .letter ∷ []) ∷ x .event ∷ []) × NewSignal names xs x
-    unfolding signalRefusal
+    unfolding signalTests
     signal-read fs e =
         let t = hold (signalTests sheet Γ fs) e in
         let b = getD (field 0 fs) 0 0 in
@@ -77,8 +80,8 @@ module _ (sheet : List ℕ) (h : ℕ) (names : List (List ℕ)) where
           },
         )
 
-    signal-passes : (x : Signal) → NewSignal names xs x → signalRefusal sheet Γ ((x .letter ∷ []) ∷ x .event ∷ []) ≡ none
-    unfolding signalRefusal
+    signal-passes : (x : Signal) → NewSignal names xs x → firstFailing (signalTests sheet Γ ((x .letter ∷ []) ∷ x .event ∷ [])) ≡ none
+    unfolding signalTests
     signal-passes x m =
         let b = x .letter in
         let f = x .event in
@@ -93,7 +96,7 @@ module _ (sheet : List ℕ) (h : ℕ) (names : List (List ℕ)) where
         & tt)
 
     signal-adds : (x : Signal) → NewSignal names xs x → length xs < L.signals → (at : ℕ)
-        → Stands sheet (signalRow sheet .add Γ at ((x .letter ∷ []) ∷ x .event ∷ []))
+        → Stands sheet (withLine sheet Signals Γ at ((x .letter ∷ []) ∷ x .event ∷ []))
         (contents h names (xs ++ x ∷ []) [])
     signal-adds x m few at =
         let w = event-found (c .holds) (x .event) (m .keeps .event) in
@@ -101,7 +104,7 @@ module _ (sheet : List ℕ) (h : ℕ) (names : List (List ℕ)) where
         (signal-added c x (w .0) m few (event-named (c .holds) (x .event) (w .0) (w .1)))
 
   pub signals-understood :
-      Understood sheet (signalRow sheet) L.signals (λ x. x .letter ∷ []) (λ x. x .event ∷ [])
+      Understood sheet Signals (λ x. x .letter ∷ []) (λ x. x .event ∷ [])
       (λ Γ xs. Stands sheet Γ (contents h names xs [])) (KeptSignals names) (NewSignal names)
   signals-understood = record {
     may = may-signal names;

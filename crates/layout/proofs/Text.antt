@@ -48,14 +48,14 @@ module _ (sheet : List ℕ) where
     pub end-read : (Δ : Network) (end number : ℕ) → readEnd sheet Γ at k ≡ Go Δ end number → drop at sheet ≡ []
     end-read Δ end number g =
         elim (either (ltb at (length sheet))) [
-          | inl e ↦ stop-not-go (refusal TrailingBytes k) Δ end number (rw (e, readEnd) at g)
+          | inl e ↦ stop-not-go (refusal TrailingBytes k) Δ end number (rw e at g)
           | inr e ↦ drop-of-length-le sheet (ltb-false at (length sheet) e)
         ]
 
     pub end-reads : drop at sheet ≡ [] → readEnd sheet Γ at k ≡ Go Γ at k
     end-reads e =
         let h : length sheet ≤ at = omega (arith, ap length e, length-drop at sheet) in
-        rw (le-ltb at (length sheet) h, readEnd)
+        rw (le-ltb at (length sheet) h)
 
 -- a step behind another
 pub on : (p : Progress) (next : Network → ℕ → ℕ → Progress) (Γ : Network) (at k : ℕ) (q : Progress) → p ≡ Go Γ at k

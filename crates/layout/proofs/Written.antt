@@ -8,8 +8,10 @@ use Rattle.text.specs.Lines.{afterLine}
 use Rattle.network.specs.Limits as L
 use Rattle.network.specs.Build.{empty}
 use Rattle.network.specs.declared.Network.{Network}
-use Rattle.line.specs.Rows.{sectionCount}
-use Rattle.sheet.specs.Reading.{longest, Go, readHorizon, readEvents, readSignals, readRules, readEnd, progress}
+use Rattle.line.specs.Tests.{sectionCount}
+use Rattle.line.specs.Sections.{headingOf, horizonHeading}
+use Rattle.line.specs.declared.Section.the-variants.{Events, Signals, Rules}
+use Rattle.sheet.specs.Reading.{longest, Go, readHorizon, readSection, readEnd, progress}
 use Rattle.sheet.proofs.Rows.{Came, came}
 use Rattle.sheet.proofs.Whole.{toEvents, toSignals, toRules, toEnd, within-length}
 use Rattle.layout.specs.Layout.{Signal, Contents, Keeps, Layout, line, signalLine, ruleLine}
@@ -56,21 +58,19 @@ module _ (sheet : List ℕ) where
 
   abbrev EventsRead : ℕ → ℕ → Network → ℕ → Type 0
   EventsRead h at Γ end =
-      SectionRead sheet (λ Γ ns. Stands sheet Γ (contents h ns [] [])) "events" (λ n. line n []) 1 L.events at Γ end
+      SectionRead sheet (λ Γ ns. Stands sheet Γ (contents h ns [] [])) (headingOf Events) (λ n. line n []) at Γ end
 
   abbrev SignalsRead : ℕ → List (List ℕ) → ℕ → Network → ℕ → Type 0
   SignalsRead h ns at Γ end =
-      SectionRead sheet (λ Γ xs. Stands sheet Γ (contents h ns xs [])) "signals"
-      signalLine 0 L.signals at Γ end
+      SectionRead sheet (λ Γ xs. Stands sheet Γ (contents h ns xs [])) (headingOf Signals) signalLine at Γ end
 
   abbrev RulesRead : ℕ → List (List ℕ) → List Signal → ℕ → Network → ℕ → Type 0
   RulesRead h ns xs at Γ end =
-      SectionRead sheet (λ Γ rs. Stands sheet Γ (contents h ns xs rs)) "rules"
-      ruleLine 0 L.rules at Γ end
+      SectionRead sheet (λ Γ rs. Stands sheet Γ (contents h ns xs rs)) (headingOf Rules) ruleLine at Γ end
 
   horizon-read : (Γ : Network) (at k : ℕ) → readHorizon sheet ≡ Go Γ at k → HorizonRead Γ at
   horizon-read Γ at k e =
-      let c = count-line-read sheet "horizon" 0 L.horizon 0 1 (λ fs. Go (empty (sectionCount fs)) (afterLine sheet 0) 2) Γ at k e in
+      let c = count-line-read sheet horizonHeading 0 1 (λ fs. Go (empty (sectionCount fs)) (afterLine sheet 0) 2) Γ at k e in
       let h = sectionCount (c .fs) in
       let then = c .then in
       let same-network : empty h ≡ Γ = cc in
@@ -96,28 +96,28 @@ module _ (sheet : List ℕ) where
     }
 
     from-signals : (h : HorizonRead Γ₁ a) (es : EventsRead (h .horizon) a Γ₂ b) → SignalsRead (h .horizon) (es .items) b Γ₃ c
-        → (l m : ℕ) → readRules sheet Γ₃ c l ≡ Go Γ₄ d m → Layout sheet
+        → (l m : ℕ) → readSection sheet Rules Γ₃ c l ≡ Go Γ₄ d m → Layout sheet
     from-signals h es ss l m t =
         from-rules h es ss
-        (section-read (rules-understood sheet (h .horizon) (es .items) (ss .items)) "rules" 0 Γ₃ c l (ss .held) Γ₄ d m t)
+        (section-read (rules-understood sheet (h .horizon) (es .items) (ss .items)) Γ₃ c l (ss .held) Γ₄ d m t)
 
-    from-events : (h : HorizonRead Γ₁ a) → EventsRead (h .horizon) a Γ₂ b → (k l m : ℕ) → readSignals sheet Γ₂ b k ≡ Go Γ₃ c l
-        → readRules sheet Γ₃ c l ≡ Go Γ₄ d m → Layout sheet
+    from-events : (h : HorizonRead Γ₁ a) → EventsRead (h .horizon) a Γ₂ b → (k l m : ℕ) → readSection sheet Signals Γ₂ b k ≡ Go Γ₃ c l
+        → readSection sheet Rules Γ₃ c l ≡ Go Γ₄ d m → Layout sheet
     from-events h es k l m r t =
         from-signals h es
-        (section-read (signals-understood sheet (h .horizon) (es .items)) "signals" 0 Γ₂ b k (es .held) Γ₃ c l r) l m t
+        (section-read (signals-understood sheet (h .horizon) (es .items)) Γ₂ b k (es .held) Γ₃ c l r) l m t
 
-    from-horizon : HorizonRead Γ₁ a → (j k l m : ℕ) → readEvents sheet Γ₁ a j ≡ Go Γ₂ b k → readSignals sheet Γ₂ b k ≡ Go Γ₃ c l
-        → readRules sheet Γ₃ c l ≡ Go Γ₄ d m → Layout sheet
+    from-horizon : HorizonRead Γ₁ a → (j k l m : ℕ) → readSection sheet Events Γ₁ a j ≡ Go Γ₂ b k → readSection sheet Signals Γ₂ b k ≡ Go Γ₃ c l
+        → readSection sheet Rules Γ₃ c l ≡ Go Γ₄ d m → Layout sheet
     from-horizon h j k l m q r t =
-        from-events h (section-read (events-understood sheet (h .horizon)) "events" 1 Γ₁ a j (h .held) Γ₂ b k q) k l m r t
+        from-events h (section-read (events-understood sheet (h .horizon)) Γ₁ a j (h .held) Γ₂ b k q) k l m r t
 
   -- the steps, the last one first
   module _ (short : length sheet ≤ longest) (Γ : Network) (at k : ℕ) where
     by-steps : (d : Came (toRules sheet) (readEnd sheet) (Go Γ at k))
-        (c : Came (toSignals sheet) (readRules sheet) (Go (d .network) (d .at) (d .line)))
-        (b : Came (toEvents sheet) (readSignals sheet) (Go (c .network) (c .at) (c .line)))
-        → Came (readHorizon sheet) (readEvents sheet) (Go (b .network) (b .at) (b .line)) → Layout sheet
+        (c : Came (toSignals sheet) (readSection sheet Rules) (Go (d .network) (d .at) (d .line)))
+        (b : Came (toEvents sheet) (readSection sheet Signals) (Go (c .network) (c .at) (c .line)))
+        → Came (readHorizon sheet) (readSection sheet Events) (Go (b .network) (b .at) (b .line)) → Layout sheet
     by-steps d c b a =
         from-horizon short (end-read sheet (d .network) (d .at) (d .line) Γ at k (d .then))
         (horizon-read (a .network) (a .at) (a .line) (a .first))
@@ -126,9 +126,9 @@ module _ (sheet : List ℕ) where
     sections-written : toEnd sheet ≡ Go Γ at k → Layout sheet
     sections-written e =
         let d = came (toRules sheet) (readEnd sheet) Γ at k e in
-        let c = came (toSignals sheet) (readRules sheet) (d .network) (d .at) (d .line) (d .first) in
-        let b = came (toEvents sheet) (readSignals sheet) (c .network) (c .at) (c .line) (c .first) in
-        by-steps d c b (came (readHorizon sheet) (readEvents sheet) (b .network) (b .at) (b .line) (b .first))
+        let c = came (toSignals sheet) (readSection sheet Rules) (d .network) (d .at) (d .line) (d .first) in
+        let b = came (toEvents sheet) (readSection sheet Signals) (c .network) (c .at) (c .line) (c .first) in
+        by-steps d c b (came (readHorizon sheet) (readSection sheet Events) (b .network) (b .at) (b .line) (b .first))
 
   pub layout-of : (Γ : Network) (at k : ℕ) → progress sheet ≡ Go Γ at k → Layout sheet
   layout-of Γ at k g = let w = within-length sheet Γ at k g in sections-written (w .0) Γ at k (w .1)

@@ -4,14 +4,15 @@ use mathlib.Core.Option.{Option, none, some}
 use mathlib.Core.List.{List, []}
 use Prim.Native.Nat.{ℕ, _-_}
 use lib.ListN.{length, take, drop}
+use Rattle.prelude.specs.Checks.{firstFailing}
 use Rattle.prelude.proofs.Tests.{zero-is-one}
 use Rattle.text.specs.Lines.{lineFeed, upTo, fields, field, lineAt}
 use Rattle.text.proofs.Lines.{take-drop}
 use Rattle.refusal.specs.declared.Cause.{Cause}
 use Rattle.network.specs.declared.Network.{Network}
-use Rattle.line.specs.Rows.{isObservation, eventOf, eventRefusal, signalRefusal, ruleRefusal}
-use Rattle.line.specs.Sections.{rowsOf}
-use Rattle.line.specs.Answers.{lineRefusal, partsOf, rowAnswer, entryOf, byFields, rowOf, rowAt}
+use Rattle.line.specs.Tests.{lineTests, isObservation, eventOf, eventTests, signalTests, endsTests, ruleTests}
+use Rattle.line.specs.Sections.{testsOf, entryOf}
+use Rattle.line.specs.Answers.{partsOf, rowAnswer, rowBy, rowAt}
 use Rattle.line.specs.declared.Section.{Section}
 use Rattle.line.specs.declared.Section.the-variants.{Events, Signals, Rules}
 use Rattle.line.specs.declared.row.Entry.{Entry}
@@ -42,34 +43,35 @@ module _ (sheet : List ℕ) (Γ : Network) (fs : List (List ℕ)) where
   observation-parts none = refl
   observation-parts (some u) = refl
 
-  refusal-parts : (s : Section) → rowsOf sheet s .refusal parts fs ≡ rowsOf sheet s .refusal Γ fs
-  unfolding eventRefusal signalRefusal ruleRefusal
-  refusal-parts Events = refl
-  refusal-parts Signals = rw (observation-parts (eventOf sheet Γ (field 1 fs)))
-  refusal-parts Rules = refl
+  tests-parts : (s : Section) → testsOf sheet s parts fs ≡ testsOf sheet s Γ fs
+  unfolding eventTests signalTests endsTests ruleTests
+  tests-parts Events = refl
+  tests-parts Signals = rw (observation-parts (eventOf sheet Γ (field 1 fs)))
+  tests-parts Rules = refl
 
-  entry-parts : (s : Section) → entryOf sheet parts s fs ≡ entryOf sheet Γ s fs
+  entry-parts : (s : Section) → entryOf sheet s parts fs ≡ entryOf sheet s Γ fs
   entry-parts Events = refl
   entry-parts Signals = refl
   entry-parts Rules = refl
 
 -- an event's line asks for no letters, and a rule's for no observations
 module _ (sheet : List ℕ) (Γ : Network) (line : List ℕ) where
-  pub event-parts : rowOf byFields line Events sheet (partsOf (Γ .events) (Γ .starts) (Γ .lengths) 0 [] [])
-      ≡ rowOf byFields line Events sheet Γ
-  unfolding eventRefusal
+  pub event-parts : rowBy line Events sheet (partsOf (Γ .events) (Γ .starts) (Γ .lengths) 0 [] [])
+      ≡ rowBy line Events sheet Γ
+  unfolding eventTests
   event-parts = refl
 
-  pub rule-parts : rowOf byFields line Rules sheet (partsOf (Γ .events) (Γ .starts) (Γ .lengths) (Γ .signals) (Γ .letters) [])
-      ≡ rowOf byFields line Rules sheet Γ
-  unfolding ruleRefusal
+  pub rule-parts : rowBy line Rules sheet (partsOf (Γ .events) (Γ .starts) (Γ .lengths) (Γ .signals) (Γ .letters) [])
+      ≡ rowBy line Rules sheet Γ
+  unfolding endsTests ruleTests
   rule-parts = refl
 
 -- a line that ends at e is read by its fields
 pub row-ends : (sheet : List ℕ) (Γ : Network) (rest : List ℕ) (e : ℕ) → e ≡ length (upTo lineFeed rest) → (e ≡ length rest → ⊥)
-    → (s : Section) → rowOf byFields (take e rest) s sheet Γ ≡ rowAt rest s sheet Γ
-row-ends sheet Γ rest e is n s =
-    ap (λ (l : List ℕ). rowOf byFields l s sheet Γ) (line-is rest e is) ∙ sym (rw (line-ends rest e is n))
+    → (s t : Section) → t ≡ s → rowBy (take e rest) s sheet Γ ≡ rowAt rest t sheet Γ
+row-ends sheet Γ rest e is n s t q =
+    ap (λ (l : List ℕ). rowBy l s sheet Γ) (line-is rest e is) ∙ sym (rw (line-ends rest e is n))
+    ∙ ap (λ (t : Section). rowAt rest t sheet Γ) (sym q)
 
 -- what the reader of a line answers there, as an answer about the network
 module _ (sheet : List ℕ) (s : Section) (Γ : Network) (at : ℕ) where
@@ -80,7 +82,7 @@ module _ (sheet : List ℕ) (s : Section) (Γ : Network) (at : ℕ) where
   answerAt = rowAt (partAt sheet at) s sheet (parts sheet Γ fs)
 
   pub row-at : answerAt
-      ≡ rowAnswer (lineRefusal (drop at sheet) (rowsOf sheet s .refusal Γ fs)) (entryOf sheet Γ s fs) (length (lineAt sheet at))
+      ≡ rowAnswer (firstFailing (lineTests (drop at sheet) (testsOf sheet s Γ))) (entryOf sheet s Γ fs) (length (lineAt sheet at))
   row-at =
       ap (λ (l : List ℕ). rowAt l s sheet (parts sheet Γ fs)) (take-drop sheet at)
-      ∙ rw (refusal-parts sheet Γ fs s, entry-parts sheet Γ fs s)
+      ∙ rw (tests-parts sheet Γ fs s, entry-parts sheet Γ fs s)

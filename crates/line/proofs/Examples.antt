@@ -7,15 +7,17 @@ use mathlib.Core.List.{List, [], _∷_}
 use Prim.Native.Nat.{ℕ}
 use Prim.Native.String.{String}
 use lib.Dec.{eqb}
+use Rattle.prelude.specs.Checks.{firstFailing}
 use Rattle.prelude.specs.Bytes.{ascii}
 use Rattle.text.specs.Lines.{fields}
 use Rattle.text.specs.Number.{isNumber, inRange}
 use Rattle.refusal.specs.Refusal.{numberOf}
 use Rattle.refusal.specs.declared.Cause.{Cause}
-use Rattle.network.specs.Limits as L
 use Rattle.network.specs.declared.Network.{Network}
-use Rattle.line.specs.Rows.{sectionRefusal, eventRefusal, signalRefusal, ruleRefusal}
+use Rattle.line.specs.Tests.{sectionTests, eventTests, signalTests, endsTests, ruleTests}
+use Rattle.line.specs.Sections.{headingOf, headingTests}
 use Rattle.line.specs.Answers.{partsOf}
+use Rattle.line.specs.declared.Section.the-variants.{Events}
 
 -- two events by their names, of which the second gives the signal p
 abbrev names : List ℕ
@@ -29,16 +31,16 @@ abbrev Example : Type 0
 Example = ℕ × Option Cause
 
 abbrev events : ℕ → String → Example
-events n l = (n, sectionRefusal "events" 1 L.events (fields (ascii l)))
+events n l = (n, firstFailing (headingTests (headingOf Events) (fields (ascii l))))
 
 abbrev event : ℕ → String → Example
-event n l = (n, eventRefusal names before (fields (ascii l)))
+event n l = (n, firstFailing (eventTests names before (fields (ascii l))))
 
 abbrev signal : ℕ → String → Example
-signal n l = (n, signalRefusal names before (fields (ascii l)))
+signal n l = (n, firstFailing (signalTests names before (fields (ascii l))))
 
 abbrev rule : ℕ → String → Example
-rule n l = (n, ruleRefusal names before (fields (ascii l)))
+rule n l = (n, firstFailing (ruleTests names before (fields (ascii l))))
 
 abbrev examples : List Example
 examples =
@@ -84,5 +86,5 @@ allAre [] = true
 allAre (x ∷ xs) = eqb (number (x .1)) (x .0) && allAre xs
 
 pub examples-are : allAre examples ≡ true
-unfolding isNumber inRange sectionRefusal eventRefusal signalRefusal ruleRefusal
+unfolding isNumber inRange sectionTests eventTests signalTests endsTests ruleTests
 examples-are = refl

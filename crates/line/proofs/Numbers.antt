@@ -4,7 +4,7 @@ use mathlib.Core.Path.{_≡_, refl, _∙_}
 use mathlib.Core.Logic.{inl, inr}
 use mathlib.Core.Bool.{Bool, true, false, cond, and-false}
 use mathlib.Core.Option.{Option, none, some}
-use mathlib.Core.List.{List, [], _∷_}
+use mathlib.Core.List.{List}
 use Prim.Native.Nat.{ℕ, zero, suc, _+_, _≤_, _<_, min}
 use native.Mathlib.Omega.{arith}
 use borrow.Author.Tests.{le-leb, lt-leb}
@@ -20,6 +20,7 @@ use Rattle.text.specs.declared.Number.the-variants as Num
 use Rattle.refusal.specs.declared.Cause.{Cause}
 use Rattle.refusal.specs.declared.Cause.the-variants as C
 use Rattle.network.specs.Limits as L
+use Rattle.line.specs.Tests.{countTests}
 use Rattle.line.specs.Answers.{limitOf}
 use Rattle.line.specs.declared.Limit.the-variants as M
 
@@ -65,20 +66,20 @@ module _ (most : ℕ) (f : List ℕ) where
 
 -- the count of a section
 module _ (lo hi : ℕ) (f : List ℕ) where
-  abbrev pub countTests : Option Cause
-  countTests = firstFailing ((isNumber f, C.IllFormedNumber) ∷ (inRange lo hi f, C.OutOfRange) ∷ [])
+  abbrev why : Option Cause
+  why = firstFailing (countTests lo hi f)
 
-  pub count-ill : numberOf hi f ≡ Num.IllFormed → countTests ≡ some C.IllFormedNumber
+  pub count-ill : numberOf hi f ≡ Num.IllFormed → why ≡ some C.IllFormedNumber
   count-ill e = rw (number-ill hi f e)
 
-  out-of-range : isNumber f ≡ true → inRange lo hi f ≡ false → countTests ≡ some C.OutOfRange
+  out-of-range : isNumber f ≡ true → inRange lo hi f ≡ false → why ≡ some C.OutOfRange
   out-of-range e n = rw (e, n)
 
-  pub count-minus : (v : ℕ) → numberOf hi f ≡ Num.Minus v → countTests ≡ some C.OutOfRange
+  pub count-minus : (v : ℕ) → numberOf hi f ≡ Num.Minus v → why ≡ some C.OutOfRange
   unfolding inRange
   count-minus v e = let w = number-minus hi f v e in out-of-range (w .well-formed) (rw (w .sign))
 
-  pub count-low : (v : ℕ) → numberOf hi f ≡ Num.Plus v → v < lo → countTests ≡ some C.OutOfRange
+  pub count-low : (v : ℕ) → numberOf hi f ≡ Num.Plus v → v < lo → why ≡ some C.OutOfRange
   unfolding inRange
   count-low v e h =
       let w = number-plus hi f v e in
@@ -88,14 +89,14 @@ module _ (lo hi : ℕ) (f : List ℕ) where
         | inr p ↦ out-of-range (w .well-formed) (rw (lt-leb (magnitude f) hi (omega arith), and-false, and-false))
       ]
 
-  pub count-high : (v : ℕ) → numberOf hi f ≡ Num.Plus v → hi < v → countTests ≡ some C.OutOfRange
+  pub count-high : (v : ℕ) → numberOf hi f ≡ Num.Plus v → hi < v → why ≡ some C.OutOfRange
   unfolding inRange
   count-high v e h =
       let w = number-plus hi f v e in
       let size = w .size in
       out-of-range (w .well-formed) (rw (lt-leb (magnitude f) hi (omega arith), and-false, and-false))
 
-  pub count-in : (v : ℕ) → numberOf hi f ≡ Num.Plus v → lo ≤ v → v ≤ hi → (countTests ≡ none) × (magnitude f ≡ v)
+  pub count-in : (v : ℕ) → numberOf hi f ≡ Num.Plus v → lo ≤ v → v ≤ hi → (why ≡ none) × (magnitude f ≡ v)
   unfolding inRange
   count-in v e l h =
       let w = number-plus hi f v e in

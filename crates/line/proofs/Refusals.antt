@@ -30,15 +30,16 @@ use Rattle.names.specs.Defined.{placeOf, allDefined, maskOf}
 use Rattle.names.specs.Found.{foundOf, isFound}
 use Rattle.names.specs.declared.Found.{Found}
 use Rattle.names.proofs.Finds.{found-answers}
-use Rattle.line.specs.Rows.{eventOf, eventRefusal, signalRefusal, isObservation, kindOf, ruleRefusal, ruleOf}
-use Rattle.line.specs.Answers.{givesFound, checkOf, kindFound, limitOf, wordRefusal, rowAnswer, endsRefusal}
-use Rattle.line.specs.Answers.{endsAnswer}
+use Rattle.line.specs.Tests.{countTests, sectionTests, eventOf, eventTests, signalTests, endsTests, ruleTests}
+use Rattle.line.specs.Tests.{isObservation, kindOf}
+use Rattle.line.specs.Sections.{ruleOf}
+use Rattle.line.specs.Answers.{givesFound, checkOf, kindFound, limitOf, rowAnswer, endsAnswer}
 use Rattle.line.specs.declared.Check.the-variants as K
 use Rattle.line.specs.declared.KindField.the-variants as F
 use Rattle.line.specs.declared.Limit.the-variants as M
 use Rattle.line.specs.declared.row.Entry.the-variants as E
 use Rattle.line.proofs.Checks.{all-hold, three-same}
-use Rattle.line.proofs.Numbers.{countTests, value-fits}
+use Rattle.line.proofs.Numbers.{value-fits}
 
 -- the end of a line: it is missing, or the line is what stands before it
 module _ (rest : List ℕ) (e : ℕ) (is : e ≡ length (upTo lineFeed rest)) where
@@ -65,16 +66,17 @@ check-passed (some d) e = zero-is-one cc
 
 -- a section's line
 module _ (word : List ℕ) (lo hi : ℕ) (fs : List (List ℕ)) where
-  pub word-count : (length fs ≡ 2 → ⊥) → wordRefusal word lo hi fs ≡ some C.WrongFields
-  unfolding wordRefusal
+  pub word-count : (length fs ≡ 2 → ⊥) → firstFailing (sectionTests word lo hi fs) ≡ some C.WrongFields
+  unfolding sectionTests
   word-count n = rw (ne-eqb (length fs) 2 n)
 
-  pub word-other : same (field 0 fs) word ≡ false → wordRefusal word lo hi fs ≡ some C.WrongFields
-  unfolding wordRefusal
+  pub word-other : same (field 0 fs) word ≡ false → firstFailing (sectionTests word lo hi fs) ≡ some C.WrongFields
+  unfolding sectionTests
   word-other e = rw (e, and-false)
 
-  pub word-passes : length fs ≡ 2 → same (field 0 fs) word ≡ true → wordRefusal word lo hi fs ≡ countTests lo hi (field 1 fs)
-  unfolding wordRefusal
+  pub word-passes : length fs ≡ 2 → same (field 0 fs) word ≡ true
+      → firstFailing (sectionTests word lo hi fs) ≡ firstFailing (countTests lo hi (field 1 fs))
+  unfolding sectionTests
   word-passes n e = rw (eq-eqb (length fs) 2 n, e)
 
 -- an event that was looked for gives a signal where the search for it says so
@@ -85,35 +87,35 @@ gives-found k observations sheet Γ (some u) a b = rw (a, b)
 
 module _ (sheet : List ℕ) (Γ : Network) (fs : List (List ℕ)) where
   -- an event
-  pub event-count : (length fs ≡ 1 → ⊥) → eventRefusal sheet Γ fs ≡ some C.WrongFields
-  unfolding eventRefusal
+  pub event-count : (length fs ≡ 1 → ⊥) → firstFailing (eventTests sheet Γ fs) ≡ some C.WrongFields
+  unfolding eventTests
   event-count n = rw (ne-eqb (length fs) 1 n)
 
-  pub event-ill : length fs ≡ 1 → isName (field 0 fs) ≡ false → eventRefusal sheet Γ fs ≡ some C.IllFormedName
-  unfolding eventRefusal
+  pub event-ill : length fs ≡ 1 → isName (field 0 fs) ≡ false → firstFailing (eventTests sheet Γ fs) ≡ some C.IllFormedName
+  unfolding eventTests
   event-ill n e = rw (eq-eqb (length fs) 1 n, e)
 
   pub event-twice : length fs ≡ 1 → isName (field 0 fs) ≡ true → answers (eventOf sheet Γ (field 0 fs)) ≡ true
-      → eventRefusal sheet Γ fs ≡ some C.Duplicate
-  unfolding eventRefusal
+      → firstFailing (eventTests sheet Γ fs) ≡ some C.Duplicate
+  unfolding eventTests
   event-twice n e d = rw (eq-eqb (length fs) 1 n, e, d)
 
   pub event-passes : length fs ≡ 1 → isName (field 0 fs) ≡ true → answers (eventOf sheet Γ (field 0 fs)) ≡ false
-      → eventRefusal sheet Γ fs ≡ none
-  unfolding eventRefusal
+      → firstFailing (eventTests sheet Γ fs) ≡ none
+  unfolding eventTests
   event-passes n e d = rw (eq-eqb (length fs) 1 n, e, d)
 
   -- a signal
-  pub signal-count : (length fs ≡ 2 → ⊥) → signalRefusal sheet Γ fs ≡ some C.WrongFields
-  unfolding signalRefusal
+  pub signal-count : (length fs ≡ 2 → ⊥) → firstFailing (signalTests sheet Γ fs) ≡ some C.WrongFields
+  unfolding signalTests
   signal-count n = rw (ne-eqb (length fs) 2 n)
 
   pub signal-tests : {named fresh defined : Bool} → length fs ≡ 2 → named ≡ isOneLetter (field 0 fs) && isName (field 1 fs)
       → fresh ≡ not (answers (placeOf (Γ .signals) (Γ .letters) (getD (field 0 fs) 0 0)) || isObservation Γ
       (eventOf sheet Γ (field 1 fs)))
       → defined ≡ answers (eventOf sheet Γ (field 1 fs))
-      → signalRefusal sheet Γ fs ≡ firstFailing ((named, C.IllFormedName) ∷ (fresh, C.Duplicate) ∷ (defined, C.Undefined) ∷ [])
-  unfolding signalRefusal
+      → firstFailing (signalTests sheet Γ fs) ≡ firstFailing ((named, C.IllFormedName) ∷ (fresh, C.Duplicate) ∷ (defined, C.Undefined) ∷ [])
+  unfolding signalTests
   signal-tests {named} {fresh} {defined} n a b d =
       rw (eq-eqb (length fs) 2 n)
       (sym (three-same named fresh defined (isOneLetter (field 0 fs) && isName (field 1 fs))
@@ -121,27 +123,27 @@ module _ (sheet : List ℕ) (Γ : Network) (fs : List (List ℕ)) where
       (answers (eventOf sheet Γ (field 1 fs))) C.IllFormedName C.Duplicate C.Undefined a b d))
 
   -- a rule
-  pub rule-count : (length fs ≡ 5 → ⊥) → ruleRefusal sheet Γ fs ≡ some C.WrongFields
-  unfolding ruleRefusal
+  pub rule-count : (length fs ≡ 5 → ⊥) → firstFailing (ruleTests sheet Γ fs) ≡ some C.WrongFields
+  unfolding ruleTests
   rule-count n = rw (ne-eqb (length fs) 5 n)
 
-  pub rule-other : kindOf (field 0 fs) ≡ none → ruleRefusal sheet Γ fs ≡ some C.WrongFields
-  unfolding ruleRefusal
+  pub rule-other : kindOf (field 0 fs) ≡ none → firstFailing (ruleTests sheet Γ fs) ≡ some C.WrongFields
+  unfolding ruleTests
   rule-other e = rw (e, and-false)
 
   module _ (k : Kind) (n : length fs ≡ 5) (e : kindOf (field 0 fs) ≡ some k) where
-    pub rule-ill : isNumber (field 3 fs) ≡ false → ruleRefusal sheet Γ fs ≡ some C.IllFormedNumber
-    unfolding ruleRefusal
+    pub rule-ill : isNumber (field 3 fs) ≡ false → firstFailing (ruleTests sheet Γ fs) ≡ some C.IllFormedNumber
+    unfolding ruleTests
     rule-ill h = rw (eq-eqb (length fs) 5 n, e, h)
 
     pub rule-beyond : isNumber (field 3 fs) ≡ true → leb (magnitude (field 3 fs)) L.horizon ≡ false
-        → ruleRefusal sheet Γ fs ≡ some C.OutOfRange
-    unfolding ruleRefusal
+        → firstFailing (ruleTests sheet Γ fs) ≡ some C.OutOfRange
+    unfolding ruleTests
     rule-beyond h b = rw (eq-eqb (length fs) 5 n, e, h, b)
 
     pub rule-tests : isNumber (field 3 fs) ≡ true → leb (magnitude (field 3 fs)) L.horizon ≡ true
-        → ruleRefusal sheet Γ fs ≡ endsRefusal sheet Γ (field 1 fs) (field 2 fs) (field 4 fs)
-    unfolding ruleRefusal
+        → firstFailing (ruleTests sheet Γ fs) ≡ firstFailing (endsTests sheet Γ (field 1 fs) (field 2 fs) (field 4 fs))
+    unfolding ruleTests
     rule-tests h b = rw (eq-eqb (length fs) 5 n, e, h, b)
 
 -- what a kind that was found says of its field
@@ -197,7 +199,8 @@ module _ (sheet : List ℕ) (Γ : Network) (from to label t : List ℕ) (is : li
       → defined ≡ isFound a && (isFound b && allDefined (Γ .signals) (Γ .letters) (lettersOf (literals false t)))
       → unlike ≡ distinct (lettersOf (literals false t))
       → firstFailing ((named, C.IllFormedName) ∷ (defined, C.Undefined) ∷ (unlike, C.RepeatedLetter) ∷ [])
-      ≡ endsRefusal sheet Γ from to label
+      ≡ firstFailing (endsTests sheet Γ from to label)
+  unfolding endsTests
   ends-tests {a} {b} {named} {defined} {unlike} first second e-named e-defined e-unlike =
       three-same named defined unlike (isName from && (isName to && isLabel label))
       (answers (eventOf sheet Γ from) && (answers (eventOf sheet Γ to) && allDefined (Γ .signals) (Γ .letters)
@@ -210,13 +213,11 @@ module _ (sheet : List ℕ) (Γ : Network) (from to label t : List ℕ) (is : li
     pub all-known : allDefined (Γ .signals) (Γ .letters) (lettersOf (literals false t)) ≡ true
     pub all-unlike : distinct (lettersOf (literals false t)) ≡ true
 
-  pub ends-pass : endsRefusal sheet Γ from to label ≡ none → EndsPass
+  pub ends-pass : firstFailing (endsTests sheet Γ from to label) ≡ none → EndsPass
+  unfolding endsTests
   ends-pass e =
       let d = allDefined (Γ .signals) (Γ .letters) (lettersOf (labelOf label)) in
-      let tests : List (Bool × Cause) = (isName from && (isName to && isLabel label), C.IllFormedName)
-      ∷ (answers (eventOf sheet Γ from) && (answers (eventOf sheet Γ to) && d), C.Undefined)
-      ∷ (distinct (lettersOf (labelOf label)), C.RepeatedLetter) ∷ [] in
-      let holds = all-hold tests e in
+      let holds = all-hold (endsTests sheet Γ from to label) e in
       let w = both (answers (eventOf sheet Γ from)) (answers (eventOf sheet Γ to) && d) (holds 1) in
       record { all-known = rw is (both (answers (eventOf sheet Γ to)) d (w .1) .1); all-unlike = rw is (holds 2) }
 
@@ -224,7 +225,7 @@ module _ (sheet : List ℕ) (Γ : Network) (from to label t : List ℕ) (is : li
 pub ends-row : (sheet : List ℕ) (Γ : Network) (fs : List (List ℕ)) (k : Kind) (z : ℤ) (n : ℕ) → length fs ≡ 5
     → kindOf (field 0 fs) ≡ some k → LimitIs (field 3 fs) z
     → endsAnswer sheet Γ (field 1 fs) (field 2 fs) (field 4 fs) k z n
-    ≡ rowAnswer (ruleRefusal sheet Γ fs) (E.Rule (ruleOf sheet Γ fs)) n
+    ≡ rowAnswer (firstFailing (ruleTests sheet Γ fs)) (E.Rule (ruleOf sheet Γ fs)) n
 ends-row sheet Γ fs k z n five e w =
     let value = w .value in
     let kind : Option·getD (kindOf (field 0 fs)) Max ≡ k = ap (λ (o : Option Kind). Option·getD o Max) e in

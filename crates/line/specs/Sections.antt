@@ -1,12 +1,25 @@
--- The sections behind the horizon, by the code's `Section`: the line that each begins with, and its lines.
+-- The sections behind the horizon, by the code's `Section`: the line that each begins with, the tests of its lines,
+-- and what a line of it adds to the network (01, The sheet).
+use mathlib.Core.Option.{Option·getD}
 use mathlib.Core.List.{List}
 use Prim.Native.Nat.{ℕ}
 use Prim.Native.String.{String}
+use lib.ListN.{length, getD}
+use Rattle.prelude.specs.Bytes.{ascii}
+use Rattle.text.specs.Lines.{field}
+use Rattle.text.specs.Number.{valueOf}
 use Rattle.network.specs.Limits as L
+use Rattle.network.specs.Build.{withEvent, withSignal, withRule}
+use Rattle.network.specs.declared.Kind.the-variants.{Max}
+use Rattle.network.specs.declared.Constraint.{Constraint}
 use Rattle.network.specs.declared.Network.{Network}
-use Rattle.line.specs.Rows.{Tests, eventTests, signalTests, ruleTests, Row, eventRow, signalRow, ruleRow}
+use Rattle.names.specs.Names.{labelOf}
+use Rattle.names.specs.Defined.{maskOf}
+use Rattle.line.specs.Tests.{Tests, sectionTests, eventTests, signalTests, ruleTests, eventOf, kindOf}
 use Rattle.line.specs.declared.Section.{Section}
 use Rattle.line.specs.declared.Section.the-variants.{Events, Signals, Rules}
+use Rattle.line.specs.declared.row.Entry.{Entry}
+use Rattle.line.specs.declared.row.Entry.the-variants as E
 
 -- the line that a section begins with: its word, and the range of its count
 pub record Heading : Type 0 where
@@ -19,15 +32,41 @@ headingOf Events = record { word = "events"; least = 1; most = L.events }
 headingOf Signals = record { word = "signals"; least = 0; most = L.signals }
 headingOf Rules = record { word = "rules"; least = 0; most = L.rules }
 
-module _ (sheet : List ℕ) where
-  -- its lines
-  abbrev pub rowsOf : Section → Row
-  rowsOf Events = eventRow sheet
-  rowsOf Signals = signalRow sheet
-  rowsOf Rules = ruleRow sheet
+-- the first line of the sheet is written like one
+abbrev pub horizonHeading : Heading
+horizonHeading = record { word = "horizon"; least = 0; most = L.horizon }
 
-  -- and their tests
+abbrev pub headingTests : Heading → List (List ℕ) → Tests
+headingTests h = sectionTests (ascii (h .word)) (h .least) (h .most)
+
+-- what an entry adds, where its line begins at the given place and its first field has n bytes
+abbrev pub added : Entry → Network → ℕ → ℕ → Network
+added E.Event Γ at n = withEvent Γ at n
+added (E.Signal b u) Γ at n = withSignal Γ b u
+added (E.Rule c) Γ at n = withRule Γ c
+
+module _ (sheet : List ℕ) where
+  abbrev pub ruleOf : Network → List (List ℕ) → Constraint
+  ruleOf Γ fs = record {
+    kind = Option·getD (kindOf (field 0 fs)) Max;
+    from = Option·getD (eventOf sheet Γ (field 1 fs)) 0;
+    to = Option·getD (eventOf sheet Γ (field 2 fs)) 0;
+    bound = valueOf (field 3 fs);
+    label = maskOf (Γ .signals) (Γ .letters) (labelOf (field 4 fs));
+  }
+
+  -- the tests of a section's lines
   abbrev pub testsOf : Section → Network → List (List ℕ) → Tests
   testsOf Events = eventTests sheet
   testsOf Signals = signalTests sheet
   testsOf Rules = ruleTests sheet
+
+  -- what a line with these fields holds
+  abbrev pub entryOf : Section → Network → List (List ℕ) → Entry
+  entryOf Events Γ fs = E.Event
+  entryOf Signals Γ fs = E.Signal (getD (field 0 fs) 0 0) (Option·getD (eventOf sheet Γ (field 1 fs)) 0)
+  entryOf Rules Γ fs = E.Rule (ruleOf Γ fs)
+
+  -- the network with a line of these fields, which begins at the given place
+  abbrev pub withLine : Section → Network → ℕ → List (List ℕ) → Network
+  withLine s Γ at fs = added (entryOf s Γ fs) Γ at (length (field 0 fs))

@@ -5,13 +5,12 @@ ghost use mathlib.Core.List.{[], _∷_};
 ghost use Prim.Native.Nat.{_≤_};
 ghost use Rattle.prelude.specs.Checks.{firstFailing};
 ghost use Rattle.prelude.specs.Search.{answers};
-ghost use Rattle.text.specs.Number.{isNumber, inRange, magnitude};
-ghost use Rattle.refusal.specs.declared.Cause.the-variants as C;
+ghost use Rattle.text.specs.Number.{magnitude};
 ghost use Rattle.network.specs.Limits as L;
 ghost use Rattle.names.specs.Names.{isName, isOneLetter, isLabel, literals, lettersOf};
 ghost use Rattle.names.specs.Defined.{placeOf, allDefined};
 ghost use Rattle.names.specs.Found.{isFound};
-ghost use Rattle.line.specs.Rows.{kindOf};
+ghost use Rattle.line.specs.Tests.{countTests, kindOf};
 ghost use Rattle.line.specs.Answers.{checkOf, kindFound, limitOf, sectionAnswer, givesFound};
 use super::Check;
 use super::KindField;
@@ -89,8 +88,8 @@ pub(crate) fn limit_of(f: &[u8]) -> Limit
 // The count of a section, from lo to hi, on a line of this length.
 pub(crate) fn count_of(f: &[u8], lo: u32, hi: u32, length: usize) -> SectionRow
     requires { ⌜ hi ≤ L.horizon ⌝ }
-    ensures { λ r. ⌜ r ≡ sectionAnswer (firstFailing ((isNumber (now (f .entry)), C.IllFormedNumber) ∷
-        (inRange lo hi (now (f .entry)), C.OutOfRange) ∷ [])) (magnitude (now (f .entry))) length ⌝ }
+    ensures { λ r. ⌜ r ≡ sectionAnswer (firstFailing (countTests lo hi (now (f .entry)))) (magnitude (now (f .entry)))
+        length ⌝ }
 {
     let n = text::read_number(f, hi);
     match n {

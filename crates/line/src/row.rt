@@ -4,8 +4,8 @@ ghost use mathlib.Core.List.{[]};
 ghost use Prim.Native.Nat.{_≤_};
 ghost use Rattle.network.specs.Limits as L;
 ghost use Rattle.names.specs.Found.{NamesIn};
-ghost use Rattle.line.specs.Answers.{byFields, partsOf, endsAnswer, sectionOf, sectionAt, headingAt, rowOf};
-ghost use Rattle.line.specs.Answers.{rowAt};
+ghost use Rattle.line.specs.Sections.{headingOf};
+ghost use Rattle.line.specs.Answers.{partsOf, endsAnswer, sectionBy, sectionAt, headingAt, rowBy, rowAt};
 ghost use Rattle.line.specs.declared.Section.the-variants.{Events, Signals, Rules};
 use super::Check;
 use super::KindField;
@@ -38,7 +38,7 @@ pub enum Row {
 // A section's line: its word, and its count from lo to hi.
 fn section_fields(line: &[u8], word: &[u8], lo: u32, hi: u32) -> SectionRow
     requires { ⌜ hi ≤ L.horizon ⌝ }
-    ensures { λ r. ⌜ r ≡ sectionOf byFields (now (line .entry)) (now (word .entry)) lo hi ⌝ }
+    ensures { λ r. ⌜ r ≡ sectionBy (now (line .entry)) (now (word .entry)) lo hi ⌝ }
 {
     let cuts = text::cut(line);
     if cuts.count != 2 {
@@ -63,7 +63,7 @@ pub fn section_row(rest: &[u8], word: &[u8], lo: u32, hi: u32) -> SectionRow
 
 // The line that a section begins with.
 pub fn heading(section: Section, rest: &[u8]) -> SectionRow
-    ensures { λ r. ⌜ r ≡ headingAt (now (rest .entry)) section ⌝ }
+    ensures { λ r. ⌜ r ≡ headingAt (now (rest .entry)) (headingOf section) ⌝ }
 {
     match section {
         Section::Events => section_row(rest, b"events", 1, Network::EVENTS as u32),
@@ -81,7 +81,7 @@ fn event_fields<'a>(
     lengths: &'a [usize; Network::EVENTS],
 ) -> Row
     requires { ⌜ NamesIn (now sheet) n (now starts) (now lengths) ⌝ }
-    ensures { λ r. ⌜ r ≡ rowOf byFields (now (line .entry)) Events (now (sheet .entry))
+    ensures { λ r. ⌜ r ≡ rowBy (now (line .entry)) Events (now (sheet .entry))
         (partsOf n (now (starts .entry)) (now (lengths .entry)) 0 [] []) ⌝ }
 {
     let cuts = text::cut(line);
@@ -113,7 +113,7 @@ fn signal_fields<'a>(
     observations: &'a [usize; Network::SIGNALS],
 ) -> Row
     requires { ⌜ NamesIn (now sheet) n (now starts) (now lengths) × (k ≤ L.signals) ⌝ }
-    ensures { λ r. ⌜ r ≡ rowOf byFields (now (line .entry)) Signals (now (sheet .entry))
+    ensures { λ r. ⌜ r ≡ rowBy (now (line .entry)) Signals (now (sheet .entry))
         (partsOf n (now (starts .entry)) (now (lengths .entry)) k (now (letters .entry)) (now (observations .entry)))
         ⌝ }
 {
@@ -211,7 +211,7 @@ fn rule_fields<'a>(
     letters: &'a [u8; Network::SIGNALS],
 ) -> Row
     requires { ⌜ NamesIn (now sheet) n (now starts) (now lengths) × (k ≤ L.signals) ⌝ }
-    ensures { λ r. ⌜ r ≡ rowOf byFields (now (line .entry)) Rules (now (sheet .entry))
+    ensures { λ r. ⌜ r ≡ rowBy (now (line .entry)) Rules (now (sheet .entry))
         (partsOf n (now (starts .entry)) (now (lengths .entry)) k (now (letters .entry)) []) ⌝ }
 {
     let cuts = text::cut(line);

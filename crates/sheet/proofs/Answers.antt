@@ -1,18 +1,16 @@
 -- What the reading answers of the whole sheet: it is refused with its fault, or each line holds its tests. Behind the
 -- last rule no byte may follow, and what is longer than the limit is not read. Assumes nothing.
-use mathlib.Core.Path.{_≡_, refl}
+use mathlib.Core.Path.{_≡_, refl, ap}
 use mathlib.Core.Logic.{inl, inr}
-use mathlib.Core.Bool.{Bool, true, false}
-use mathlib.Core.List.{List}
+use mathlib.Core.Bool.{Bool, true, false, not}
+use mathlib.Core.List.{List, [], _∷_}
 use Prim.Native.Nat.{ℕ, _≤_}
 use borrow.Author.Tests.{ltb-false}
-use lib.Dec.{ltb}
 use lib.ListN.{length}
-use Rattle.prelude.specs.Checks.{Hold}
-use Rattle.refusal.specs.Refusal.{refusal}
+use Rattle.prelude.specs.Checks.{firstFailing, Hold}
 use Rattle.refusal.specs.declared.Cause.the-variants as C
 use Rattle.network.specs.declared.Network.{Network}
-use Rattle.sheet.specs.Reading.{longest, Progress, Stop, Go, andThen, readEnd, answered, read}
+use Rattle.sheet.specs.Reading.{longest, Progress, Stop, Go, stopOr, andThen, follows, readEnd, answered, read}
 use Rattle.sheet.specs.Place.{NoMore, tests}
 use Rattle.sheet.specs.Fault.{FirstFault, Fault}
 use Rattle.sheet.specs.declared.Outcome.{Outcome}
@@ -28,11 +26,10 @@ module _ (sheet : List ℕ) where
   Ends (Go Γ at k) = (j : ℕ) → Hold (tests sheet j)
 
   end-comes : (Γ : Network) (at k : ℕ) → At sheet NoMore Γ at k → Ends (readEnd sheet Γ at k)
-  end-comes Γ at k a = by-bytes (ltb at (length sheet)) refl
+  end-comes Γ at k a = by-bytes (follows sheet at) refl
     where
-      by-bytes : (b : Bool) → ltb at (length sheet) ≡ b
-          → Ends (elim b as (λ _. Progress) [ true ↦ Stop (refusal C.TrailingBytes k) | false ↦ Go Γ at k ])
-      by-bytes true e = stops sheet NoMore Γ at k a C.TrailingBytes (inl (rw e, refl))
+      by-bytes : (b : Bool) → follows sheet at ≡ b → Ends (stopOr k (firstFailing ((not b, C.TrailingBytes) ∷ [])) (Go Γ at k))
+      by-bytes true e = stops sheet NoMore Γ at k a C.TrailingBytes (inl (ap not e, refl))
       by-bytes false e =
           all-hold sheet (a .above)
           (rw (a .is) (record { over = refl; end = ltb-false at (length sheet) e })) (a .pass)

@@ -1,48 +1,29 @@
 -- The reading comes as far as each line holds its tests, and stops at the first of which one fails: a line, the lines
 -- of a section, and the sections one behind the other. Assumes nothing.
-use mathlib.Core.Path.{_≡_, refl, sym, ap}
+use mathlib.Core.Path.{_≡_, refl, ap}
 use mathlib.Core.Logic.{inl, inr}
-use mathlib.Core.Bool.{Bool, true, false}
 use mathlib.Core.Option.{Option, none, some}
-use mathlib.Core.List.{List, _∷_}
+use mathlib.Core.List.{List}
 use Prim.Native.Nat.{ℕ, zero, suc, _<_}
-use Prim.Native.String.{String}
 use native.Mathlib.Omega.{arith}
 use Rattle.prelude.specs.Checks.{firstFailing, Hold, FirstFails}
 use Rattle.prelude.proofs.Checks.{hold, first-fails}
 use Rattle.prelude.proofs.Tests.{lt-or-ge}
-use Rattle.text.specs.Lines.{lineAt, endsAt, afterLine, fields}
+use Rattle.text.specs.Lines.{lineAt, afterLine, fields}
 use Rattle.refusal.specs.Refusal.{refusal}
 use Rattle.refusal.specs.declared.Cause.{Cause}
-use Rattle.refusal.specs.declared.Cause.the-variants as C
-use Rattle.network.specs.Limits as L
 use Rattle.network.specs.Build.{empty}
 use Rattle.network.specs.declared.Network.{Network}
-use Rattle.line.specs.Rows.{Tests, sectionTests, sectionRefusal, sectionCount, eventRefusal, signalRefusal, ruleRefusal}
-use Rattle.line.specs.Sections.{headingOf, rowsOf, testsOf}
+use Rattle.line.specs.Tests.{Tests, sectionCount}
+use Rattle.line.specs.Sections.{withLine}
 use Rattle.line.specs.declared.Section.{Section}
 use Rattle.line.specs.declared.Section.the-variants.{Events, Signals, Rules}
-use Rattle.sheet.specs.Reading.{Progress, Stop, Go, andThen, readRows, readHorizon, readEvents, readSignals}
-use Rattle.sheet.specs.Reading.{readRules}
-use Rattle.sheet.specs.Sections.{readOf}
+use Rattle.sheet.specs.Reading.{Progress, Stop, Go, stopOr, andThen, readRows, readSection, readHorizon, follows}
 use Rattle.sheet.specs.Place.{Due, Horizon, Heading, Entry, NoMore, behind, entries, Place, testsAt, dueAfter}
 use Rattle.sheet.specs.Place.{definedAfter}
-use Rattle.sheet.specs.Place.{follows, next, place, tests}
+use Rattle.sheet.specs.Place.{next, place, tests}
 use Rattle.sheet.specs.Fault.{FirstFault}
 use Rattle.sheet.proofs.Whole.{toEvents, toSignals, toRules}
-
--- the refusal of a line is its first test to fail
-section-refusal : (word : String) (lo hi : ℕ) (fs : List (List ℕ))
-    → sectionRefusal word lo hi fs ≡ firstFailing (sectionTests word lo hi fs)
-unfolding sectionRefusal
-section-refusal word lo hi fs = refl
-
-row-refusal : (sheet : List ℕ) (s : Section) (Γ : Network) (fs : List (List ℕ))
-    → rowsOf sheet s .refusal Γ fs ≡ firstFailing (testsOf sheet s Γ fs)
-unfolding eventRefusal signalRefusal ruleRefusal
-row-refusal sheet Events Γ fs = refl
-row-refusal sheet Signals Γ fs = refl
-row-refusal sheet Rules Γ fs = refl
 
 module _ (sheet : List ℕ) where
   -- line k begins at this place, and the lines above it pass
@@ -86,42 +67,35 @@ module _ (sheet : List ℕ) where
       pass = holds h;
     }
 
-  -- a line by its two tests
-  by-line : (d : ℕ → Due) (k : ℕ) (b : Bool) (o : Option Cause) (ts : Tests) (p : Progress) → o ≡ firstFailing ts
-      → ((c : Cause) → FirstFails ((b, C.MissingLine) ∷ ts) c → FirstFault sheet (refusal c k))
-      → (Hold ((b, C.MissingLine) ∷ ts) → Comes d p)
-      → Comes d (elim b as (λ _. Progress) [
-        | false ↦ Stop (refusal C.MissingLine k)
-        | true ↦ elim o as (λ _. Progress) [ some c ↦ Stop (refusal c k) | none ↦ p ]
-      ])
-  by-line d k false o ts p e stop go = stop C.MissingLine (inl (refl, refl))
-  by-line d k true none ts p e stop go = go (refl, hold ts (sym e))
-  by-line d k true (some c) ts p e stop go = stop c (inr (refl, first-fails ts c (sym e)))
+  -- a line by its tests
+  by-line : (d : ℕ → Due) (k : ℕ) (ts : Tests) (p : Progress)
+      → ((c : Cause) → FirstFails ts c → FirstFault sheet (refusal c k)) → (Hold ts → Comes d p)
+      → Comes d (stopOr k (firstFailing ts) p)
+  by-line d k ts p stop go = by-refusal (firstFailing ts) refl
+    where
+      by-refusal : (o : Option Cause) → firstFailing ts ≡ o → Comes d (stopOr k o p)
+      by-refusal none e = go (hold ts e)
+      by-refusal (some c) e = stop c (first-fails ts c e)
 
   rows-come : (s : Section) (m : ℕ) (Γ : Network) (at k : ℕ) → At (entries s (follows sheet at) m) Γ at k
-      → Comes (next-of s) (readRows sheet (rowsOf sheet s) m Γ at k)
+      → Comes (next-of s) (readRows sheet s m Γ at k)
   rows-come s zero Γ at k a = a
   rows-come s (suc m) Γ at k a =
-      let fs = fields (lineAt sheet at) in
-      by-line (next-of s) k (endsAt sheet at) (rowsOf sheet s .refusal Γ fs) (testsOf sheet s Γ fs) _
-      (row-refusal sheet s Γ fs)
+      by-line (next-of s) k (testsAt sheet (Entry s m) Γ at) _
       (stops (Entry s m) Γ at k a)
-      (λ h. rows-come s m (rowsOf sheet s .add Γ at fs) (afterLine sheet at) (suc k) (goes-on (Entry s m) Γ at k a h))
+      (λ h. rows-come s m (withLine sheet s Γ at (fields (lineAt sheet at))) (afterLine sheet at) (suc k)
+      (goes-on (Entry s m) Γ at k a h))
 
   section-comes : (s : Section) (Γ : Network) (at k : ℕ) → At (Heading s) Γ at k
-      → Comes (next-of s) (readOf sheet s Γ at k)
+      → Comes (next-of s) (readSection sheet s Γ at k)
   section-comes s Γ at k a =
-      let fs = fields (lineAt sheet at) in
-      let head = headingOf s in
-      by-line (next-of s) k (endsAt sheet at) (sectionRefusal (head .word) (head .least) (head .most) fs)
-      (sectionTests (head .word) (head .least) (head .most) fs) _
-      (section-refusal (head .word) (head .least) (head .most) fs)
+      by-line (next-of s) k (testsAt sheet (Heading s) Γ at) _
       (stops (Heading s) Γ at k a)
-      (λ h. rows-come s (sectionCount fs) Γ (afterLine sheet at) (suc k) (goes-on (Heading s) Γ at k a h))
+      (λ h. rows-come s (sectionCount (fields (lineAt sheet at))) Γ (afterLine sheet at) (suc k)
+      (goes-on (Heading s) Γ at k a h))
 
   horizon-comes : Comes (λ at. Heading Events) (readHorizon sheet)
   horizon-comes =
-      let fs = fields (lineAt sheet 0) in
       let a : At Horizon (empty 0) 0 1 = record {
         above = 0;
         number = refl;
@@ -129,9 +103,7 @@ module _ (sheet : List ℕ) where
         pass = λ j l. absurd
             (omega arith);
       } in
-      by-line (λ at. Heading Events) 1 (endsAt sheet 0) (sectionRefusal "horizon" 0 L.horizon fs)
-      (sectionTests "horizon" 0 L.horizon fs) _
-      (section-refusal "horizon" 0 L.horizon fs)
+      by-line (λ at. Heading Events) 1 (testsAt sheet Horizon (empty 0) 0) _
       (stops Horizon (empty 0) 0 1 a)
       (goes-on Horizon (empty 0) 0 1 a)
 
@@ -142,9 +114,9 @@ module _ (sheet : List ℕ) where
 
   pub sections-come : Comes (λ at. NoMore) (toRules sheet)
   sections-come =
-      then-comes (λ at. Heading Rules) (λ at. NoMore) (toSignals sheet) (readRules sheet)
-      (then-comes (λ at. Heading Signals) (λ at. Heading Rules) (toEvents sheet) (readSignals sheet)
-      (then-comes (λ at. Heading Events) (λ at. Heading Signals) (readHorizon sheet) (readEvents sheet) horizon-comes
+      then-comes (λ at. Heading Rules) (λ at. NoMore) (toSignals sheet) (readSection sheet Rules)
+      (then-comes (λ at. Heading Signals) (λ at. Heading Rules) (toEvents sheet) (readSection sheet Signals)
+      (then-comes (λ at. Heading Events) (λ at. Heading Signals) (readHorizon sheet) (readSection sheet Events) horizon-comes
       (section-comes Events))
       (section-comes Signals))
       (section-comes Rules)

@@ -11,7 +11,7 @@ use Rattle.prelude.specs.Bytes.{ascii}
 use Rattle.text.specs.Lines.{lineFeed}
 use Rattle.text.specs.Number.{isNumber, inRange}
 use Rattle.refusal.specs.Refusal.{numberOf}
-use Rattle.line.specs.Rows.{sectionRefusal, eventRefusal, signalRefusal, ruleRefusal}
+use Rattle.line.specs.Tests.{sectionTests, eventTests, signalTests, endsTests, ruleTests}
 use Rattle.sheet.specs.Reading.{Progress, Stop, Go, progress}
 
 -- lines of text, each with its line feed
@@ -132,5 +132,5 @@ allEnd [] = true
 allEnd (x ∷ xs) = ends (progress (x .sheet)) (x .number) (x .line) && allEnd xs
 
 pub examples-end : allEnd examples ≡ true
-unfolding isNumber inRange sectionRefusal eventRefusal signalRefusal ruleRefusal progress
+unfolding isNumber inRange sectionTests eventTests signalTests endsTests ruleTests progress
 examples-end = refl

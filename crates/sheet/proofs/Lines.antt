@@ -13,9 +13,8 @@ use Rattle.network.specs.Limits as L
 use Rattle.network.specs.Build.{withEvent}
 use Rattle.network.specs.declared.Network.{Network}
 use Rattle.names.specs.Found.{NamesIn}
-use Rattle.line.specs.Rows.{eventTests, eventRefusal}
-use Rattle.line.specs.Sections.{rowsOf}
-use Rattle.line.specs.Answers.{entryOf, added}
+use Rattle.line.specs.Tests.{eventTests}
+use Rattle.line.specs.Sections.{testsOf, entryOf, added, withLine}
 use Rattle.line.specs.declared.Section.{Section}
 use Rattle.line.specs.declared.Section.the-variants.{Events, Signals, Rules}
 use Rattle.line.specs.declared.row.Entry.{Entry}
@@ -44,15 +43,15 @@ module _ (sheet : List ℕ) (Γ : Network) (at k : ℕ) where
   abbrev fs : List (List ℕ)
   fs = fields (lineAt sheet at)
 
-  room-of : (s : Section) {left : ℕ} → Before sheet s left Γ at k → 0 < left → Room (entryOf sheet Γ s fs) Γ
+  room-of : (s : Section) {left : ℕ} → Before sheet s left Γ at k → 0 < left → Room (entryOf sheet s Γ fs) Γ
   room-of Events g h = omega (arith, g .events)
   room-of Signals g h = omega (arith, g .signals)
   room-of Rules g h = omega (arith, g .rules)
 
   -- what a line that passes adds is what it holds
-  adds : (s : Section) → Passes sheet at k (rowsOf sheet s .refusal Γ)
-      → rowsOf sheet s .add Γ at fs ≡ added (entryOf sheet Γ s fs) Γ at (length (lineAt sheet at))
-  unfolding eventRefusal
+  adds : (s : Section) → Passes sheet at k (testsOf sheet s Γ)
+      → withLine sheet s Γ at fs ≡ added (entryOf sheet s Γ fs) Γ at (length (lineAt sheet at))
+  unfolding eventTests
   adds Events p =
       let one = eqb-true (length fs) 1 (all-hold (eventTests sheet Γ fs) (p .accepted) 0) in
       ap (λ (f : List ℕ). withEvent Γ at (length f)) (only-field (lineAt sheet at) one)
@@ -64,7 +63,7 @@ module _ {sheet : List ℕ} {s : Section} {p : Progress} {left : ℕ} {Γ : Netw
   pub row-stop : (c : Cause) → answerAt sheet s Γ at ≡ R.Refused c → Stop (refusal c k) ≡ p
   row-stop c e =
       reads-stop left Γ at k c here some
-      (row-answer-refused (refusalAt sheet at k (rowsOf sheet s .refusal Γ)) (entryOf sheet Γ s (fields (lineAt sheet at)))
+      (row-answer-refused (refusalAt sheet at k (testsOf sheet s Γ)) (entryOf sheet s Γ (fields (lineAt sheet at)))
       (length (lineAt sheet at)) c (sym (row-at sheet s Γ at) ∙ e))
 
   pub record RowTurn (x : Entry) (n : ℕ) : Type 0 where
@@ -74,9 +73,9 @@ module _ {sheet : List ℕ} {s : Section} {p : Progress} {left : ℕ} {Γ : Netw
 
   pub row-turn : (x : Entry) (n : ℕ) → answerAt sheet s Γ at ≡ R.Holds x n → RowTurn x n
   row-turn x n e =
-      let w = row-answer (refusalAt sheet at k (rowsOf sheet s .refusal Γ)) (entryOf sheet Γ s (fields (lineAt sheet at)))
+      let w = row-answer (refusalAt sheet at k (testsOf sheet s Γ)) (entryOf sheet s Γ (fields (lineAt sheet at)))
       (length (lineAt sheet at)) x n (sym (row-at sheet s Γ at) ∙ e) in
-      let pass = passes sheet at k (rowsOf sheet s .refusal Γ) (w .0) in
+      let pass = passes sheet at k (testsOf sheet s Γ) (w .0) in
       let entry = w .1 in
       let size = w .2 in
       record {

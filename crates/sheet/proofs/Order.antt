@@ -10,7 +10,7 @@ use Rattle.prelude.proofs.Tests.{clash}
 use Rattle.refusal.specs.Refusal.{numberOf}
 use Rattle.refusal.specs.declared.Cause.{Cause}
 use Rattle.network.specs.declared.Network.{Network}
-use Rattle.line.specs.Rows.{Tests}
+use Rattle.line.specs.Tests.{Tests, sectionTests, eventTests, signalTests, endsTests, ruleTests}
 use Rattle.line.specs.declared.Section.the-variants.{Events, Signals, Rules}
 use Rattle.sheet.specs.Place.{Due, Horizon, Heading, Entry, NoMore, testsAt, place, tests}
 use Rattle.sheet.specs.Fault.{Fails}
@@ -49,6 +49,7 @@ first-fails-lowest lo hi (t ∷ ts) c d o (inr f) (inr g) = first-fails-lowest (
 
 module _ (sheet : List ℕ) where
   due-in-order : (d : Due) (Γ : Network) (at : ℕ) → InOrder 1 10 (testsAt sheet d Γ at)
+  unfolding sectionTests eventTests signalTests endsTests ruleTests
   due-in-order Horizon Γ at = (omega arith, (omega arith, (omega arith, (omega arith, omega arith))))
   due-in-order (Heading s) Γ at = (omega arith, (omega arith, (omega arith, (omega arith, omega arith))))
   due-in-order (Entry Events m) Γ at = (omega arith, (omega arith, (omega arith, (omega arith, omega arith))))

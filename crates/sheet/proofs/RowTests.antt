@@ -5,10 +5,10 @@ use mathlib.Core.Bool.{Bool, true, false, _&&_, _||_, not}
 use mathlib.Core.Option.{none, some}
 use mathlib.Core.List.{List}
 use Prim.Native.Nat.{ℕ, _≤_, _<_}
-use Prim.Native.String.{String}
 use borrow.Author.Tests.{leb-true, not-true}
 use lib.Dec.{eqb, leb}
 use lib.ListN.{getD, take, drop}
+use Rattle.prelude.specs.Checks.{firstFailing}
 use Rattle.prelude.specs.Search.{answers}
 use Rattle.prelude.specs.Bytes.{same}
 use Rattle.prelude.proofs.Tests.{and-true, or-false}
@@ -18,19 +18,22 @@ use Rattle.network.specs.Build.{observation}
 use Rattle.network.specs.declared.Network.{Network}
 use Rattle.names.specs.Defined.{placeOf}
 use Rattle.names.proofs.Finds.{finds-nothing}
-use Rattle.line.specs.Rows.{sectionTests, sectionRefusal, sectionCount, eventOf, isObservation}
+use Rattle.line.specs.Tests.{sectionTests, sectionCount, eventOf, isObservation}
+use Rattle.line.specs.Sections.{Heading, headingTests}
 use Rattle.line.proofs.Checks.{all-hold}
 
 -- a count that passed is in its range
-pub record Counted (lo hi : ℕ) (fs : List (List ℕ)) : Type 0 where
-  pub least : lo ≤ sectionCount fs
-  pub most : sectionCount fs ≤ hi
+pub record Counted (h : Heading) (fs : List (List ℕ)) : Type 0 where
+  pub least : h .least ≤ sectionCount fs
+  pub most : sectionCount fs ≤ h .most
 
-pub counted : (word : String) (lo hi : ℕ) (fs : List (List ℕ)) → sectionRefusal word lo hi fs ≡ none → Counted lo hi fs
-unfolding sectionRefusal inRange
-counted word lo hi fs e =
+pub counted : (h : Heading) (fs : List (List ℕ)) → firstFailing (headingTests h fs) ≡ none → Counted h fs
+unfolding sectionTests inRange
+counted h fs e =
     let f = field 1 fs in
-    let in-range = all-hold (sectionTests word lo hi fs) e 2 in
+    let lo = h .least in
+    let hi = h .most in
+    let in-range = all-hold (headingTests h fs) e 2 in
     let within = and-true (not (isNegative f)) (leb lo (magnitude f) && leb (magnitude f) hi) in-range in
     let ends = and-true (leb lo (magnitude f)) (leb (magnitude f) hi) (within .1) in
     record { least = leb-true lo (magnitude f) (ends .0); most = leb-true (magnitude f) hi (ends .1) }

@@ -19,7 +19,8 @@ use Rattle.names.specs.Names.{labelOf, lettersOf}
 use Rattle.names.specs.Defined.{allDefined}
 use Rattle.names.proofs.Finds.{finds-answer}
 use Rattle.names.proofs.Labels.{sum-is}
-use Rattle.line.specs.Rows.{eventOf, ruleTests, ruleRefusal, ruleOf, ruleRow}
+use Rattle.line.specs.Tests.{eventOf, endsTests, ruleTests}
+use Rattle.line.specs.Sections.{ruleOf, withLine}
 use Rattle.line.specs.declared.Section.the-variants.{Rules}
 use Rattle.line.proofs.Checks.{all-hold}
 use Rattle.sheet.proofs.Places.{line-inside}
@@ -39,9 +40,9 @@ limits-of f h =
 
 module _ (sheet : List ℕ) {m : ℕ} {Γ : Network} {at k : ℕ} where
   -- a rule
-  pub stage-rule : Stage sheet (toCome Rules (suc m)) Γ at k → Passes sheet at k (ruleRefusal sheet Γ)
-      → Stage sheet (toCome Rules m) (ruleRow sheet .add Γ at (fields (lineAt sheet at))) (afterLine sheet at) (suc k)
-  unfolding ruleRefusal
+  pub stage-rule : Stage sheet (toCome Rules (suc m)) Γ at k → Passes sheet at k (ruleTests sheet Γ)
+      → Stage sheet (toCome Rules m) (withLine sheet Rules Γ at (fields (lineAt sheet at))) (afterLine sheet at) (suc k)
+  unfolding endsTests ruleTests
   stage-rule g p =
       let fs = fields (lineAt sheet at) in
       let holds = all-hold (ruleTests sheet Γ fs) (p .accepted) in

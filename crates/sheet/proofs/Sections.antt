@@ -4,11 +4,9 @@ use mathlib.Core.Bool.{true}
 use mathlib.Core.Option.{Option, none, some}
 use mathlib.Core.List.{List}
 use Prim.Native.Nat.{ℕ, suc, _+_, _≤_, _<_}
-use Prim.Native.String.{String}
 use native.Mathlib.Numerals.{add-one}
 use native.Mathlib.Omega.{arith}
 use lib.ListN.{length, drop}
-use Rattle.prelude.specs.Bytes.{ascii}
 use Rattle.prelude.proofs.Tests.{zero-is-one}
 use Rattle.text.specs.Lines.{fields, lineAt, endsAt, afterLine}
 use Rattle.refusal.specs.Refusal.{refusal}
@@ -17,15 +15,15 @@ use Rattle.refusal.specs.declared.Cause.the-variants as C
 use Rattle.network.specs.Limits as L
 use Rattle.network.specs.Build.{empty}
 use Rattle.network.specs.declared.Network.{Network}
-use Rattle.line.specs.Rows.{sectionRefusal, sectionCount}
-use Rattle.line.specs.Sections.{Heading, headingOf, rowsOf}
-use Rattle.line.specs.Answers.{wordRefusal, sectionAnswer, sectionAt, headingAt}
+use Rattle.line.specs.Tests.{sectionCount}
+use Rattle.line.specs.Sections.{Heading, headingOf, horizonHeading, headingTests}
+use Rattle.line.specs.Answers.{sectionAnswer, headingAt}
 use Rattle.line.specs.declared.Section.{Section}
+use Rattle.line.specs.declared.Section.the-variants.{Events, Signals, Rules}
 use Rattle.line.specs.declared.SectionRow.the-variants as S
 use Rattle.sheet.proofs.Places.{line-inside}
-use Rattle.sheet.specs.Reading.{Progress, Stop, Go, andThen, readLine, readRows, readHorizon}
-use Rattle.sheet.specs.Reading.{readEvents, readSignals, readRules, readEnd, longest, answered, read}
-use Rattle.sheet.specs.Sections.{readOf}
+use Rattle.sheet.specs.Reading.{Progress, Stop, Go, andThen, readLine, readRows, readSection, readHorizon}
+use Rattle.sheet.specs.Reading.{readEnd, longest, answered, read}
 use Rattle.sheet.specs.Stage.{toCome, whole, Stage}
 use Rattle.sheet.proofs.Rows.{refusalAt, passes, readLine-stop, readLine-on}
 use Rattle.sheet.proofs.Whole.{too-long, in-length}
@@ -41,37 +39,36 @@ section-answer none m n a b e = (refl, cc, cc)
 section-answer (some d) m n a b e = zero-is-one cc
 
 -- the line at a place of the sheet, whose remaining part is given
-module _ (sheet : List ℕ) (at k : ℕ) (word : String) (lo hi : ℕ) (rest : List ℕ) (is : rest ≡ drop at sheet) where
-  section-at : sectionAt rest (ascii word) lo hi
-      ≡ sectionAnswer (refusalAt sheet at k (sectionRefusal word lo hi)) (sectionCount (fields (lineAt sheet at)))
+module _ (sheet : List ℕ) (at k : ℕ) (h : Heading) (rest : List ℕ) (is : rest ≡ drop at sheet) where
+  section-at : headingAt rest h
+      ≡ sectionAnswer (refusalAt sheet at k (headingTests h)) (sectionCount (fields (lineAt sheet at)))
       (length (lineAt sheet at))
-  unfolding sectionRefusal wordRefusal
-  section-at = ap (λ (l : List ℕ). sectionAt l (ascii word) lo hi) is
+  section-at = ap (λ (l : List ℕ). headingAt l h) is
 
   module _ (next : List (List ℕ) → Progress) where
-    pub section-stop : (c : Cause) → sectionAt rest (ascii word) lo hi ≡ S.Refused c
-        → Stop (refusal c k) ≡ readLine sheet at k (sectionRefusal word lo hi) next
+    pub section-stop : (c : Cause) → headingAt rest h ≡ S.Refused c
+        → Stop (refusal c k) ≡ readLine sheet at k (headingTests h) next
     section-stop c e =
-        sym (readLine-stop sheet at k (sectionRefusal word lo hi) next c
-        (section-answer-refused (refusalAt sheet at k (sectionRefusal word lo hi)) (sectionCount (fields (lineAt sheet at)))
+        sym (readLine-stop sheet at k (headingTests h) next c
+        (section-answer-refused (refusalAt sheet at k (headingTests h)) (sectionCount (fields (lineAt sheet at)))
         (length (lineAt sheet at)) c (sym section-at ∙ e)))
 
     -- the line passes, with count m and of length n
     pub record SectionRead (m n : ℕ) : Type 0 where
       pub ends : endsAt sheet at ≡ true
-      pub least : lo ≤ m
-      pub most : m ≤ hi
+      pub least : h .least ≤ m
+      pub most : m ≤ h .most
       pub inside : at + n + 1 ≤ length sheet
       pub count : sectionCount (fields (lineAt sheet at)) ≡ m
       pub after : afterLine sheet at ≡ at + n + 1
-      pub goes-on : readLine sheet at k (sectionRefusal word lo hi) next ≡ next (fields (lineAt sheet at))
+      pub goes-on : readLine sheet at k (headingTests h) next ≡ next (fields (lineAt sheet at))
 
-    pub section-read : (m n : ℕ) → sectionAt rest (ascii word) lo hi ≡ S.Count m n → SectionRead m n
+    pub section-read : (m n : ℕ) → headingAt rest h ≡ S.Count m n → SectionRead m n
     section-read m n e =
-        let w = section-answer (refusalAt sheet at k (sectionRefusal word lo hi)) (sectionCount (fields (lineAt sheet at)))
+        let w = section-answer (refusalAt sheet at k (headingTests h)) (sectionCount (fields (lineAt sheet at)))
         (length (lineAt sheet at)) m n (sym section-at ∙ e) in
-        let pass = passes sheet at k (sectionRefusal word lo hi) (w .0) in
-        let c = counted word lo hi (fields (lineAt sheet at)) (pass .accepted) in
+        let pass = passes sheet at k (headingTests h) (w .0) in
+        let c = counted h (fields (lineAt sheet at)) (pass .accepted) in
         let count = w .1 in
         let size = w .2 in
         let after : afterLine sheet at ≡ at + n + 1 = omega arith in
@@ -82,29 +79,26 @@ module _ (sheet : List ℕ) (at k : ℕ) (word : String) (lo hi : ℕ) (rest : L
           inside = omega (arith, line-inside sheet at (pass .ends));
           count = count;
           after = after;
-          goes-on = readLine-on sheet at k (sectionRefusal word lo hi) next (w .0);
+          goes-on = readLine-on sheet at k (headingTests h) next (w .0);
         }
 
 -- a section, from its line on
 module _ (sheet : List ℕ) (s : Section) (at k : ℕ) (rest : List ℕ) (is : rest ≡ drop at sheet) (Γ : Network) where
-  abbrev head : Heading
-  head = headingOf s
-
   abbrev lines : List (List ℕ) → Progress
-  lines fs = readRows sheet (rowsOf sheet s) (sectionCount fs) Γ (afterLine sheet at) (suc k)
+  lines fs = readRows sheet s (sectionCount fs) Γ (afterLine sheet at) (suc k)
 
-  pub section-stops : (c : Cause) → headingAt rest s ≡ S.Refused c → Stop (refusal c k) ≡ readOf sheet s Γ at k
-  section-stops c e = section-stop sheet at k (head .word) (head .least) (head .most) rest is lines c e
+  pub section-stops : (c : Cause) → headingAt rest (headingOf s) ≡ S.Refused c → Stop (refusal c k) ≡ readSection sheet s Γ at k
+  section-stops c e = section-stop sheet at k (headingOf s) rest is lines c e
 
   -- its line passes, with count m and of length n, and then m lines are read
   pub record SectionGoes (m n : ℕ) : Type 0 where
     pub inside : at + n + 1 ≤ length sheet
-    pub goes : readRows sheet (rowsOf sheet s) m Γ (at + n + 1) (k + 1) ≡ readOf sheet s Γ at k
+    pub goes : readRows sheet s m Γ (at + n + 1) (k + 1) ≡ readSection sheet s Γ at k
     pub stage : Stage sheet (whole s) Γ at k → Stage sheet (toCome s m) Γ (at + n + 1) (k + 1)
 
-  pub section-goes : (m n : ℕ) → headingAt rest s ≡ S.Count m n → SectionGoes m n
+  pub section-goes : (m n : ℕ) → headingAt rest (headingOf s) ≡ S.Count m n → SectionGoes m n
   section-goes m n e =
-      let w = section-read sheet at k (head .word) (head .least) (head .most) rest is lines m n e in
+      let w = section-read sheet at k (headingOf s) rest is lines m n e in
       let count = w .count in
       let after = w .after in
       record {
@@ -115,20 +109,20 @@ module _ (sheet : List ℕ) (s : Section) (at k : ℕ) (rest : List ℕ) (is : r
 
 -- the first line
 module _ (sheet : List ℕ) where
-  pub horizon-stops : (c : Cause) → sectionAt sheet (ascii "horizon") 0 L.horizon ≡ S.Refused c
+  pub horizon-stops : (c : Cause) → headingAt sheet horizonHeading ≡ S.Refused c
       → Stop (refusal c 1) ≡ readHorizon sheet
   horizon-stops c e =
-      section-stop sheet 0 1 "horizon" 0 L.horizon sheet refl (λ fs. Go (empty (sectionCount fs)) (afterLine sheet 0) 2) c e
+      section-stop sheet 0 1 horizonHeading sheet refl (λ fs. Go (empty (sectionCount fs)) (afterLine sheet 0) 2) c e
 
   pub record HorizonGoes (m n : ℕ) : Type 0 where
     pub most : m ≤ L.horizon
     pub inside : n + 1 ≤ length sheet
     pub goes : Go (empty m) (n + 1) 2 ≡ readHorizon sheet
 
-  pub horizon-goes : (m n : ℕ) → sectionAt sheet (ascii "horizon") 0 L.horizon ≡ S.Count m n
+  pub horizon-goes : (m n : ℕ) → headingAt sheet horizonHeading ≡ S.Count m n
       → HorizonGoes m n
   horizon-goes m n e =
-      let w = section-read sheet 0 1 "horizon" 0 L.horizon sheet refl (λ fs. Go (empty (sectionCount fs)) (afterLine sheet 0) 2) m n e in
+      let w = section-read sheet 0 1 horizonHeading sheet refl (λ fs. Go (empty (sectionCount fs)) (afterLine sheet 0) 2) m n e in
       let count = w .count in
       let after : n + 1 ≡ afterLine sheet 0 = omega (arith, w .after) in
       record {
@@ -143,6 +137,6 @@ module _ (sheet : List ℕ) where
   pub read-too-long : longest < length sheet → answered (Stop (refusal C.TooLong 0)) ≡ read sheet
   read-too-long h = ap answered (sym (too-long sheet h))
 
-  pub read-whole : (a b c d : Progress) → length sheet ≤ longest → a ≡ readHorizon sheet → b ≡ andThen a (readEvents sheet)
-      → c ≡ andThen b (readSignals sheet) → d ≡ andThen c (readRules sheet) → answered (andThen d (readEnd sheet)) ≡ read sheet
+  pub read-whole : (a b c d : Progress) → length sheet ≤ longest → a ≡ readHorizon sheet → b ≡ andThen a (readSection sheet Events)
+      → c ≡ andThen b (readSection sheet Signals) → d ≡ andThen c (readSection sheet Rules) → answered (andThen d (readEnd sheet)) ≡ read sheet
   read-whole a b c d h i j k l = rw (in-length sheet h, l, k, j, i)

@@ -16,7 +16,8 @@ use Rattle.text.specs.Lines.{lineAt, afterLine, fields, field}
 use Rattle.network.specs.Build.{observation}
 use Rattle.network.specs.declared.Network.{Network}
 use Rattle.names.proofs.Finds.{finds-answer}
-use Rattle.line.specs.Rows.{eventOf, signalTests, signalRefusal, signalRow}
+use Rattle.line.specs.Tests.{eventOf, signalTests}
+use Rattle.line.specs.Sections.{withLine}
 use Rattle.line.specs.declared.Section.the-variants.{Signals}
 use Rattle.line.proofs.Checks.{all-hold}
 use Rattle.sheet.proofs.Places.{line-inside}
@@ -27,9 +28,9 @@ use Rattle.sheet.proofs.Arrays.{arrays-signal}
 
 module _ (sheet : List ℕ) {m : ℕ} {Γ : Network} {at k : ℕ} where
   -- a signal
-  pub stage-signal : Stage sheet (toCome Signals (suc m)) Γ at k → Passes sheet at k (signalRefusal sheet Γ)
-      → Stage sheet (toCome Signals m) (signalRow sheet .add Γ at (fields (lineAt sheet at))) (afterLine sheet at) (suc k)
-  unfolding signalRefusal
+  pub stage-signal : Stage sheet (toCome Signals (suc m)) Γ at k → Passes sheet at k (signalTests sheet Γ)
+      → Stage sheet (toCome Signals m) (withLine sheet Signals Γ at (fields (lineAt sheet at))) (afterLine sheet at) (suc k)
+  unfolding signalTests
   stage-signal g p =
       let fs = fields (lineAt sheet at) in
       let holds = all-hold (signalTests sheet Γ fs) (p .accepted) in

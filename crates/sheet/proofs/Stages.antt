@@ -13,7 +13,7 @@ use Rattle.text.specs.Lines.{lineAt, endsAt, afterLine, fields, field}
 use Rattle.network.specs.Build.{withEvent}
 use Rattle.network.specs.declared.Network.{Network}
 use Rattle.names.specs.Names.{isName}
-use Rattle.line.specs.Rows.{eventTests, eventRefusal}
+use Rattle.line.specs.Tests.{eventTests}
 use Rattle.line.specs.Sections.{headingOf}
 use Rattle.line.specs.declared.Section.{Section}
 use Rattle.line.specs.declared.Section.the-variants.{Events, Signals, Rules}
@@ -58,9 +58,9 @@ module _ (sheet : List ℕ) {Γ : Network} {at k : ℕ} where
       by-section Rules lo hi g = stage-on (omega arith) (omega arith) hi (g .some-event) (line-inside sheet at p) on g
 
   -- an event
-  pub stage-event : {m : ℕ} → Stage sheet (toCome Events (suc m)) Γ at k → Passes sheet at k (eventRefusal sheet Γ)
+  pub stage-event : {m : ℕ} → Stage sheet (toCome Events (suc m)) Γ at k → Passes sheet at k (eventTests sheet Γ)
       → Stage sheet (toCome Events m) (withEvent Γ at (length (field 0 (fields (lineAt sheet at))))) (afterLine sheet at) (suc k)
-  unfolding eventRefusal
+  unfolding eventTests
   stage-event g p =
       let f = field 0 (fields (lineAt sheet at)) in
       let fits : isName f ≡ true = all-hold (eventTests sheet Γ (fields (lineAt sheet at))) (p .accepted) 1 in

@@ -1,28 +1,27 @@
 -- A sheet that was read gives a well-formed network: each line keeps the stage (Stages), the lines of a section are
 -- read one by one (Rows), and the sections one behind the other. Assumes nothing.
 use mathlib.Core.Path.{_≡_, refl, sym, _∙_}
-use mathlib.Core.Bool.{Bool, true, false}
+use mathlib.Core.Option.{Option, none, some}
 use mathlib.Core.List.{List}
 use Prim.Native.Nat.{ℕ, suc, _≤_}
 use native.Mathlib.Omega.{arith}
-use lib.Dec.{ltb}
 use lib.ListN.{length}
+use Rattle.prelude.specs.Checks.{firstFailing}
 use Rattle.prelude.proofs.Tests.{zero-is-one}
 use Rattle.text.specs.Lines.{lineAt, afterLine, fields}
 use Rattle.refusal.specs.Refusal.{refusal}
-use Rattle.refusal.specs.declared.Cause.the-variants as C
+use Rattle.refusal.specs.declared.Cause.{Cause}
 use Rattle.network.specs.Limits as L
 use Rattle.network.specs.Build.{empty}
 use Rattle.network.specs.WellFormed.{WellFormed, Named}
 use Rattle.network.specs.declared.Network.{Network}
-use Rattle.line.specs.Rows.{sectionRefusal, sectionCount}
-use Rattle.line.specs.Sections.{headingOf, rowsOf}
+use Rattle.line.specs.Tests.{sectionCount}
+use Rattle.line.specs.Sections.{headingOf, horizonHeading, headingTests}
 use Rattle.line.specs.declared.Section.{Section}
 use Rattle.line.specs.declared.Section.the-variants.{Events, Signals, Rules}
 use Rattle.sheet.proofs.Places.{line-inside}
-use Rattle.sheet.specs.Reading.{Progress, Stop, Go, andThen, readRows, readHorizon}
-use Rattle.sheet.specs.Reading.{readEnd, progress, read, answered}
-use Rattle.sheet.specs.Sections.{readOf}
+use Rattle.sheet.specs.Reading.{Progress, Stop, Go, stopOr, andThen, readRows, readSection, readHorizon}
+use Rattle.sheet.specs.Reading.{endTests, readEnd, progress, read, answered}
 use Rattle.sheet.specs.Stage.{toCome, whole, Stage}
 use Rattle.sheet.specs.Reached.{Ready}
 use Rattle.sheet.specs.declared.Outcome.the-variants.{Accepted}
@@ -53,10 +52,10 @@ module _ (sheet : List ℕ) where
   -- the sheet is ready for the events behind the horizon, and behind each section for the next
   pub horizon-ready : (p : Progress) → p ≡ readHorizon sheet → Ready sheet (whole Events) p
   horizon-ready p i Γ at k e =
-      let w = went sheet 0 1 (sectionRefusal "horizon" 0 L.horizon) (λ fs. Go (empty (sectionCount fs)) (afterLine sheet 0) 2)
+      let w = went sheet 0 1 (headingTests horizonHeading) (λ fs. Go (empty (sectionCount fs)) (afterLine sheet 0) 2)
       Γ at k (sym i ∙ e) in
       let fs = fields (lineAt sheet 0) in
-      let c = counted "horizon" 0 L.horizon fs (w .passed .accepted) in
+      let c = counted horizonHeading fs (w .passed .accepted) in
       let network : empty (sectionCount fs) ≡ Γ = by-go (w .then) .0 in
       let place : afterLine sheet 0 ≡ at = by-go (w .then) .1 in
       let line : 2 ≡ k = by-go (w .then) .2 in
@@ -66,29 +65,28 @@ module _ (sheet : List ℕ) where
       by-go : {Γ Δ : Network} {a b j k : ℕ} → Go Γ a j ≡ Go Δ b k → (Γ ≡ Δ) × (a ≡ b) × (j ≡ k)
       by-go e = (cc, cc, cc)
 
-  pub section-ready : (s : Section) (p q : Progress) → q ≡ andThen p (readOf sheet s) → Ready sheet (whole s) p
+  pub section-ready : (s : Section) (p q : Progress) → q ≡ andThen p (readSection sheet s) → Ready sheet (whole s) p
       → Ready sheet (toCome s 0) q
   section-ready s p q i h Δ b j e =
       let head = headingOf s in
-      let row = rowsOf sheet s in
-      let c = came p (readOf sheet s) Δ b j (sym i ∙ e) in
+      let c = came p (readSection sheet s) Δ b j (sym i ∙ e) in
       let Γ = c .network in
       let at = c .at in
       let k = c .line in
       let fs = fields (lineAt sheet at) in
-      let w = went sheet at k (sectionRefusal (head .word) (head .least) (head .most))
-      (λ fs. readRows sheet row (sectionCount fs) Γ (afterLine sheet at) (suc k)) Δ b j (c .then) in
-      let n = counted (head .word) (head .least) (head .most) fs (w .passed .accepted) in
-      rows-keep sheet row (Before sheet s) (stage-keeps sheet s) (sectionCount fs) Γ Δ (afterLine sheet at) (suc k) b j
+      let w = went sheet at k (headingTests head)
+      (λ fs. readRows sheet s (sectionCount fs) Γ (afterLine sheet at) (suc k)) Δ b j (c .then) in
+      let n = counted head fs (w .passed .accepted) in
+      rows-keep sheet s (Before sheet s) (stage-keeps sheet s) (sectionCount fs) Γ Δ (afterLine sheet at) (suc k) b j
       (stage-section sheet s (sectionCount fs) (w .passed .ends) (n .least) (n .most) (h Γ at k (c .first))) (w .then)
 
   -- what is left at the end
   ended : (Γ Δ : Network) (at k b j : ℕ) → readEnd sheet Γ at k ≡ Go Δ b j → Γ ≡ Δ
-  ended Γ Δ at k b j e = by-bytes (ltb at (length sheet)) e
+  ended Γ Δ at k b j e = by-refusal (firstFailing (endTests sheet at)) e
     where
-      by-bytes : (t : Bool) → elim t [ true ↦ Stop (refusal C.TrailingBytes k) | false ↦ Go Γ at k ] ≡ Go Δ b j → Γ ≡ Δ
-      by-bytes true e = stop-not-go (refusal C.TrailingBytes k) Δ b j e
-      by-bytes false e = cc
+      by-refusal : (o : Option Cause) → stopOr k o (Go Γ at k) ≡ Go Δ b j → Γ ≡ Δ
+      by-refusal (some c) e = stop-not-go (refusal c k) Δ b j e
+      by-refusal none e = cc
 
   -- the sections one behind the other
   sections-ready : Ready sheet (toCome Rules 0) (toRules sheet)

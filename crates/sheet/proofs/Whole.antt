@@ -10,20 +10,20 @@ use Rattle.prelude.proofs.Tests.{lt-or-ge}
 use Rattle.refusal.specs.Refusal.{refusal}
 use Rattle.refusal.specs.declared.Cause.the-variants.{TooLong}
 use Rattle.network.specs.declared.Network.{Network}
-use Rattle.sheet.specs.Reading.{longest, Progress, Stop, Go, andThen, readHorizon, readEvents, readSignals}
-use Rattle.sheet.specs.Reading.{readRules, readEnd, progress}
+use Rattle.line.specs.declared.Section.the-variants.{Events, Signals, Rules}
+use Rattle.sheet.specs.Reading.{longest, Progress, Stop, Go, andThen, readHorizon, readSection, readEnd, progress}
 use Rattle.sheet.proofs.Rows.{stop-not-go}
 
 module _ (sheet : List ℕ) where
   -- the reading as far as each section, and to the end
   abbrev pub toEvents : Progress
-  toEvents = andThen (readHorizon sheet) (readEvents sheet)
+  toEvents = andThen (readHorizon sheet) (readSection sheet Events)
 
   abbrev pub toSignals : Progress
-  toSignals = andThen toEvents (readSignals sheet)
+  toSignals = andThen toEvents (readSection sheet Signals)
 
   abbrev pub toRules : Progress
-  toRules = andThen toSignals (readRules sheet)
+  toRules = andThen toSignals (readSection sheet Rules)
 
   abbrev pub toEnd : Progress
   toEnd = andThen toRules (readEnd sheet)

@@ -11,7 +11,7 @@ use Rattle.refusal.specs.Refusal.{refusal}
 use Rattle.refusal.specs.declared.Cause.{Cause}
 use Rattle.refusal.specs.declared.Cause.the-variants.{TooLong}
 use Rattle.refusal.specs.declared.Refusal.{Refusal}
-use Rattle.line.specs.Rows.{Tests}
+use Rattle.line.specs.Tests.{Tests}
 use Rattle.sheet.specs.Reading.{longest}
 use Rattle.sheet.specs.Place.{tests}
 

@@ -1,8 +1,7 @@
--- The sheet. Read in this order: the whole; what is due on each line, and the first line at fault; the sections as the
--- code has them; and what holds at every line.
+-- The sheet. Read in this order: the whole; what is due on each line, and the first line at fault; and what holds at
+-- every line.
 pub mod Reading
 pub mod Place
 pub mod Fault
-pub mod Sections
 pub mod Stage
 pub mod Reached

@@ -1,18 +1,16 @@
 -- What is due on each line of a sheet, and the tests of that place (01, The sheet and Refused sheets and calls).
-use mathlib.Core.Bool.{Bool, not}
-use mathlib.Core.List.{List, [], _∷_}
+use mathlib.Core.Bool.{Bool}
+use mathlib.Core.List.{List}
 use Prim.Native.Nat.{ℕ, zero, suc}
-use lib.Dec.{ltb}
-use lib.ListN.{length}
-use Rattle.text.specs.Lines.{lineAt, endsAt, afterLine, fields}
-use Rattle.refusal.specs.declared.Cause.the-variants as C
-use Rattle.network.specs.Limits as L
+use lib.ListN.{drop}
+use Rattle.text.specs.Lines.{lineAt, afterLine, fields}
 use Rattle.network.specs.Build.{empty}
 use Rattle.network.specs.declared.Network.{Network}
-use Rattle.line.specs.Rows.{Tests, sectionTests, sectionCount}
-use Rattle.line.specs.Sections.{headingOf, rowsOf, testsOf}
+use Rattle.line.specs.Tests.{Tests, lineTests, sectionCount}
+use Rattle.line.specs.Sections.{headingOf, horizonHeading, headingTests, testsOf, withLine}
 use Rattle.line.specs.declared.Section.{Section}
 use Rattle.line.specs.declared.Section.the-variants.{Events, Signals, Rules}
+use Rattle.sheet.specs.Reading.{follows, endTests}
 
 -- what is due on a line: the horizon, the word and the count of a section, a line of a section with so many more behind
 -- it, or no more
@@ -52,33 +50,25 @@ abbrev pub top : Place
 top = record { due = Horizon; network = empty 0; at = 0 }
 
 module _ (sheet : List ℕ) where
-  -- bytes stand from here on
-  abbrev pub follows : ℕ → Bool
-  follows at = ltb at (length sheet)
-
-  -- a line that begins here: it has its line feed, and its fields pass
-  abbrev pub lineTests : ℕ → (List (List ℕ) → Tests) → Tests
-  lineTests at ts = (endsAt sheet at, C.MissingLine) ∷ ts (fields (lineAt sheet at))
-
   -- the tests of what is due; behind the last rule no byte follows
   abbrev pub testsAt : Due → Network → ℕ → Tests
-  testsAt Horizon Γ at = lineTests at (sectionTests "horizon" 0 L.horizon)
-  testsAt (Heading s) Γ at = lineTests at (sectionTests (headingOf s .word) (headingOf s .least) (headingOf s .most))
-  testsAt (Entry s m) Γ at = lineTests at (testsOf sheet s Γ)
-  testsAt NoMore Γ at = (not (follows at), C.TrailingBytes) ∷ []
+  testsAt Horizon Γ at = lineTests (drop at sheet) (headingTests horizonHeading)
+  testsAt (Heading s) Γ at = lineTests (drop at sheet) (headingTests (headingOf s))
+  testsAt (Entry s m) Γ at = lineTests (drop at sheet) (testsOf sheet s Γ)
+  testsAt NoMore Γ at = endTests sheet at
 
   -- what is defined behind a line with these fields that begins here
   abbrev pub definedAfter : Due → Network → ℕ → List (List ℕ) → Network
   definedAfter Horizon Γ at fs = empty (sectionCount fs)
   definedAfter (Heading s) Γ at fs = Γ
-  definedAfter (Entry s m) Γ at fs = rowsOf sheet s .add Γ at fs
+  definedAfter (Entry s m) Γ at fs = withLine sheet s Γ at fs
   definedAfter NoMore Γ at fs = Γ
 
   abbrev pub next : Place → Place
   next p =
       let fs = fields (lineAt sheet (p .at)) in
       record {
-        due = dueAfter (p .due) (follows (afterLine sheet (p .at))) fs;
+        due = dueAfter (p .due) (follows sheet (afterLine sheet (p .at))) fs;
         network = definedAfter (p .due) (p .network) (p .at) fs;
         at = afterLine sheet (p .at);
       }

@@ -1,20 +1,22 @@
 -- The whole sheet: its sections in order, and the first line at fault (01, The sheet and Refused sheets).
-use mathlib.Core.Bool.{true, false}
+use mathlib.Core.Bool.{Bool, true, false, not}
 use mathlib.Core.Option.{Option, none, some}
-use mathlib.Core.List.{List}
+use mathlib.Core.List.{List, [], _∷_}
 use Prim.Native.Nat.{ℕ, zero, suc}
-use Prim.Native.String.{String}
 use lib.Dec.{ltb, leb}
-use lib.ListN.{length}
-use Rattle.text.specs.Lines.{lineAt, endsAt, afterLine, fields}
+use lib.ListN.{length, drop}
+use Rattle.prelude.specs.Checks.{firstFailing}
+use Rattle.text.specs.Lines.{lineAt, afterLine, fields}
 use Rattle.refusal.specs.Refusal.{refusal}
 use Rattle.refusal.specs.declared.Cause.{Cause}
 use Rattle.refusal.specs.declared.Cause.the-variants as C
 use Rattle.refusal.specs.declared.Refusal.{Refusal}
-use Rattle.network.specs.Limits as L
 use Rattle.network.specs.Build.{empty}
 use Rattle.network.specs.declared.Network.{Network}
-use Rattle.line.specs.Rows.{sectionRefusal, sectionCount, Row, eventRow, signalRow, ruleRow}
+use Rattle.line.specs.Tests.{Tests, lineTests, sectionCount}
+use Rattle.line.specs.Sections.{headingOf, horizonHeading, headingTests, testsOf, withLine}
+use Rattle.line.specs.declared.Section.{Section}
+use Rattle.line.specs.declared.Section.the-variants.{Events, Signals, Rules}
 use Rattle.sheet.specs.declared.Outcome.the-variants.{Accepted, Refused}
 use Rattle.sheet.specs.declared.Reading.{Reading}
 
@@ -31,54 +33,50 @@ abbrev pub andThen : Progress → (Network → ℕ → ℕ → Progress) → Pro
 andThen (Stop r) next = Stop r
 andThen (Go Γ at k) next = next Γ at k
 
+-- refused on line k, or what follows
+abbrev pub stopOr : ℕ → Option Cause → Progress → Progress
+stopOr k (some c) p = Stop (refusal c k)
+stopOr k none p = p
+
 module _ (sheet : List ℕ) where
-  -- the line at this place, line k of the sheet: it has to end with a line feed and its fields have to pass; then
-  -- what follows
-  abbrev pub readLine : ℕ → ℕ → (List (List ℕ) → Option Cause) → (List (List ℕ) → Progress) → Progress
-  readLine at k refuses next =
-      elim (endsAt sheet at) [
-        | false ↦ Stop (refusal C.MissingLine k)
-        | true ↦ elim (refuses (fields (lineAt sheet at))) [
-          | some c ↦ Stop (refusal c k)
-          | none ↦ next (fields (lineAt sheet at))
-        ]
-      ]
+  -- the line at this place, line k of the sheet: it has to pass its tests; then what follows
+  abbrev pub readLine : ℕ → ℕ → (List (List ℕ) → Tests) → (List (List ℕ) → Progress) → Progress
+  readLine at k ts next = stopOr k (firstFailing (lineTests (drop at sheet) ts)) (next (fields (lineAt sheet at)))
 
-  -- so many lines of one kind
-  abbrev pub readRows : Row → ℕ → Network → ℕ → ℕ → Progress
-  readRows row zero Γ at k = Go Γ at k
-  readRows row (suc m) Γ at k =
-      readLine at k (row .refusal Γ) (λ fs. readRows row m (row .add Γ at fs) (afterLine sheet at) (suc k))
+  -- so many lines of a section
+  abbrev pub readRows : Section → ℕ → Network → ℕ → ℕ → Progress
+  readRows s zero Γ at k = Go Γ at k
+  readRows s (suc m) Γ at k =
+      readLine at k (testsOf sheet s Γ) (λ fs. readRows s m (withLine sheet s Γ at fs) (afterLine sheet at) (suc k))
 
-  -- a section: its line, with a count from lo to hi, and then so many lines
-  abbrev pub readSection : String → ℕ → ℕ → Row → Network → ℕ → ℕ → Progress
-  readSection word lo hi row Γ at k =
-      readLine at k (sectionRefusal word lo hi) (λ fs. readRows row (sectionCount fs) Γ (afterLine sheet at) (suc k))
+  -- a section: its heading, and then as many lines as that counts
+  abbrev pub readSection : Section → Network → ℕ → ℕ → Progress
+  readSection s Γ at k =
+      readLine at k (headingTests (headingOf s)) (λ fs. readRows s (sectionCount fs) Γ (afterLine sheet at) (suc k))
 
   -- the horizon, which is the first line
   abbrev pub readHorizon : Progress
-  readHorizon =
-      readLine 0 1 (sectionRefusal "horizon" 0 L.horizon) (λ fs. Go (empty (sectionCount fs)) (afterLine sheet 0) 2)
+  readHorizon = readLine 0 1 (headingTests horizonHeading) (λ fs. Go (empty (sectionCount fs)) (afterLine sheet 0) 2)
 
-  abbrev pub readEvents : Network → ℕ → ℕ → Progress
-  readEvents = readSection "events" 1 L.events (eventRow sheet)
-
-  abbrev pub readSignals : Network → ℕ → ℕ → Progress
-  readSignals = readSection "signals" 0 L.signals (signalRow sheet)
-
-  abbrev pub readRules : Network → ℕ → ℕ → Progress
-  readRules = readSection "rules" 0 L.rules (ruleRow sheet)
+  -- bytes stand from here on
+  abbrev pub follows : ℕ → Bool
+  follows at = ltb at (length sheet)
 
   -- "Bytes follow the last rule; the line is the one that they begin"
+  abbrev pub endTests : ℕ → Tests
+  endTests at = (not (follows at), C.TrailingBytes) ∷ []
+
   abbrev pub readEnd : Network → ℕ → ℕ → Progress
-  readEnd Γ at k = elim (ltb at (length sheet)) [ true ↦ Stop (refusal C.TrailingBytes k) | false ↦ Go Γ at k ]
+  readEnd Γ at k = stopOr k (firstFailing (endTests at)) (Go Γ at k)
 
   -- "Lines are read from the top and the first line at fault decides"
   unfoldable pub progress : Progress
   progress =
       elim (leb (length sheet) longest) [
         | false ↦ Stop (refusal C.TooLong 0)
-        | true ↦ andThen (andThen (andThen (andThen readHorizon readEvents) readSignals) readRules) readEnd
+        | true ↦
+            andThen (andThen (andThen (andThen readHorizon (readSection Events)) (readSection Signals)) (readSection Rules))
+            readEnd
       ]
 
 -- as the reader answers it

@@ -4,9 +4,8 @@ ghost use mathlib.Core.Path.{_≡_};
 ghost use Prim.Native.Nat.{_≤_};
 ghost use lib.ListN.{length, drop};
 ghost use Rattle.refusal.specs.Refusal.{refusal};
-ghost use Rattle.line.specs.Sections.{rowsOf};
-ghost use Rattle.sheet.specs.Reading.{longest, Stop, andThen, readRows, readHorizon, readEnd, answered};
-ghost use Rattle.sheet.specs.Sections.{readOf};
+ghost use Rattle.sheet.specs.Reading.{longest, Stop, andThen, readRows, readSection, readHorizon, readEnd};
+ghost use Rattle.sheet.specs.Reading.{answered};
 ghost use Rattle.sheet.specs.Stage.{Stage, toCome, whole};
 ghost use Rattle.sheet.specs.Reached.{progressOf, Ready};
 use super::Outcome;
@@ -33,7 +32,7 @@ fn read_rows(
     k: u16,
 ) -> Reached
     requires { ⌜ (length (now sheet) ≤ longest) × Stage (now sheet) (toCome section m) network at k ⌝ }
-    ensures { λ r. ⌜ progressOf r ≡ readRows (now (sheet .entry)) (rowsOf (now (sheet .entry)) section) m network at k ⌝ }
+    ensures { λ r. ⌜ progressOf r ≡ readRows (now (sheet .entry)) section m network at k ⌝ }
 {
     let mut w = network;
     let mut place = at;
@@ -127,7 +126,7 @@ fn read_section(
 ) -> Reached
     requires { ⌜ (length (now sheet) ≤ longest) × (now rest ≡ drop at (now sheet)) × Stage (now sheet)
         (whole section) network at k ⌝ }
-    ensures { λ r. ⌜ progressOf r ≡ readOf (now (sheet .entry)) section network at k ⌝ }
+    ensures { λ r. ⌜ progressOf r ≡ readSection (now (sheet .entry)) section network at k ⌝ }
 {
     let row = row::heading(section, rest);
     match row {
@@ -146,7 +145,7 @@ fn read_section(
 // A section where the one before it was read: what remains of the sheet goes to its reader.
 pub(crate) fn read_after(section: Section, sheet: &[u8], reached: Reached) -> Reached
     requires { ⌜ (length (now sheet) ≤ longest) × Ready (now sheet) (whole section) (progressOf reached) ⌝ }
-    ensures { λ r. ⌜ progressOf r ≡ andThen (progressOf reached) (readOf (now (sheet .entry)) section) ⌝ }
+    ensures { λ r. ⌜ progressOf r ≡ andThen (progressOf reached) (readSection (now (sheet .entry)) section) ⌝ }
 {
     let step = reached.step;
     let network = reached.network;

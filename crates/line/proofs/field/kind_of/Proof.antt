@@ -1,7 +1,7 @@
 -- The three words are tried in the order of the definition. Assumes nothing.
 use borrow.Author.Needs.{needs}
 use mathlib.Core.Path.{sym, _∙_}
-use Rattle.line.specs.Rows.{kindOf}
+use Rattle.line.specs.Tests.{kindOf}
 use Rattle.line.proofs.field.kind_of.Statement.{statement}
 use Rattle.line.proofs.field.kind_of.Tie as tie
 

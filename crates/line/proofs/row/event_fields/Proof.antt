@@ -1,4 +1,4 @@
--- The tests are tried in the order of `eventRefusal`. Assumes nothing.
+-- The tests are tried in the order of `eventTests`. Assumes nothing.
 use borrow.Author.Needs.{needs}
 use mathlib.Core.Path.{_≡_, sym, _∙_, ap}
 use mathlib.Core.List.{List, []}
@@ -10,7 +10,7 @@ use Rattle.text.specs.Lines.{fields, field}
 use Rattle.network.specs.declared.Network.{Network}
 use Rattle.names.specs.Names.{isName}
 use Rattle.names.proofs.Finds.{event-answers}
-use Rattle.line.specs.Rows.{eventOf}
+use Rattle.line.specs.Tests.{eventOf}
 use Rattle.line.specs.Answers.{partsOf}
 use Rattle.line.proofs.Refusals.{event-count, event-ill, event-twice, event-passes}
 use Rattle.line.proofs.row.event_fields.Statement.{statement}

@@ -1,5 +1,9 @@
 -- The line of each section, by its word and its range. Assumes nothing.
 use borrow.Author.Needs.{needs}
+use mathlib.Core.Path.{sym, _∙_, ap}
+use Rattle.line.specs.Sections.{headingOf}
+use Rattle.line.specs.Answers.{headingAt}
+use Rattle.line.specs.declared.Section.{Section}
 use Rattle.line.proofs.row.heading.Statement.{statement}
 use Rattle.line.proofs.row.heading.Tie as tie
 
@@ -40,13 +44,22 @@ section-row-requires-3 : tie.Need-section-row-requires-3
 section-row-requires-3 c κs = search needs
 
 returns : tie.Need-returns
-returns c = rw (c .before .before .enum-told .given .1) (c .section-row .ensures)
+returns c =
+    c .section-row .ensures
+    ∙ sym (ap (λ (s : Section). headingAt (c .before .before .before .before .before .args .rest .now) (headingOf s))
+    (c .before .before .enum-told .given .1))
 
 returns-2 : tie.Need-returns-2
-returns-2 c = rw (c .before .before .enum-told2 .given .1) (c .section-row2 .ensures)
+returns-2 c =
+    c .section-row2 .ensures
+    ∙ sym (ap (λ (s : Section). headingAt (c .before .before .before .before .before .args .rest .now) (headingOf s))
+    (c .before .before .enum-told2 .given .1))
 
 returns-3 : tie.Need-returns-3
-returns-3 c = rw (c .before .before .enum-told3 .given .1) (c .section-row3 .ensures)
+returns-3 c =
+    c .section-row3 .ensures
+    ∙ sym (ap (λ (s : Section). headingAt (c .before .before .before .before .before .args .rest .now) (headingOf s))
+    (c .before .before .enum-told3 .given .1))
 
 pub heading-spec : {M : Type 1} → statement M
 heading-spec =

@@ -51,11 +51,10 @@ returns-2 c =
     let until = c .before .before .before .before .before .until in
     let Γ = partsOf (args .n) (args .starts .now) (args .lengths .now) (args .k) (args .letters .now)
     (args .observations .now) in
-    rw (c .before .enum-told .given .1)
-    (c .event-fields .ensures
+    c .event-fields .ensures
     ∙ event-parts (args .sheet .now) Γ (take (until .result) (args .rest .now))
     ∙ row-ends (args .sheet .now) Γ (args .rest .now) (until .result) (until .ensures)
-    (c .before .before .before .before .if1 .left) Events)
+    (c .before .before .before .before .if1 .left) Events (args .section) (c .before .enum-told .given .1)
 
 returns-3 : tie.Need-returns-3
 returns-3 c =
@@ -63,10 +62,9 @@ returns-3 c =
     let until = c .before .before .before .before .before .until in
     let Γ = partsOf (args .n) (args .starts .now) (args .lengths .now) (args .k) (args .letters .now)
     (args .observations .now) in
-    rw (c .before .enum-told2 .given .1)
-    (c .signal-fields .ensures
+    c .signal-fields .ensures
     ∙ row-ends (args .sheet .now) Γ (args .rest .now) (until .result) (until .ensures)
-    (c .before .before .before .before .if1 .left) Signals)
+    (c .before .before .before .before .if1 .left) Signals (args .section) (c .before .enum-told2 .given .1)
 
 returns-4 : tie.Need-returns-4
 returns-4 c =
@@ -74,11 +72,10 @@ returns-4 c =
     let until = c .before .before .before .before .before .until in
     let Γ = partsOf (args .n) (args .starts .now) (args .lengths .now) (args .k) (args .letters .now)
     (args .observations .now) in
-    rw (c .before .enum-told3 .given .1)
-    (c .rule-fields .ensures
+    c .rule-fields .ensures
     ∙ rule-parts (args .sheet .now) Γ (take (until .result) (args .rest .now))
     ∙ row-ends (args .sheet .now) Γ (args .rest .now) (until .result) (until .ensures)
-    (c .before .before .before .before .if1 .left) Rules)
+    (c .before .before .before .before .if1 .left) Rules (args .section) (c .before .enum-told3 .given .1)
 
 pub row-at-spec : {M : Type 1} → statement M
 row-at-spec =

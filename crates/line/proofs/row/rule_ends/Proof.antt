@@ -1,4 +1,4 @@
--- The three tests are the last of `ruleRefusal`. Where they pass, the letters are defined and distinct, so that the
+-- The three tests are the last of `ruleTests`. Where they pass, the letters are defined and distinct, so that the
 -- label has its sums. Assumes nothing.
 use borrow.Author.Needs.{needs}
 use mathlib.Core.Path.{_≡_, sym, _∙_, ap}
@@ -6,13 +6,14 @@ use mathlib.Core.Option.{Option}
 use mathlib.Core.List.{[]}
 use mir.Syntax.{w32}
 use mir.ValLaws.{toZ-ofZ}
+use Rattle.prelude.specs.Checks.{firstFailing}
 use Rattle.refusal.specs.declared.Cause.{Cause}
 use Rattle.network.specs.declared.Network.{Network}
 use Rattle.names.specs.Defined.{maskOf}
 use Rattle.names.specs.Found.{placeOr}
 use Rattle.names.proofs.Finds.{found-place}
-use Rattle.line.specs.Answers.{partsOf, checkOf, endsRefusal}
-use Rattle.line.specs.Rows.{eventOf}
+use Rattle.line.specs.Answers.{partsOf, checkOf}
+use Rattle.line.specs.Tests.{eventOf, endsTests}
 use Rattle.line.proofs.Refusals.{ends-tests, ends-pass, check-refused, check-passed}
 use Rattle.line.proofs.row.rule_ends.Statement.{statement}
 use Rattle.line.proofs.row.rule_ends.Tie as tie
@@ -22,7 +23,8 @@ abbrev parts : tie.Start → Network
 parts d = partsOf (d .args .n) (d .args .starts .now) (d .args .lengths .now) (d .args .k) (d .args .letters .now) []
 
 abbrev why : tie.Start → Option Cause
-why d = endsRefusal (d .args .sheet .now) (parts d) (d .args .from .now) (d .args .to .now) (d .args .label .now)
+why d =
+    firstFailing (endsTests (d .args .sheet .now) (parts d) (d .args .from .now) (d .args .to .now) (d .args .label .now))
 
 literals-of-requires : tie.Need-literals-of-requires
 literals-of-requires c κs = search needs

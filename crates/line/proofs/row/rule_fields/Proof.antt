@@ -1,4 +1,4 @@
--- Count, kind and limit are tested in the order of `ruleRefusal`; the ends and the label follow. Assumes nothing.
+-- Count, kind and limit are tested in the order of `ruleTests`; the ends and the label follow. Assumes nothing.
 use borrow.Author.Needs.{needs}
 use mathlib.Core.Path.{_≡_, sym, _∙_, ap}
 use mathlib.Core.Option.{some}
@@ -9,7 +9,7 @@ use lib.ListN.{length}
 use Rattle.text.specs.Lines.{fields, field}
 use Rattle.network.specs.declared.Network.{Network}
 use Rattle.line.specs.Answers.{endsAnswer, partsOf, kindFound, limitOf}
-use Rattle.line.specs.Rows.{kindOf}
+use Rattle.line.specs.Tests.{kindOf}
 use Rattle.line.proofs.Refusals.{limit-fits, ends-row, rule-count, rule-other, rule-ill}
 use Rattle.line.proofs.Refusals.{rule-beyond, kind-some, kind-none, limit-minutes, limit-over, limit-none}
 use Rattle.line.proofs.row.rule_fields.Statement.{statement}

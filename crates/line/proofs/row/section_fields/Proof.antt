@@ -1,4 +1,4 @@
--- The tests are tried in the order of `wordRefusal`. Assumes nothing.
+-- The tests are tried in the order of `sectionTests`. Assumes nothing.
 use borrow.Author.Needs.{needs}
 use mathlib.Core.Path.{sym, _∙_, ap}
 use mathlib.Core.List.{List}

@@ -1,12 +1,13 @@
--- The count is tested first; the other three tests are `signalRefusal`'s, in its order. Assumes nothing.
+-- The count is tested first; the other three tests are `signalTests`', in its order. Assumes nothing.
 use borrow.Author.Needs.{needs}
 use mathlib.Core.Path.{_≡_, refl, sym, _∙_, ap}
 use mathlib.Core.Option.{Option}
+use Rattle.prelude.specs.Checks.{firstFailing}
 use Rattle.text.specs.Lines.{fields, field}
 use Rattle.refusal.specs.declared.Cause.{Cause}
 use Rattle.network.specs.declared.Network.{Network}
 use Rattle.names.proofs.Finds.{event-is, event-answers, event-place}
-use Rattle.line.specs.Rows.{eventOf, signalRefusal}
+use Rattle.line.specs.Tests.{eventOf, signalTests}
 use Rattle.line.specs.Answers.{partsOf, checkOf}
 use Rattle.line.proofs.Refusals.{signal-count, gives-found, signal-tests, check-refused, check-passed}
 use Rattle.line.proofs.row.signal_fields.Statement.{statement}
@@ -19,7 +20,7 @@ parts d =
     (d .args .observations .now)
 
 abbrev why : tie.Start → Option Cause
-why d = signalRefusal (d .args .sheet .now) (parts d) (fields (d .args .line .now))
+why d = firstFailing (signalTests (d .args .sheet .now) (parts d) (fields (d .args .line .now)))
 
 cut-requires : tie.Need-cut-requires
 cut-requires c κs = search needs

@@ -2,8 +2,7 @@
 use borrow.Author.Needs.{needs}
 use mathlib.Core.Path.{sym, _∙_, ap}
 use Rattle.text.proofs.Lines.{take-drop}
-use Rattle.sheet.specs.Reading.{andThen}
-use Rattle.sheet.specs.Sections.{readOf}
+use Rattle.sheet.specs.Reading.{andThen, readSection}
 use Rattle.sheet.specs.Stage.{Stage, whole}
 use Rattle.sheet.specs.Reached.{stepOf}
 use Rattle.sheet.specs.declared.Step.{Step}
@@ -52,7 +51,7 @@ returns-2 : tie.Need-returns-2
 returns-2 c =
     let args = c .before .before .before .before .before .before .before .args in
     c .read-section .ensures ∙ sym (ap (λ (s : Step). andThen (stepOf s (args .reached .network))
-    (readOf (args .sheet .now) (args .section))) (c .before .before .before .step .given .1))
+    (readSection (args .sheet .now) (args .section))) (c .before .before .before .step .given .1))
 
 pub read-after-spec : {M : Type 1} → statement M
 read-after-spec =

@@ -4,8 +4,7 @@ use borrow.Author.Needs.{needs}
 use mathlib.Core.Path.{_≡_, refl, sym, _∙_}
 use mathlib.Core.Logic.{inl, inr}
 use native.Mathlib.Omega.{arith}
-use Rattle.line.specs.Sections.{rowsOf}
-use Rattle.line.specs.Answers.{added}
+use Rattle.line.specs.Sections.{added}
 use Rattle.sheet.specs.Reading.{readRows}
 use Rattle.sheet.proofs.Turns.{RowsLeft, reads-end}
 use Rattle.sheet.proofs.Lines.{names-in, row-stop, RowTurn, row-turn}
@@ -14,7 +13,7 @@ use Rattle.sheet.proofs.section.read_rows.Tie as tie
 
 abbrev Inv-loop : tie.InvT-loop
 Inv-loop section sheet m at k w₀ place₀ line₀ left₀ w place line left =
-    RowsLeft sheet section (readRows sheet (rowsOf sheet section) m w₀ at k) left w place line
+    RowsLeft sheet section (readRows sheet section m w₀ at k) left w place line
 
 abbrev μ-loop : tie.MeasureT-loop
 μ-loop section sheet m at k w₀ place₀ line₀ left₀ w place line left = left
