@@ -8,7 +8,7 @@ use borrow.Author.Tests.{eqb-true, not-true}
 use lib.ListN.{length, take, drop}
 use lib.Seq.{take-append-seam}
 use Rattle.prelude.specs.Checks.{firstFailing}
-use Rattle.prelude.proofs.Checks.{hold, none-fails}
+use Rattle.prelude.proofs.Checks.{_&_, hold, none-fails}
 use Rattle.prelude.specs.Search.{answers}
 use Rattle.prelude.proofs.Tests.{clash, false-of-not-true}
 use Rattle.text.specs.Lines.{lineFeed, field}
@@ -18,7 +18,6 @@ use Rattle.line.specs.Tests.{eventOf, eventTests}
 use Rattle.line.specs.Sections.{withLine}
 use Rattle.line.specs.declared.Section.the-variants.{Events}
 use Rattle.layout.specs.Layout.{line}
-use Rattle.layout.proofs.Checks.{_&_}
 use Rattle.prelude.proofs.Lists.{all-of}
 use Rattle.layout.proofs.Plain.{plain-name}
 use Rattle.layout.proofs.Kept.{KeptNames, NewName, may-name}

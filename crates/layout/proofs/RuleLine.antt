@@ -10,7 +10,7 @@ use Rattle.prelude.specs.Search.{answers}
 use Rattle.prelude.specs.Bytes.{every, distinct}
 use Rattle.prelude.specs.Checks.{firstFailing}
 use Rattle.prelude.specs.Lists.{In}
-use Rattle.prelude.proofs.Checks.{none-fails}
+use Rattle.prelude.proofs.Checks.{_&_, none-fails}
 use Rattle.prelude.proofs.Lists.{each-in, test-of-distinct}
 use Rattle.prelude.proofs.Tests.{and-both}
 use Rattle.text.specs.Number.{magnitude}
@@ -23,7 +23,6 @@ use Rattle.line.specs.Sections.{ruleOf}
 use Rattle.layout.specs.Layout.{Rule, Contents, KeepsRule, signalLetters}
 use Rattle.layout.specs.Layout.{kindText, signedText, labelText, ruleFields}
 use Rattle.layout.specs.Contains.{Bears, Means}
-use Rattle.layout.proofs.Checks.{_&_}
 use Rattle.layout.proofs.Lines.{Plain}
 use Rattle.layout.proofs.Plain.{plain-name}
 use Rattle.layout.proofs.Numbers as N

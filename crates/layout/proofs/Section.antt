@@ -9,7 +9,7 @@ use borrow.Author.Tests.{eqb-true}
 use lib.Dec.{eqb}
 use lib.ListN.{length, drop, length-map}
 use Rattle.prelude.specs.Checks.{firstFailing}
-use Rattle.prelude.proofs.Checks.{hold, none-fails}
+use Rattle.prelude.proofs.Checks.{_&_, hold, none-fails}
 use Rattle.prelude.specs.Bytes.{ascii, same, every}
 use Rattle.prelude.proofs.Bytes.{same-true, same-refl}
 use Rattle.prelude.proofs.Tests.{and-true}
@@ -23,7 +23,6 @@ use Rattle.line.specs.declared.Section.{Section}
 use Rattle.sheet.specs.Reading.{Progress, Go, readLine, readRows, readSection}
 use Rattle.sheet.proofs.Rows.{went}
 use Rattle.layout.specs.Layout.{line, lines, section}
-use Rattle.layout.proofs.Checks.{_&_}
 use Rattle.layout.proofs.Lines.{plain, lineOf, is-read, line-read}
 use Rattle.layout.proofs.Numbers.{isNumber-decimal, magnitude-decimal, inRange-decimal, plain-decimal}
 use Rattle.layout.proofs.Numbers.{decimal-magnitude}

@@ -8,7 +8,7 @@ use Prim.Native.Nat.{ℕ, _<_}
 use borrow.Author.Tests.{eqb-true, not-true}
 use lib.ListN.{length, getD}
 use Rattle.prelude.specs.Checks.{firstFailing}
-use Rattle.prelude.proofs.Checks.{hold, none-fails}
+use Rattle.prelude.proofs.Checks.{_&_, hold, none-fails}
 use Rattle.prelude.specs.Search.{answers}
 use Rattle.prelude.proofs.Tests.{clash, false-of-not-true, and-true, and-both, or-false, or-neither}
 use Rattle.text.specs.Lines.{field}
@@ -21,7 +21,6 @@ use Rattle.line.specs.Sections.{withLine}
 use Rattle.line.specs.declared.Section.the-variants.{Signals}
 use Rattle.prelude.specs.Lists.{In}
 use Rattle.layout.specs.Layout.{Signal, signalEvents}
-use Rattle.layout.proofs.Checks.{_&_}
 use Rattle.layout.proofs.Lines.{plain}
 use Rattle.prelude.proofs.Lists.{all-of, each-in}
 use Rattle.layout.proofs.Plain.{plain-name, plain-letter, one-letter}

@@ -1,7 +1,8 @@
--- What every network keeps that a sheet was read into, so that later code need not ask again.
+-- What every network keeps that a sheet was read into, so that later code need not ask again; and what it keeps while
+-- lines of the sheet are still to come.
 use mathlib.Core.Path.{_≡_}
 use mathlib.Core.List.{List}
-use Prim.Native.Nat.{ℕ, suc, _+_, _≤_, _<_}
+use Prim.Native.Nat.{ℕ, zero, suc, _+_, _≤_, _<_}
 use lib.IntN.{ℤ, pos, negsuc}
 use lib.ListN.{length, getD}
 use Rattle.network.specs.Limits as L
@@ -30,17 +31,33 @@ pub record Arrays (Γ : Network) : Type 0 where
   pub observations : length (Γ .observations) ≡ L.signals
   pub constraints : length (Γ .constraints) ≡ L.rules
 
-pub record WellFormed (Γ : Network) : Type 0 where
+-- how many of each are still to come, at most
+pub record ToCome : Type 0 where
+  pub events : ℕ
+  pub signals : ℕ
+  pub rules : ℕ
+
+-- n and m more; by cases, since n + 0 does not compute to n
+abbrev pub andMore : ℕ → ℕ → ℕ
+andMore n zero = n
+andMore n (suc m) = n + suc m
+
+-- what a network keeps that has room for these
+pub record Forming (t : ToCome) (Γ : Network) : Type 0 where
   pub horizon : Γ .horizon ≤ L.horizon
-  pub some-event : 1 ≤ Γ .events
-  pub events : Γ .events ≤ L.events
-  pub signals : Γ .signals ≤ L.signals
-  pub rules : Γ .rules ≤ L.rules
+  pub some-event : 1 ≤ andMore (Γ .events) (t .events)
+  pub events : andMore (Γ .events) (t .events) ≤ L.events
+  pub signals : andMore (Γ .signals) (t .signals) ≤ L.signals
+  pub rules : andMore (Γ .rules) (t .rules) ≤ L.rules
   pub arrays : Arrays Γ
   pub observed : (p : ℕ) → p < Γ .signals → observation Γ p < Γ .events
   -- "An event gives at most one signal"
   pub one-signal : (p q : ℕ) → p < Γ .signals → q < Γ .signals → observation Γ p ≡ observation Γ q → p ≡ q
   pub proper : (c : ℕ) → c < Γ .rules → Proper Γ (constraint Γ c)
+
+-- nothing is still to come
+abbrev pub WellFormed : Network → Type 0
+WellFormed Γ = Forming (record { events = 0; signals = 0; rules = 0 }) Γ
 
 -- each event's name is a part of the sheet, of at most 8 bytes
 pub record Named (sheet : List ℕ) (Γ : Network) : Type 0 where

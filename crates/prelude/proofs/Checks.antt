@@ -8,6 +8,11 @@ use Rattle.prelude.specs.Checks.{firstFailing, Hold, FirstFails}
 use Rattle.prelude.proofs.Search.{some-not-none, none-not-some}
 use Rattle.prelude.proofs.Tests.{clash}
 
+-- a proof for each of several tests: `p & q & tt`
+infixr 40 _&_
+pub _&_ : {A B : Type 0} → A → B → A × B
+a & b = (a, b)
+
 module _ {A : Type 0} where
   pub hold : (ts : List (Bool × A)) → firstFailing ts ≡ none → Hold ts
   hold [] e = tt

@@ -11,6 +11,7 @@ use Rattle.refusal.specs.Refusal.{refusal}
 use Rattle.refusal.specs.declared.Cause.{Cause}
 use Rattle.network.specs.Limits as L
 use Rattle.network.specs.Build.{withEvent}
+use Rattle.network.specs.WellFormed.{ToCome}
 use Rattle.network.specs.declared.Network.{Network}
 use Rattle.names.specs.Found.{NamesIn}
 use Rattle.line.specs.Tests.{eventTests}
@@ -24,14 +25,21 @@ use Rattle.line.proofs.Checks.{all-hold}
 use Rattle.line.proofs.Answered.{row-answer-refused, row-answer, answerAt, row-at}
 use Rattle.sheet.proofs.Places.{line-inside, only-field}
 use Rattle.sheet.specs.Reading.{Progress, Stop}
-use Rattle.sheet.specs.Stage.{ToCome, Stage}
+use Rattle.sheet.specs.Stage.{Stage}
 use Rattle.sheet.proofs.Rows.{refusalAt, Passes, passes}
+use Rattle.sheet.proofs.Stages.{andMore-is}
 use Rattle.sheet.proofs.Turns.{Before, RowsLeft, reads-stop, reads-on}
 
 -- the events of the network are named by parts of the sheet
 pub names-in : {sheet : List ℕ} {t : ToCome} {Γ : Network} {at k : ℕ} → Stage sheet t Γ at k
     → NamesIn sheet (Γ .events) (Γ .starts) (Γ .lengths)
-names-in g = record { few = omega (arith, g .events); inside = g .named .inside }
+names-in {t = t} {Γ} g = record {
+  few = omega (arith, g .forming .events, andMore-is (Γ .events) (t .events));
+  inside = g .named .inside;
+}
+
+pub few-signals : {sheet : List ℕ} {t : ToCome} {Γ : Network} {at k : ℕ} → Stage sheet t Γ at k → Γ .signals ≤ L.signals
+few-signals {t = t} {Γ} g = omega (arith, g .forming .signals, andMore-is (Γ .signals) (t .signals))
 
 -- there is room for what a line holds
 abbrev pub Room : Entry → Network → Type 0
@@ -43,10 +51,10 @@ module _ (sheet : List ℕ) (Γ : Network) (at k : ℕ) where
   abbrev fs : List (List ℕ)
   fs = fields (lineAt sheet at)
 
-  room-of : (s : Section) {left : ℕ} → Before sheet s left Γ at k → 0 < left → Room (entryOf sheet s Γ fs) Γ
-  room-of Events g h = omega (arith, g .events)
-  room-of Signals g h = omega (arith, g .signals)
-  room-of Rules g h = omega (arith, g .rules)
+  room-of : (s : Section) (left : ℕ) → Before sheet s left Γ at k → 0 < left → Room (entryOf sheet s Γ fs) Γ
+  room-of Events left g h = omega (arith, g .forming .events, andMore-is (Γ .events) left)
+  room-of Signals left g h = omega (arith, g .forming .signals, andMore-is (Γ .signals) left)
+  room-of Rules left g h = omega (arith, g .forming .rules, andMore-is (Γ .rules) left)
 
   -- what a line that passes adds is what it holds
   adds : (s : Section) → Passes sheet at k (testsOf sheet s Γ)
@@ -79,7 +87,7 @@ module _ {sheet : List ℕ} {s : Section} {p : Progress} {left : ℕ} {Γ : Netw
       let entry = w .1 in
       let size = w .2 in
       record {
-        room = rw entry at (room-of sheet Γ at k s (here .stage) some);
+        room = rw entry at (room-of sheet Γ at k s left (here .stage) some);
         inside = omega (arith, line-inside sheet at (pass .ends));
         next = reads-on left Γ at k here some (w .0) (added x Γ at n) (at + n + 1)
             (adds sheet Γ at k s pass ∙ rw (entry, size)) (omega arith);

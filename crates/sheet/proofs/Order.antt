@@ -6,6 +6,7 @@ use mathlib.Core.List.{List, [], _∷_}
 use Prim.Native.Nat.{ℕ, _≤_, _<_}
 use native.Mathlib.Omega.{arith}
 use Rattle.prelude.specs.Checks.{FirstFails}
+use Rattle.prelude.proofs.Checks.{_&_}
 use Rattle.prelude.proofs.Tests.{clash}
 use Rattle.refusal.specs.Refusal.{numberOf}
 use Rattle.refusal.specs.declared.Cause.{Cause}
@@ -50,13 +51,12 @@ first-fails-lowest lo hi (t ∷ ts) c d o (inr f) (inr g) = first-fails-lowest (
 module _ (sheet : List ℕ) where
   due-in-order : (d : Due) (Γ : Network) (at : ℕ) → InOrder 1 10 (testsAt sheet d Γ at)
   unfolding sectionTests eventTests signalTests endsTests ruleTests
-  due-in-order Horizon Γ at = (omega arith, (omega arith, (omega arith, (omega arith, omega arith))))
-  due-in-order (Heading s) Γ at = (omega arith, (omega arith, (omega arith, (omega arith, omega arith))))
-  due-in-order (Entry Events m) Γ at = (omega arith, (omega arith, (omega arith, (omega arith, omega arith))))
-  due-in-order (Entry Signals m) Γ at = (omega arith, (omega arith, (omega arith, (omega arith, (omega arith, omega arith)))))
-  due-in-order (Entry Rules m) Γ at =
-      (omega arith, (omega arith, (omega arith, (omega arith, (omega arith, (omega arith, (omega arith, omega arith)))))))
-  due-in-order NoMore Γ at = (omega arith, omega arith)
+  due-in-order Horizon Γ at = omega arith & omega arith & omega arith & omega arith & omega arith
+  due-in-order (Heading s) Γ at = omega arith & omega arith & omega arith & omega arith & omega arith
+  due-in-order (Entry Events m) Γ at = omega arith & omega arith & omega arith & omega arith & omega arith
+  due-in-order (Entry Signals m) Γ at = omega arith & omega arith & omega arith & omega arith & omega arith & omega arith
+  due-in-order (Entry Rules m) Γ at = omega arith & omega arith & omega arith & omega arith & omega arith & omega arith & omega arith & omega arith
+  due-in-order NoMore Γ at = omega arith & omega arith
 
   -- the tests of each line stand in the order of their numbers, from 2 to 10
   pub tests-in-order : (k : ℕ) → InOrder 1 10 (tests sheet k)

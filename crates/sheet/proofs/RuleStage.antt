@@ -28,6 +28,7 @@ use Rattle.sheet.proofs.RowTests.{isNamed}
 use Rattle.sheet.specs.Stage.{toCome, Stage}
 use Rattle.sheet.proofs.Rows.{Passes}
 use Rattle.sheet.proofs.Arrays.{arrays-rule}
+use Rattle.sheet.proofs.Stages.{came-le}
 
 -- a limit by its size
 neg-limits : (m : ℕ) → m ≤ L.horizon → InLimits (negℤ (pos m))
@@ -44,6 +45,7 @@ module _ (sheet : List ℕ) {m : ℕ} {Γ : Network} {at k : ℕ} where
       → Stage sheet (toCome Rules m) (withLine sheet Rules Γ at (fields (lineAt sheet at))) (afterLine sheet at) (suc k)
   unfolding endsTests ruleTests
   stage-rule g p =
+      let w = g .forming in
       let fs = fields (lineAt sheet at) in
       let holds = all-hold (ruleTests sheet Γ fs) (p .accepted) in
       let ls = labelOf (field 4 fs) in
@@ -51,34 +53,36 @@ module _ (sheet : List ℕ) {m : ℕ} {Γ : Network} {at k : ℕ} where
       let ends = and-true (answers (eventOf sheet Γ (field 1 fs)))
       (answers (eventOf sheet Γ (field 2 fs)) && allDefined (Γ .signals) (Γ .letters) (lettersOf ls)) (holds 4) in
       let rest = and-true (answers (eventOf sheet Γ (field 2 fs))) (allDefined (Γ .signals) (Γ .letters) (lettersOf ls)) (ends .1) in
-      let few : Γ .signals ≤ L.signals = omega (arith, g .signals) in
-      let room = g .rules in
-      let kept = g .arrays .constraints in
+      let few = w .signals in
+      let room = w .rules in
+      let kept = w .arrays .constraints in
       record {
-        horizon = g .horizon;
-        some-event = g .some-event;
-        events = g .events;
-        signals = g .signals;
-        rules = omega (arith, g .rules);
-        arrays = arrays-rule (g .arrays) c;
-        observed = g .observed;
-        one-signal = g .one-signal;
-        proper = λ d h.
-            elim (eq-or-ne d (Γ .rules)) [
-              | inl x ↦
-                  rw (x, getD-set-same (Γ .constraints) (Γ .rules) c noConstraint (omega arith))
-                  (record {
-                    from = finds-answer (isNamed sheet Γ (field 1 fs)) (Γ .events) 0 (ends .0) .index-lt;
-                    to = finds-answer (isNamed sheet Γ (field 2 fs)) (Γ .events) 0 (rest .0) .index-lt;
-                    bound = limits-of (field 3 fs) (leb-true (magnitude (field 3 fs)) L.horizon (holds 2));
-                    positive = sum-is (Γ .signals) (Γ .letters) true ls few (rest .1) (holds 5) .below;
-                    negative = sum-is (Γ .signals) (Γ .letters) false ls few (rest .1) (holds 5) .below;
-                  })
-              | inr x ↦
-                  let w = g .proper d (omega arith) in
-                  rw (getD-set-other (Γ .constraints) (Γ .rules) d c noConstraint x)
-                  (record { from = w .from; to = w .to; bound = w .bound; positive = w .positive; negative = w .negative })
-            ];
+        forming = record {
+          horizon = w .horizon;
+          some-event = w .some-event;
+          events = w .events;
+          signals = w .signals;
+          rules = came-le (Γ .rules) m L.rules (w .rules);
+          arrays = arrays-rule (w .arrays) c;
+          observed = w .observed;
+          one-signal = w .one-signal;
+          proper = λ d h.
+              elim (eq-or-ne d (Γ .rules)) [
+                | inl x ↦
+                    rw (x, getD-set-same (Γ .constraints) (Γ .rules) c noConstraint (omega arith))
+                    (record {
+                      from = finds-answer (isNamed sheet Γ (field 1 fs)) (Γ .events) 0 (ends .0) .index-lt;
+                      to = finds-answer (isNamed sheet Γ (field 2 fs)) (Γ .events) 0 (rest .0) .index-lt;
+                      bound = limits-of (field 3 fs) (leb-true (magnitude (field 3 fs)) L.horizon (holds 2));
+                      positive = sum-is (Γ .signals) (Γ .letters) true ls few (rest .1) (holds 5) .below;
+                      negative = sum-is (Γ .signals) (Γ .letters) false ls few (rest .1) (holds 5) .below;
+                    })
+                | inr x ↦
+                    let y = w .proper d (omega arith) in
+                    rw (getD-set-other (Γ .constraints) (Γ .rules) d c noConstraint x)
+                    (record { from = y .from; to = y .to; bound = y .bound; positive = y .positive; negative = y .negative })
+              ];
+        };
         named = record { inside = g .named .inside; short = g .named .short };
         inside = line-inside sheet at (p .ends);
         line = omega (arith, g .line);

@@ -35,15 +35,17 @@ use Rattle.sheet.proofs.Turns.{Before, stage-keeps}
 module _ (sheet : List ℕ) where
   pub stage-empty : (h at k : ℕ) → h ≤ L.horizon → at ≤ length sheet → k ≤ suc at → Stage sheet (whole Events) (empty h) at k
   stage-empty h at k b i l = record {
-    horizon = b;
-    some-event = omega arith;
-    events = omega arith;
-    signals = omega arith;
-    rules = omega arith;
-    arrays = arrays-empty h;
-    observed = λ p q. absurd (omega arith);
-    one-signal = λ p q a c e. absurd (omega arith);
-    proper = λ c q. absurd (omega arith);
+    forming = record {
+      horizon = b;
+      some-event = omega arith;
+      events = omega arith;
+      signals = omega arith;
+      rules = omega arith;
+      arrays = arrays-empty h;
+      observed = λ p q. absurd (omega arith);
+      one-signal = λ p q a c e. absurd (omega arith);
+      proper = λ c q. absurd (omega arith);
+    };
     named = record { inside = λ u q. absurd (omega arith); short = λ u q. absurd (omega arith) };
     inside = i;
     line = l;
@@ -103,20 +105,7 @@ module _ (sheet : List ℕ) where
 
 pub read-well-formed : (sheet : List ℕ) (Γ : Network) (at k : ℕ) → progress sheet ≡ Go Γ at k → WellFormed Γ × Named sheet Γ
 read-well-formed sheet Γ at k e =
-    let g = read-stage sheet Γ at k e .2 in (
-      record {
-        horizon = g .horizon;
-        some-event = omega (arith, g .some-event);
-        events = omega (arith, g .events);
-        signals = omega (arith, g .signals);
-        rules = omega (arith, g .rules);
-        arrays = g .arrays;
-        observed = g .observed;
-        one-signal = g .one-signal;
-        proper = g .proper;
-      },
-      g .named,
-    )
+    let g = read-stage sheet Γ at k e .2 in (g .forming, g .named)
 
 -- the same of the reader's answer
 pub accepted-well-formed : (sheet : List ℕ) → read sheet .outcome ≡ Accepted

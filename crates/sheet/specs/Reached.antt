@@ -2,9 +2,10 @@
 use mathlib.Core.Path.{_≡_}
 use mathlib.Core.List.{List}
 use Prim.Native.Nat.{ℕ}
+use Rattle.network.specs.WellFormed.{ToCome}
 use Rattle.network.specs.declared.Network.{Network}
 use Rattle.sheet.specs.Reading.{Progress, Stop, Go}
-use Rattle.sheet.specs.Stage.{ToCome, Stage}
+use Rattle.sheet.specs.Stage.{Stage}
 use Rattle.sheet.specs.declared.Step.{Step}
 use Rattle.sheet.specs.declared.Step.the-variants.{Refused, Next}
 use Rattle.sheet.specs.declared.Reached.{Reached}

@@ -1,21 +1,13 @@
 -- What holds of the network at every line of the sheet, so that the lines that follow need not ask again.
-use mathlib.Core.Path.{_≡_}
 use mathlib.Core.List.{List}
-use Prim.Native.Nat.{ℕ, suc, _+_, _≤_, _<_}
+use Prim.Native.Nat.{ℕ, suc, _≤_}
 use lib.ListN.{length}
 use Rattle.network.specs.Limits as L
-use Rattle.network.specs.Build.{observation, constraint}
-use Rattle.network.specs.WellFormed.{Proper, Arrays, Named}
+use Rattle.network.specs.WellFormed.{ToCome, Forming, Named}
 use Rattle.network.specs.declared.Network.{Network}
 use Rattle.line.specs.Sections.{headingOf}
 use Rattle.line.specs.declared.Section.{Section}
 use Rattle.line.specs.declared.Section.the-variants.{Events, Signals, Rules}
-
--- how many lines of each section are still to come, at most
-pub record ToCome : Type 0 where
-  pub events : ℕ
-  pub signals : ℕ
-  pub rules : ℕ
 
 -- m lines of this section, and all that stand behind it
 abbrev pub toCome : Section → ℕ → ToCome
@@ -29,15 +21,7 @@ whole s = toCome s (headingOf s .most)
 
 -- the next line is line k and begins at this place of the sheet
 pub record Stage (sheet : List ℕ) (t : ToCome) (Γ : Network) (at k : ℕ) : Type 0 where
-  pub horizon : Γ .horizon ≤ L.horizon
-  pub some-event : 1 ≤ Γ .events + t .events
-  pub events : Γ .events + t .events ≤ L.events
-  pub signals : Γ .signals + t .signals ≤ L.signals
-  pub rules : Γ .rules + t .rules ≤ L.rules
-  pub arrays : Arrays Γ
-  pub observed : (p : ℕ) → p < Γ .signals → observation Γ p < Γ .events
-  pub one-signal : (p q : ℕ) → p < Γ .signals → q < Γ .signals → observation Γ p ≡ observation Γ q → p ≡ q
-  pub proper : (c : ℕ) → c < Γ .rules → Proper Γ (constraint Γ c)
+  pub forming : Forming t Γ
   pub named : Named sheet Γ
   pub inside : at ≤ length sheet
   -- each line before this one has its line feed

@@ -7,7 +7,7 @@ use native.Mathlib.Omega.{arith}
 use Rattle.line.specs.Sections.{added}
 use Rattle.sheet.specs.Reading.{readRows}
 use Rattle.sheet.proofs.Turns.{RowsLeft, reads-end}
-use Rattle.sheet.proofs.Lines.{names-in, row-stop, RowTurn, row-turn}
+use Rattle.sheet.proofs.Lines.{names-in, few-signals, row-stop, RowTurn, row-turn}
 use Rattle.sheet.proofs.section.read_rows.Statement.{statement}
 use Rattle.sheet.proofs.section.read_rows.Tie as tie
 
@@ -33,7 +33,7 @@ part-row-at-end c = search needs
 row-at-requires : tie.Need-row-at-requires Inv-loop μ-loop
 row-at-requires c κs =
     let loop = c .before .before .before .before .before .before .before .loop in
-    (names-in (loop .inv .stage), omega (arith, loop .inv .stage .signals))
+    (names-in (loop .inv .stage), few-signals (loop .inv .stage))
 
 enum-known-row : tie.Need-enum-known-row Inv-loop μ-loop
 enum-known-row c = search needs
