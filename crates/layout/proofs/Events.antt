@@ -24,7 +24,7 @@ use Rattle.layout.proofs.Kept.{KeptNames, NewName, may-name}
 use Rattle.layout.proofs.Extends.{contents}
 use Rattle.layout.proofs.Stands.{Stands, event-added}
 use Rattle.layout.proofs.Finds.{event-in, event-answers}
-use Rattle.layout.proofs.Row.{Understood}
+use Rattle.layout.proofs.Entries.{Understood}
 
 module _ (sheet : List ℕ) (h : ℕ) where
   module _ {Γ : Network} {ns : List (List ℕ)} (c : Stands sheet Γ (contents h ns [] [])) where

@@ -8,7 +8,7 @@ pub mod Finds
 pub mod Extends
 pub mod Kept
 pub mod Stands
-pub mod Row
+pub mod Entries
 pub mod Events
 pub mod Signals
 pub mod KindWords

@@ -20,7 +20,7 @@ use Rattle.layout.specs.Contains.{Contains}
 use Rattle.layout.proofs.Kept.{KeptNames, KeptSignals, KeptRules}
 use Rattle.layout.proofs.Extends.{contents}
 use Rattle.layout.proofs.Stands.{Stands, empty-stands}
-use Rattle.layout.proofs.Row.{Reads}
+use Rattle.layout.proofs.Entries.{Reads}
 use Rattle.layout.proofs.Events.{events-understood}
 use Rattle.layout.proofs.Signals.{signals-understood}
 use Rattle.layout.proofs.Rules.{rules-understood}

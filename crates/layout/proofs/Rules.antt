@@ -30,7 +30,7 @@ use Rattle.layout.proofs.Finds.{event-in}
 use Rattle.layout.proofs.Extends.{contents}
 use Rattle.layout.proofs.Kept.{KeptRules}
 use Rattle.layout.proofs.Stands.{Stands, rule-added}
-use Rattle.layout.proofs.Row.{Understood}
+use Rattle.layout.proofs.Entries.{Understood}
 use Rattle.layout.proofs.KindWords.{kind-read, defined-read}
 use Rattle.layout.proofs.RuleLine.{rule-means, rule-passes, rule-plain}
 

@@ -20,14 +20,14 @@ use Rattle.network.specs.declared.Network.{Network}
 use Rattle.line.specs.Tests.{sectionTests, sectionCount}
 use Rattle.line.specs.Sections.{Heading, headingOf, headingTests}
 use Rattle.line.specs.declared.Section.{Section}
-use Rattle.sheet.specs.Reading.{Progress, Go, readLine, readRows, readSection}
-use Rattle.sheet.proofs.Rows.{went}
+use Rattle.sheet.specs.Reading.{Progress, Go, readLine, readEntries, readSection}
+use Rattle.sheet.proofs.ReadLine.{went}
 use Rattle.layout.specs.Layout.{line, lines, section}
 use Rattle.layout.proofs.Lines.{plain, lineOf, is-read, line-read}
 use Rattle.layout.proofs.Numbers.{isNumber-decimal, magnitude-decimal, inRange-decimal, plain-decimal}
 use Rattle.layout.proofs.Numbers.{decimal-magnitude}
 use Rattle.prelude.proofs.Lists.{all-of}
-use Rattle.layout.proofs.Row.{Understood, rows-read, Reads, rows-reads, readLine-passes, joins, parts}
+use Rattle.layout.proofs.Entries.{Understood, entries-read, Reads, entries-reads, readLine-passes, joins, parts}
 
 -- a count, behind its word
 module _ (h : Heading) where
@@ -102,15 +102,15 @@ module _ {sheet : List ℕ} {s : Section} {X : Type 0} {first : X → List ℕ} 
   abbrev head : Heading
   head = headingOf s
 
-  abbrev rows : List (List ℕ) → Progress
-  rows fs = readRows sheet s (sectionCount fs) Γ (afterLine sheet at) (suc k)
+  abbrev entries : List (List ℕ) → Progress
+  entries fs = readEntries sheet s (sectionCount fs) Γ (afterLine sheet at) (suc k)
 
   pub section-read : (Δ : Network) (end number : ℕ) → readSection sheet s Γ at k ≡ Go Δ end number
       → SectionRead sheet Held head text at Δ end
   section-read Δ end number g =
-      let c = count-line-read sheet head at k rows Δ end number g in
+      let c = count-line-read sheet head at k entries Δ end number g in
       let m = sectionCount (c .fs) in
-      let r = rows-read w m Γ [] (afterLine sheet at) (suc k) start (omega (arith, c .high)) Δ end number (c .then) in
+      let r = entries-read w m Γ [] (afterLine sheet at) (suc k) start (omega (arith, c .high)) Δ end number (c .then) in
       let n : m ≡ length (map text (r .items)) = omega (arith, r .count, length-map (r .items) text) in
       record {
         items = r .items;
@@ -133,8 +133,8 @@ module _ {sheet : List ℕ} {s : Section} {X : Type 0} {first : X → List ℕ} 
       let e : n ≡ length ys = length-map ys text in
       let body = lines (map text ys) in
       let l = parts (drop at sheet) (line (ascii (head .word)) (decimal n ∷ [])) body rest t in
-      let c = count-line-reads sheet head at k rows p n (body ++ rest) (omega arith) (omega arith) l in
-      let r = rows-reads w ys Γ [] (afterLine sheet at) (suc k) rest start kept (omega arith) (c .0) in
+      let c = count-line-reads sheet head at k entries p n (body ++ rest) (omega arith) (omega arith) l in
+      let r = entries-reads w ys Γ [] (afterLine sheet at) (suc k) rest start kept (omega arith) (c .0) in
       let count : magnitude (decimal n) ≡ length ys = magnitude-decimal n ∙ e in
       record {
         network = r .network;

@@ -36,7 +36,7 @@ use Rattle.layout.proofs.Finds.{
   observed-in,
   observed-test,
 }
-use Rattle.layout.proofs.Row.{Understood}
+use Rattle.layout.proofs.Entries.{Understood}
 
 module _ (sheet : List ℕ) (h : ℕ) (names : List (List ℕ)) where
   module _ {Γ : Network} {xs : List Signal} (c : Stands sheet Γ (contents h names xs [])) where

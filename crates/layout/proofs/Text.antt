@@ -14,9 +14,9 @@ use Rattle.refusal.specs.Refusal.{refusal}
 use Rattle.refusal.specs.declared.Cause.the-variants.{TrailingBytes}
 use Rattle.network.specs.declared.Network.{Network}
 use Rattle.sheet.specs.Reading.{Progress, Go, andThen, readEnd}
-use Rattle.sheet.proofs.Rows.{stop-not-go}
+use Rattle.sheet.proofs.ReadLine.{stop-not-go}
 use Rattle.layout.specs.Layout.{Signal, Rule, line, section, signalLine, ruleLine}
-use Rattle.layout.proofs.Row.{joins}
+use Rattle.layout.proofs.Entries.{joins}
 
 abbrev pub horizonText : ℕ → List ℕ
 horizonText h = line (ascii "horizon") (decimal h ∷ [])

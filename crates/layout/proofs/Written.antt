@@ -12,7 +12,7 @@ use Rattle.line.specs.Tests.{sectionCount}
 use Rattle.line.specs.Sections.{headingOf, horizonHeading}
 use Rattle.line.specs.declared.Section.the-variants.{Events, Signals, Rules}
 use Rattle.sheet.specs.Reading.{longest, Go, readHorizon, readSection, readEnd, progress}
-use Rattle.sheet.proofs.Rows.{Came, came}
+use Rattle.sheet.proofs.ReadLine.{Came, came}
 use Rattle.sheet.proofs.Whole.{toEvents, toSignals, toRules, toEnd, within-length}
 use Rattle.layout.specs.Layout.{Signal, Contents, Keeps, Layout, line, signalLine, ruleLine}
 use Rattle.layout.proofs.Extends.{contents}

@@ -12,23 +12,23 @@ use Rattle.refusal.specs.declared.Cause.{Cause}
 use Rattle.network.specs.declared.Network.{Network}
 use Rattle.line.specs.Tests.{lineTests, isObservation, eventOf, eventTests, signalTests, endsTests, ruleTests}
 use Rattle.line.specs.Sections.{testsOf, entryOf}
-use Rattle.line.specs.Answers.{partsOf, rowAnswer, rowBy, rowAt}
+use Rattle.line.specs.Answers.{partsOf, entryAnswer, entryBy, entryAt}
 use Rattle.line.specs.declared.Section.{Section}
 use Rattle.line.specs.declared.Section.the-variants.{Events, Signals, Rules}
-use Rattle.line.specs.declared.row.Entry.{Entry}
-use Rattle.line.specs.declared.row.Row.{Row}
-use Rattle.line.specs.declared.row.Row.the-variants as R
+use Rattle.line.specs.declared.entry.Entry.{Entry}
+use Rattle.line.specs.declared.entry.EntryLine.{EntryLine}
+use Rattle.line.specs.declared.entry.EntryLine.the-variants as R
 use Rattle.line.proofs.Refusals.{line-ends, line-is}
 
 -- an answer is a refusal, or what the line holds
-pub row-answer-refused : (o : Option Cause) (x : Entry) (n : ℕ) (c : Cause) → rowAnswer o x n ≡ R.Refused c → o ≡ some c
-row-answer-refused none x n c e = zero-is-one cc
-row-answer-refused (some d) x n c e = cc
+pub entry-answer-refused : (o : Option Cause) (x : Entry) (n : ℕ) (c : Cause) → entryAnswer o x n ≡ R.Refused c → o ≡ some c
+entry-answer-refused none x n c e = zero-is-one cc
+entry-answer-refused (some d) x n c e = cc
 
-pub row-answer : (o : Option Cause) (x : Entry) (n : ℕ) (y : Entry) (m : ℕ) → rowAnswer o x n ≡ R.Holds y m
+pub entry-answer : (o : Option Cause) (x : Entry) (n : ℕ) (y : Entry) (m : ℕ) → entryAnswer o x n ≡ R.Holds y m
     → (o ≡ none) × (x ≡ y) × (n ≡ m)
-row-answer none x n y m e = (refl, cc, cc)
-row-answer (some d) x n y m e = zero-is-one cc
+entry-answer none x n y m e = (refl, cc, cc)
+entry-answer (some d) x n y m e = zero-is-one cc
 
 -- the part of the sheet that begins at a place
 abbrev pub partAt : List ℕ → ℕ → List ℕ
@@ -56,33 +56,33 @@ module _ (sheet : List ℕ) (Γ : Network) (fs : List (List ℕ)) where
 
 -- an event's line asks for no letters, and a rule's for no observations
 module _ (sheet : List ℕ) (Γ : Network) (line : List ℕ) where
-  pub event-parts : rowBy line Events sheet (partsOf (Γ .events) (Γ .starts) (Γ .lengths) 0 [] [])
-      ≡ rowBy line Events sheet Γ
+  pub event-parts : entryBy line Events sheet (partsOf (Γ .events) (Γ .starts) (Γ .lengths) 0 [] [])
+      ≡ entryBy line Events sheet Γ
   unfolding eventTests
   event-parts = refl
 
-  pub rule-parts : rowBy line Rules sheet (partsOf (Γ .events) (Γ .starts) (Γ .lengths) (Γ .signals) (Γ .letters) [])
-      ≡ rowBy line Rules sheet Γ
+  pub rule-parts : entryBy line Rules sheet (partsOf (Γ .events) (Γ .starts) (Γ .lengths) (Γ .signals) (Γ .letters) [])
+      ≡ entryBy line Rules sheet Γ
   unfolding endsTests ruleTests
   rule-parts = refl
 
 -- a line that ends at e is read by its fields
-pub row-ends : (sheet : List ℕ) (Γ : Network) (rest : List ℕ) (e : ℕ) → e ≡ length (upTo lineFeed rest) → (e ≡ length rest → ⊥)
-    → (s t : Section) → t ≡ s → rowBy (take e rest) s sheet Γ ≡ rowAt rest t sheet Γ
-row-ends sheet Γ rest e is n s t q =
-    ap (λ (l : List ℕ). rowBy l s sheet Γ) (line-is rest e is) ∙ sym (rw (line-ends rest e is n))
-    ∙ ap (λ (t : Section). rowAt rest t sheet Γ) (sym q)
+pub entry-ends : (sheet : List ℕ) (Γ : Network) (rest : List ℕ) (e : ℕ) → e ≡ length (upTo lineFeed rest) → (e ≡ length rest → ⊥)
+    → (s t : Section) → t ≡ s → entryBy (take e rest) s sheet Γ ≡ entryAt rest t sheet Γ
+entry-ends sheet Γ rest e is n s t q =
+    ap (λ (l : List ℕ). entryBy l s sheet Γ) (line-is rest e is) ∙ sym (rw (line-ends rest e is n))
+    ∙ ap (λ (t : Section). entryAt rest t sheet Γ) (sym q)
 
 -- what the reader of a line answers there, as an answer about the network
 module _ (sheet : List ℕ) (s : Section) (Γ : Network) (at : ℕ) where
   abbrev fs : List (List ℕ)
   fs = fields (lineAt sheet at)
 
-  abbrev pub answerAt : Row
-  answerAt = rowAt (partAt sheet at) s sheet (parts sheet Γ fs)
+  abbrev pub answerAt : EntryLine
+  answerAt = entryAt (partAt sheet at) s sheet (parts sheet Γ fs)
 
-  pub row-at : answerAt
-      ≡ rowAnswer (firstFailing (lineTests (drop at sheet) (testsOf sheet s Γ))) (entryOf sheet s Γ fs) (length (lineAt sheet at))
-  row-at =
-      ap (λ (l : List ℕ). rowAt l s sheet (parts sheet Γ fs)) (take-drop sheet at)
+  pub entry-at : answerAt
+      ≡ entryAnswer (firstFailing (lineTests (drop at sheet) (testsOf sheet s Γ))) (entryOf sheet s Γ fs) (length (lineAt sheet at))
+  entry-at =
+      ap (λ (l : List ℕ). entryAt l s sheet (parts sheet Γ fs)) (take-drop sheet at)
       ∙ rw (tests-parts sheet Γ fs s, entry-parts sheet Γ fs s)

@@ -26,18 +26,18 @@ use Rattle.network.specs.declared.Kind.the-variants.{Max}
 use Rattle.network.specs.declared.Network.{Network}
 use Rattle.prelude.proofs.Tests.{zero-is-one, and-true as both}
 use Rattle.names.specs.Names.{isName, isOneLetter, isLabel, literals, labelOf, lettersOf}
-use Rattle.names.specs.Defined.{placeOf, allDefined, maskOf}
+use Rattle.names.specs.Defined.{placeOf, allDefined}
 use Rattle.names.specs.Found.{foundOf, isFound}
 use Rattle.names.specs.declared.Found.{Found}
 use Rattle.names.proofs.Finds.{found-answers}
 use Rattle.line.specs.Tests.{countTests, sectionTests, eventOf, eventTests, signalTests, endsTests, ruleTests}
 use Rattle.line.specs.Tests.{isObservation, kindOf}
-use Rattle.line.specs.Sections.{ruleOf}
-use Rattle.line.specs.Answers.{givesFound, checkOf, kindFound, limitOf, rowAnswer, endsAnswer}
+use Rattle.line.specs.Sections.{constraintOf, ruleOf}
+use Rattle.line.specs.Answers.{givesFound, checkOf, kindFound, limitOf, entryAnswer, endsAnswer}
 use Rattle.line.specs.declared.Check.the-variants as K
 use Rattle.line.specs.declared.KindField.the-variants as F
 use Rattle.line.specs.declared.Limit.the-variants as M
-use Rattle.line.specs.declared.row.Entry.the-variants as E
+use Rattle.line.specs.declared.entry.Entry.the-variants as E
 use Rattle.line.proofs.Checks.{all-hold, three-same}
 use Rattle.line.proofs.Numbers.{value-fits}
 
@@ -222,20 +222,14 @@ module _ (sheet : List ℕ) (Γ : Network) (from to label t : List ℕ) (is : li
       record { all-known = rw is (both (answers (eventOf sheet Γ to)) d (w .1) .1); all-unlike = rw is (holds 2) }
 
 -- a rule whose kind and limit have passed, by its ends and its label
-pub ends-row : (sheet : List ℕ) (Γ : Network) (fs : List (List ℕ)) (k : Kind) (z : ℤ) (n : ℕ) → length fs ≡ 5
+pub ends-entry : (sheet : List ℕ) (Γ : Network) (fs : List (List ℕ)) (k : Kind) (z : ℤ) (n : ℕ) → length fs ≡ 5
     → kindOf (field 0 fs) ≡ some k → LimitIs (field 3 fs) z
     → endsAnswer sheet Γ (field 1 fs) (field 2 fs) (field 4 fs) k z n
-    ≡ rowAnswer (firstFailing (ruleTests sheet Γ fs)) (E.Rule (ruleOf sheet Γ fs)) n
-ends-row sheet Γ fs k z n five e w =
+    ≡ entryAnswer (firstFailing (ruleTests sheet Γ fs)) (E.Rule (ruleOf sheet Γ fs)) n
+ends-entry sheet Γ fs k z n five e w =
     let value = w .value in
     let kind : Option·getD (kindOf (field 0 fs)) Max ≡ k = ap (λ (o : Option Kind). Option·getD o Max) e in
-    let made : ruleOf sheet Γ fs ≡ record {
-      kind = k;
-      from = Option·getD (eventOf sheet Γ (field 1 fs)) 0;
-      to = Option·getD (eventOf sheet Γ (field 2 fs)) 0;
-      bound = z;
-      label = maskOf (Γ .signals) (Γ .letters) (labelOf (field 4 fs));
-    } = rw (kind, value) in
+    let made : ruleOf sheet Γ fs ≡ constraintOf sheet Γ k (field 1 fs) (field 2 fs) z (field 4 fs) = rw (kind, value) in
     sym (rw (rule-tests sheet Γ fs k five e (w .well-formed) (w .in-range), made))
 
 pub limit-fits : (f : List ℕ) (z : ℤ) → LimitIs f z → toZ w32 (ofZ w32 z) ≡ z

@@ -1,6 +1,6 @@
 -- What the readers of a line answer, and what they are lent.
 use mathlib.Core.Bool.{Bool, false, cond}
-use mathlib.Core.Option.{Option, none, some, Option·getD}
+use mathlib.Core.Option.{Option, none, some}
 use mathlib.Core.List.{List, []}
 use Prim.Native.Nat.{ℕ}
 use lib.IntN.{ℤ}
@@ -14,25 +14,24 @@ use Rattle.refusal.specs.declared.Cause.{Cause}
 use Rattle.network.specs.Limits as L
 use Rattle.network.specs.declared.Kind.{Kind}
 use Rattle.network.specs.declared.Network.{Network}
-use Rattle.names.specs.Names.{labelOf}
-use Rattle.names.specs.Defined.{maskOf, givesSignal}
+use Rattle.names.specs.Defined.{givesSignal}
 use Rattle.names.specs.declared.Found.{Found}
 use Rattle.names.specs.declared.Found.the-variants.{At, Nothing}
-use Rattle.line.specs.Tests.{Tests, lineTests, sectionTests, sectionCount, endsTests, eventOf}
-use Rattle.line.specs.Sections.{Heading, testsOf, entryOf}
+use Rattle.line.specs.Tests.{Tests, lineTests, sectionTests, sectionCount, endsTests}
+use Rattle.line.specs.Sections.{Heading, testsOf, constraintOf, entryOf}
 use Rattle.line.specs.declared.Check.{Check}
 use Rattle.line.specs.declared.Check.the-variants as K
 use Rattle.line.specs.declared.KindField.{KindField}
 use Rattle.line.specs.declared.KindField.the-variants as F
 use Rattle.line.specs.declared.Limit.{Limit}
 use Rattle.line.specs.declared.Limit.the-variants as M
-use Rattle.line.specs.declared.SectionRow.{SectionRow}
-use Rattle.line.specs.declared.SectionRow.the-variants as S
+use Rattle.line.specs.declared.HeadingLine.{HeadingLine}
+use Rattle.line.specs.declared.HeadingLine.the-variants as S
 use Rattle.line.specs.declared.Section.{Section}
-use Rattle.line.specs.declared.row.Entry.{Entry}
-use Rattle.line.specs.declared.row.Entry.the-variants as E
-use Rattle.line.specs.declared.row.Row.{Row}
-use Rattle.line.specs.declared.row.Row.the-variants as R
+use Rattle.line.specs.declared.entry.Entry.{Entry}
+use Rattle.line.specs.declared.entry.Entry.the-variants as E
+use Rattle.line.specs.declared.entry.EntryLine.{EntryLine}
+use Rattle.line.specs.declared.entry.EntryLine.the-variants as R
 
 -- whether one of k signals is given by an event that was looked for
 abbrev pub givesFound : ℕ → List ℕ → Found → Bool
@@ -68,54 +67,47 @@ partsOf n starts lengths k letters observations = record {
 }
 
 -- what the reader of a line answers: its refusal, or what it holds and how long it is
-abbrev pub sectionAnswer : Option Cause → ℕ → ℕ → SectionRow
+abbrev pub sectionAnswer : Option Cause → ℕ → ℕ → HeadingLine
 sectionAnswer (some c) m n = S.Refused c
 sectionAnswer none m n = S.Count m n
 
-abbrev pub rowAnswer : Option Cause → Entry → ℕ → Row
-rowAnswer (some c) x n = R.Refused c
-rowAnswer none x n = R.Holds x n
+abbrev pub entryAnswer : Option Cause → Entry → ℕ → EntryLine
+entryAnswer (some c) x n = R.Refused c
+entryAnswer none x n = R.Holds x n
 
 -- a rule whose kind and limit have passed, by its ends and its label
-abbrev pub endsAnswer : List ℕ → Network → List ℕ → List ℕ → List ℕ → Kind → ℤ → ℕ → Row
+abbrev pub endsAnswer : List ℕ → Network → List ℕ → List ℕ → List ℕ → Kind → ℤ → ℕ → EntryLine
 endsAnswer sheet Γ from to label kind bound n =
-    rowAnswer (firstFailing (endsTests sheet Γ from to label))
-    (E.Rule (record {
-      kind = kind;
-      from = Option·getD (eventOf sheet Γ from) 0;
-      to = Option·getD (eventOf sheet Γ to) 0;
-      bound = bound;
-      label = maskOf (Γ .signals) (Γ .letters) (labelOf label);
-    }))
-    n
+    entryAnswer (firstFailing (endsTests sheet Γ from to label))
+    (E.Rule (constraintOf sheet Γ kind from to bound label)) n
 
 -- of a line without its line feed, by the tests that are made of it, given those of its fields
 module _ (line : List ℕ) (made : (List (List ℕ) → Tests) → Tests) where
-  abbrev pub sectionOf : List ℕ → ℕ → ℕ → SectionRow
-  sectionOf word lo hi =
+  abbrev pub sectionUnder : List ℕ → ℕ → ℕ → HeadingLine
+  sectionUnder word lo hi =
       sectionAnswer (firstFailing (made (sectionTests word lo hi))) (sectionCount (fields line)) (length line)
 
-  abbrev pub rowOf : Section → List ℕ → Network → Row
-  rowOf s sheet Γ = rowAnswer (firstFailing (made (testsOf sheet s Γ))) (entryOf sheet s Γ (fields line)) (length line)
+  abbrev pub entryUnder : Section → List ℕ → Network → EntryLine
+  entryUnder s sheet Γ = entryAnswer (firstFailing (made (testsOf sheet s Γ))) (entryOf sheet s Γ (fields line)) (length line)
 
 -- of a line by its fields alone
 module _ (line : List ℕ) where
   abbrev byFields : (List (List ℕ) → Tests) → Tests
   byFields ts = ts (fields line)
 
-  abbrev pub sectionBy : List ℕ → ℕ → ℕ → SectionRow
-  sectionBy = sectionOf line byFields
+  abbrev pub sectionBy : List ℕ → ℕ → ℕ → HeadingLine
+  sectionBy = sectionUnder line byFields
 
-  abbrev pub rowBy : Section → List ℕ → Network → Row
-  rowBy = rowOf line byFields
+  abbrev pub entryBy : Section → List ℕ → Network → EntryLine
+  entryBy = entryUnder line byFields
 
 -- of the line that begins here
 module _ (rest : List ℕ) where
-  abbrev pub sectionAt : List ℕ → ℕ → ℕ → SectionRow
-  sectionAt = sectionOf (upTo lineFeed rest) (lineTests rest)
+  abbrev pub sectionAt : List ℕ → ℕ → ℕ → HeadingLine
+  sectionAt = sectionUnder (upTo lineFeed rest) (lineTests rest)
 
-  abbrev pub headingAt : Heading → SectionRow
+  abbrev pub headingAt : Heading → HeadingLine
   headingAt h = sectionAt (ascii (h .word)) (h .least) (h .most)
 
-  abbrev pub rowAt : Section → List ℕ → Network → Row
-  rowAt = rowOf (upTo lineFeed rest) (lineTests rest)
+  abbrev pub entryAt : Section → List ℕ → Network → EntryLine
+  entryAt = entryUnder (upTo lineFeed rest) (lineTests rest)

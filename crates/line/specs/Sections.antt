@@ -4,12 +4,14 @@ use mathlib.Core.Option.{Option·getD}
 use mathlib.Core.List.{List}
 use Prim.Native.Nat.{ℕ}
 use Prim.Native.String.{String}
+use lib.IntN.{ℤ}
 use lib.ListN.{length, getD}
 use Rattle.prelude.specs.Bytes.{ascii}
 use Rattle.text.specs.Lines.{field}
 use Rattle.text.specs.Number.{valueOf}
 use Rattle.network.specs.Limits as L
 use Rattle.network.specs.Build.{withEvent, withSignal, withRule}
+use Rattle.network.specs.declared.Kind.{Kind}
 use Rattle.network.specs.declared.Kind.the-variants.{Max}
 use Rattle.network.specs.declared.Constraint.{Constraint}
 use Rattle.network.specs.declared.Network.{Network}
@@ -18,8 +20,8 @@ use Rattle.names.specs.Defined.{maskOf}
 use Rattle.line.specs.Tests.{Tests, sectionTests, eventTests, signalTests, ruleTests, eventOf, kindOf}
 use Rattle.line.specs.declared.Section.{Section}
 use Rattle.line.specs.declared.Section.the-variants.{Events, Signals, Rules}
-use Rattle.line.specs.declared.row.Entry.{Entry}
-use Rattle.line.specs.declared.row.Entry.the-variants as E
+use Rattle.line.specs.declared.entry.Entry.{Entry}
+use Rattle.line.specs.declared.entry.Entry.the-variants as E
 
 -- the line that a section begins with: its word, and the range of its count
 pub record Heading : Type 0 where
@@ -46,14 +48,19 @@ added (E.Signal b u) Γ at n = withSignal Γ b u
 added (E.Rule c) Γ at n = withRule Γ c
 
 module _ (sheet : List ℕ) where
-  abbrev pub ruleOf : Network → List (List ℕ) → Constraint
-  ruleOf Γ fs = record {
-    kind = Option·getD (kindOf (field 0 fs)) Max;
-    from = Option·getD (eventOf sheet Γ (field 1 fs)) 0;
-    to = Option·getD (eventOf sheet Γ (field 2 fs)) 0;
-    bound = valueOf (field 3 fs);
-    label = maskOf (Γ .signals) (Γ .letters) (labelOf (field 4 fs));
+  -- a rule by its parts, and by its fields
+  abbrev pub constraintOf : Network → Kind → List ℕ → List ℕ → ℤ → List ℕ → Constraint
+  constraintOf Γ kind from to bound label = record {
+    kind = kind;
+    from = Option·getD (eventOf sheet Γ from) 0;
+    to = Option·getD (eventOf sheet Γ to) 0;
+    bound = bound;
+    label = maskOf (Γ .signals) (Γ .letters) (labelOf label);
   }
+
+  abbrev pub ruleOf : Network → List (List ℕ) → Constraint
+  ruleOf Γ fs =
+      constraintOf Γ (Option·getD (kindOf (field 0 fs)) Max) (field 1 fs) (field 2 fs) (valueOf (field 3 fs)) (field 4 fs)
 
   -- the tests of a section's lines
   abbrev pub testsOf : Section → Network → List (List ℕ) → Tests

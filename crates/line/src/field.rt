@@ -13,9 +13,9 @@ ghost use Rattle.names.specs.Found.{isFound};
 ghost use Rattle.line.specs.Tests.{countTests, kindOf};
 ghost use Rattle.line.specs.Answers.{checkOf, kindFound, limitOf, sectionAnswer, givesFound};
 use super::Check;
+use super::HeadingLine;
 use super::KindField;
 use super::Limit;
-use super::SectionRow;
 use super::Test;
 use names::Found;
 use names::label;
@@ -86,23 +86,23 @@ pub(crate) fn limit_of(f: &[u8]) -> Limit
 }
 
 // The count of a section, from lo to hi, on a line of this length.
-pub(crate) fn count_of(f: &[u8], lo: u32, hi: u32, length: usize) -> SectionRow
+pub(crate) fn count_of(f: &[u8], lo: u32, hi: u32, length: usize) -> HeadingLine
     requires { ⌜ hi ≤ L.horizon ⌝ }
     ensures { λ r. ⌜ r ≡ sectionAnswer (firstFailing (countTests lo hi (now (f .entry)))) (magnitude (now (f .entry)))
         length ⌝ }
 {
     let n = text::read_number(f, hi);
     match n {
-        Number::IllFormed => SectionRow::Refused(Cause::IllFormedNumber),
-        Number::Minus(_) => SectionRow::Refused(Cause::OutOfRange),
+        Number::IllFormed => HeadingLine::Refused(Cause::IllFormedNumber),
+        Number::Minus(_) => HeadingLine::Refused(Cause::OutOfRange),
         Number::Plus(v) => {
             if v < lo {
-                return SectionRow::Refused(Cause::OutOfRange);
+                return HeadingLine::Refused(Cause::OutOfRange);
             }
             if hi < v {
-                return SectionRow::Refused(Cause::OutOfRange);
+                return HeadingLine::Refused(Cause::OutOfRange);
             }
-            SectionRow::Count { count: v, length }
+            HeadingLine::Count { count: v, length }
         }
     }
 }

@@ -1,6 +1,7 @@
 // A line of the sheet: why it is refused, or what it holds.
+pub mod entry;
 mod field;
-pub mod row;
+pub mod heading;
 
 use network::Kind;
 use refusal::Cause;
@@ -37,7 +38,7 @@ enum Limit {
 }
 
 // The line that a section begins with: why it is refused, or its count, and how long it is without its line feed.
-pub enum SectionRow {
+pub enum HeadingLine {
     Refused(Cause),
     Count { count: u32, length: usize },
 }

@@ -18,7 +18,7 @@ use Rattle.line.specs.Tests.{Tests, sectionCount}
 use Rattle.line.specs.Sections.{withLine}
 use Rattle.line.specs.declared.Section.{Section}
 use Rattle.line.specs.declared.Section.the-variants.{Events, Signals, Rules}
-use Rattle.sheet.specs.Reading.{Progress, Stop, Go, stopOr, andThen, readRows, readSection, readHorizon, follows}
+use Rattle.sheet.specs.Reading.{Progress, Stop, Go, stopOr, andThen, readEntries, readSection, readHorizon, follows}
 use Rattle.sheet.specs.Place.{Due, Horizon, Heading, Entry, NoMore, behind, entries, Place, testsAt, dueAfter}
 use Rattle.sheet.specs.Place.{definedAfter}
 use Rattle.sheet.specs.Place.{next, place, tests}
@@ -77,13 +77,13 @@ module _ (sheet : List ℕ) where
       by-refusal none e = go (hold ts e)
       by-refusal (some c) e = stop c (first-fails ts c e)
 
-  rows-come : (s : Section) (m : ℕ) (Γ : Network) (at k : ℕ) → At (entries s (follows sheet at) m) Γ at k
-      → Comes (next-of s) (readRows sheet s m Γ at k)
-  rows-come s zero Γ at k a = a
-  rows-come s (suc m) Γ at k a =
+  entries-come : (s : Section) (m : ℕ) (Γ : Network) (at k : ℕ) → At (entries s (follows sheet at) m) Γ at k
+      → Comes (next-of s) (readEntries sheet s m Γ at k)
+  entries-come s zero Γ at k a = a
+  entries-come s (suc m) Γ at k a =
       by-line (next-of s) k (testsAt sheet (Entry s m) Γ at) _
       (stops (Entry s m) Γ at k a)
-      (λ h. rows-come s m (withLine sheet s Γ at (fields (lineAt sheet at))) (afterLine sheet at) (suc k)
+      (λ h. entries-come s m (withLine sheet s Γ at (fields (lineAt sheet at))) (afterLine sheet at) (suc k)
       (goes-on (Entry s m) Γ at k a h))
 
   section-comes : (s : Section) (Γ : Network) (at k : ℕ) → At (Heading s) Γ at k
@@ -91,7 +91,7 @@ module _ (sheet : List ℕ) where
   section-comes s Γ at k a =
       by-line (next-of s) k (testsAt sheet (Heading s) Γ at) _
       (stops (Heading s) Γ at k a)
-      (λ h. rows-come s (sectionCount (fields (lineAt sheet at))) Γ (afterLine sheet at) (suc k)
+      (λ h. entries-come s (sectionCount (fields (lineAt sheet at))) Γ (afterLine sheet at) (suc k)
       (goes-on (Heading s) Γ at k a h))
 
   horizon-comes : Comes (λ at. Heading Events) (readHorizon sheet)

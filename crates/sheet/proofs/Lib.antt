@@ -1,14 +1,14 @@
 -- Laws of the sheet's definitions, in reading order: places, a line's tests, and the reading by lines and sections;
 -- what each line keeps; the lines of a section; the whole sheet; its first line at fault; and examples.
 pub mod Places
-pub mod RowTests
-pub mod Rows
+pub mod Passing
+pub mod ReadLine
 pub mod Whole
 pub mod Arrays
 pub mod Stages
 pub mod SignalStage
 pub mod RuleStage
-pub mod Turns
+pub mod EntriesLeft
 pub mod Lines
 pub mod WellFormed
 pub mod Sections

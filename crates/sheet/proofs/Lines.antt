@@ -18,17 +18,17 @@ use Rattle.line.specs.Tests.{eventTests}
 use Rattle.line.specs.Sections.{testsOf, entryOf, added, withLine}
 use Rattle.line.specs.declared.Section.{Section}
 use Rattle.line.specs.declared.Section.the-variants.{Events, Signals, Rules}
-use Rattle.line.specs.declared.row.Entry.{Entry}
-use Rattle.line.specs.declared.row.Entry.the-variants as E
-use Rattle.line.specs.declared.row.Row.the-variants as R
+use Rattle.line.specs.declared.entry.Entry.{Entry}
+use Rattle.line.specs.declared.entry.Entry.the-variants as E
+use Rattle.line.specs.declared.entry.EntryLine.the-variants as R
 use Rattle.line.proofs.Checks.{all-hold}
-use Rattle.line.proofs.Answered.{row-answer-refused, row-answer, answerAt, row-at}
+use Rattle.line.proofs.Answered.{entry-answer-refused, entry-answer, answerAt, entry-at}
 use Rattle.sheet.proofs.Places.{line-inside, only-field}
 use Rattle.sheet.specs.Reading.{Progress, Stop}
 use Rattle.sheet.specs.Stage.{Stage}
-use Rattle.sheet.proofs.Rows.{refusalAt, Passes, passes}
+use Rattle.sheet.proofs.ReadLine.{refusalAt, Passes, passes}
 use Rattle.sheet.proofs.Stages.{andMore-is}
-use Rattle.sheet.proofs.Turns.{Before, RowsLeft, reads-stop, reads-on}
+use Rattle.sheet.proofs.EntriesLeft.{Before, EntriesLeft, reads-stop, reads-on}
 
 -- the events of the network are named by parts of the sheet
 pub names-in : {sheet : List ℕ} {t : ToCome} {Γ : Network} {at k : ℕ} → Stage sheet t Γ at k
@@ -67,22 +67,22 @@ module _ (sheet : List ℕ) (Γ : Network) (at k : ℕ) where
   adds Rules p = refl
 
 module _ {sheet : List ℕ} {s : Section} {p : Progress} {left : ℕ} {Γ : Network} {at k : ℕ}
-    (here : RowsLeft sheet s p left Γ at k) (some : 0 < left) where
-  pub row-stop : (c : Cause) → answerAt sheet s Γ at ≡ R.Refused c → Stop (refusal c k) ≡ p
-  row-stop c e =
+    (here : EntriesLeft sheet s p left Γ at k) (some : 0 < left) where
+  pub entry-stop : (c : Cause) → answerAt sheet s Γ at ≡ R.Refused c → Stop (refusal c k) ≡ p
+  entry-stop c e =
       reads-stop left Γ at k c here some
-      (row-answer-refused (refusalAt sheet at k (testsOf sheet s Γ)) (entryOf sheet s Γ (fields (lineAt sheet at)))
-      (length (lineAt sheet at)) c (sym (row-at sheet s Γ at) ∙ e))
+      (entry-answer-refused (refusalAt sheet at k (testsOf sheet s Γ)) (entryOf sheet s Γ (fields (lineAt sheet at)))
+      (length (lineAt sheet at)) c (sym (entry-at sheet s Γ at) ∙ e))
 
-  pub record RowTurn (x : Entry) (n : ℕ) : Type 0 where
+  pub record EntryTurn (x : Entry) (n : ℕ) : Type 0 where
     pub room : Room x Γ
     pub inside : at + n + 1 ≤ length sheet
-    pub next : RowsLeft sheet s p (left - 1) (added x Γ at n) (at + n + 1) (k + 1)
+    pub next : EntriesLeft sheet s p (left - 1) (added x Γ at n) (at + n + 1) (k + 1)
 
-  pub row-turn : (x : Entry) (n : ℕ) → answerAt sheet s Γ at ≡ R.Holds x n → RowTurn x n
-  row-turn x n e =
-      let w = row-answer (refusalAt sheet at k (testsOf sheet s Γ)) (entryOf sheet s Γ (fields (lineAt sheet at)))
-      (length (lineAt sheet at)) x n (sym (row-at sheet s Γ at) ∙ e) in
+  pub entry-turn : (x : Entry) (n : ℕ) → answerAt sheet s Γ at ≡ R.Holds x n → EntryTurn x n
+  entry-turn x n e =
+      let w = entry-answer (refusalAt sheet at k (testsOf sheet s Γ)) (entryOf sheet s Γ (fields (lineAt sheet at)))
+      (length (lineAt sheet at)) x n (sym (entry-at sheet s Γ at) ∙ e) in
       let pass = passes sheet at k (testsOf sheet s Γ) (w .0) in
       let entry = w .1 in
       let size = w .2 in

@@ -55,7 +55,8 @@ module _ (sheet : List ℕ) where
   due-in-order (Heading s) Γ at = omega arith & omega arith & omega arith & omega arith & omega arith
   due-in-order (Entry Events m) Γ at = omega arith & omega arith & omega arith & omega arith & omega arith
   due-in-order (Entry Signals m) Γ at = omega arith & omega arith & omega arith & omega arith & omega arith & omega arith
-  due-in-order (Entry Rules m) Γ at = omega arith & omega arith & omega arith & omega arith & omega arith & omega arith & omega arith & omega arith
+  due-in-order (Entry Rules m) Γ at =
+      omega arith & omega arith & omega arith & omega arith & omega arith & omega arith & omega arith & omega arith
   due-in-order NoMore Γ at = omega arith & omega arith
 
   -- the tests of each line stand in the order of their numbers, from 2 to 10

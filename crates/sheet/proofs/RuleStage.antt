@@ -24,9 +24,9 @@ use Rattle.line.specs.Sections.{ruleOf, withLine}
 use Rattle.line.specs.declared.Section.the-variants.{Rules}
 use Rattle.line.proofs.Checks.{all-hold}
 use Rattle.sheet.proofs.Places.{line-inside}
-use Rattle.sheet.proofs.RowTests.{isNamed}
+use Rattle.sheet.proofs.Passing.{isNamed}
 use Rattle.sheet.specs.Stage.{toCome, Stage}
-use Rattle.sheet.proofs.Rows.{Passes}
+use Rattle.sheet.proofs.ReadLine.{Passes}
 use Rattle.sheet.proofs.Arrays.{arrays-rule}
 use Rattle.sheet.proofs.Stages.{came-le}
 

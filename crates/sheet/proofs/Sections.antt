@@ -20,14 +20,14 @@ use Rattle.line.specs.Sections.{Heading, headingOf, horizonHeading, headingTest
 use Rattle.line.specs.Answers.{sectionAnswer, headingAt}
 use Rattle.line.specs.declared.Section.{Section}
 use Rattle.line.specs.declared.Section.the-variants.{Events, Signals, Rules}
-use Rattle.line.specs.declared.SectionRow.the-variants as S
+use Rattle.line.specs.declared.HeadingLine.the-variants as S
 use Rattle.sheet.proofs.Places.{line-inside}
-use Rattle.sheet.specs.Reading.{Progress, Stop, Go, andThen, readLine, readRows, readSection, readHorizon}
+use Rattle.sheet.specs.Reading.{Progress, Stop, Go, andThen, readLine, readEntries, readSection, readHorizon}
 use Rattle.sheet.specs.Reading.{readEnd, longest, answered, read}
 use Rattle.sheet.specs.Stage.{toCome, whole, Stage}
-use Rattle.sheet.proofs.Rows.{refusalAt, passes, readLine-stop, readLine-on}
+use Rattle.sheet.proofs.ReadLine.{refusalAt, passes, readLine-stop, readLine-on}
 use Rattle.sheet.proofs.Whole.{too-long, in-length}
-use Rattle.sheet.proofs.RowTests.{counted}
+use Rattle.sheet.proofs.Passing.{counted}
 use Rattle.sheet.proofs.Stages.{stage-section}
 
 section-answer-refused : (o : Option Cause) (m n : ℕ) (c : Cause) → sectionAnswer o m n ≡ S.Refused c → o ≡ some c
@@ -85,7 +85,7 @@ module _ (sheet : List ℕ) (at k : ℕ) (h : Heading) (rest : List ℕ) (is : r
 -- a section, from its line on
 module _ (sheet : List ℕ) (s : Section) (at k : ℕ) (rest : List ℕ) (is : rest ≡ drop at sheet) (Γ : Network) where
   abbrev lines : List (List ℕ) → Progress
-  lines fs = readRows sheet s (sectionCount fs) Γ (afterLine sheet at) (suc k)
+  lines fs = readEntries sheet s (sectionCount fs) Γ (afterLine sheet at) (suc k)
 
   pub section-stops : (c : Cause) → headingAt rest (headingOf s) ≡ S.Refused c → Stop (refusal c k) ≡ readSection sheet s Γ at k
   section-stops c e = section-stop sheet at k (headingOf s) rest is lines c e
@@ -93,7 +93,7 @@ module _ (sheet : List ℕ) (s : Section) (at k : ℕ) (rest : List ℕ) (is : r
   -- its line passes, with count m and of length n, and then m lines are read
   pub record SectionGoes (m n : ℕ) : Type 0 where
     pub inside : at + n + 1 ≤ length sheet
-    pub goes : readRows sheet s m Γ (at + n + 1) (k + 1) ≡ readSection sheet s Γ at k
+    pub goes : readEntries sheet s m Γ (at + n + 1) (k + 1) ≡ readSection sheet s Γ at k
     pub stage : Stage sheet (whole s) Γ at k → Stage sheet (toCome s m) Γ (at + n + 1) (k + 1)
 
   pub section-goes : (m n : ℕ) → headingAt rest (headingOf s) ≡ S.Count m n → SectionGoes m n

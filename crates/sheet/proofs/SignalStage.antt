@@ -22,9 +22,9 @@ use Rattle.line.specs.Sections.{withLine}
 use Rattle.line.specs.declared.Section.the-variants.{Signals}
 use Rattle.line.proofs.Checks.{all-hold}
 use Rattle.sheet.proofs.Places.{line-inside}
-use Rattle.sheet.proofs.RowTests.{isNamed, new-signal}
+use Rattle.sheet.proofs.Passing.{isNamed, new-signal}
 use Rattle.sheet.specs.Stage.{toCome, Stage}
-use Rattle.sheet.proofs.Rows.{Passes}
+use Rattle.sheet.proofs.ReadLine.{Passes}
 use Rattle.sheet.proofs.Arrays.{arrays-signal}
 use Rattle.sheet.proofs.Stages.{came-le}
 

@@ -23,7 +23,7 @@ use Rattle.line.specs.declared.Section.the-variants.{Events, Signals, Rules}
 use Rattle.line.proofs.Checks.{all-hold}
 use Rattle.sheet.proofs.Places.{first-field, line-inside}
 use Rattle.sheet.specs.Stage.{toCome, whole, Stage}
-use Rattle.sheet.proofs.Rows.{Passes}
+use Rattle.sheet.proofs.ReadLine.{Passes}
 use Rattle.sheet.proofs.Arrays.{arrays-event}
 use Rattle.names.proofs.Tokens.{name-short}
 
@@ -72,7 +72,8 @@ module _ (sheet : List ℕ) {Γ : Network} {at k : ℕ} where
 
       by-section : (s : Section) → headingOf s .least ≤ m → m ≤ headingOf s .most → Stage sheet (whole s) Γ at k
           → Stage sheet (toCome s m) Γ (afterLine sheet at) (suc k)
-      by-section Events lo hi g = stage-on hi (omega arith) (omega arith) (omega (arith, andMore-is (Γ .events) m)) (line-inside sheet at p) on g
+      by-section Events lo hi g =
+          stage-on hi (omega arith) (omega arith) (omega (arith, andMore-is (Γ .events) m)) (line-inside sheet at p) on g
       by-section Signals lo hi g = stage-on (omega arith) hi (omega arith) (g .forming .some-event) (line-inside sheet at p) on g
       by-section Rules lo hi g = stage-on (omega arith) (omega arith) hi (g .forming .some-event) (line-inside sheet at p) on g
 

@@ -1,5 +1,5 @@
 -- A sheet that was read gives a well-formed network: each line keeps the stage (Stages), the lines of a section are
--- read one by one (Rows), and the sections one behind the other. Assumes nothing.
+-- read one by one (ReadLine), and the sections one behind the other. Assumes nothing.
 use mathlib.Core.Path.{_≡_, refl, sym, _∙_}
 use mathlib.Core.Option.{Option, none, some}
 use mathlib.Core.List.{List}
@@ -20,17 +20,17 @@ use Rattle.line.specs.Sections.{headingOf, horizonHeading, headingTests}
 use Rattle.line.specs.declared.Section.{Section}
 use Rattle.line.specs.declared.Section.the-variants.{Events, Signals, Rules}
 use Rattle.sheet.proofs.Places.{line-inside}
-use Rattle.sheet.specs.Reading.{Progress, Stop, Go, stopOr, andThen, readRows, readSection, readHorizon}
+use Rattle.sheet.specs.Reading.{Progress, Stop, Go, stopOr, andThen, readEntries, readSection, readHorizon}
 use Rattle.sheet.specs.Reading.{endTests, readEnd, progress, read, answered}
 use Rattle.sheet.specs.Stage.{toCome, whole, Stage}
 use Rattle.sheet.specs.Reached.{Ready}
 use Rattle.sheet.specs.declared.Outcome.the-variants.{Accepted}
-use Rattle.sheet.proofs.Rows.{stop-not-go, came, went, rows-keep}
+use Rattle.sheet.proofs.ReadLine.{stop-not-go, came, went, entries-keep}
 use Rattle.sheet.proofs.Whole.{toEvents, toSignals, toRules, within-length}
 use Rattle.sheet.proofs.Arrays.{arrays-empty}
-use Rattle.sheet.proofs.RowTests.{counted}
+use Rattle.sheet.proofs.Passing.{counted}
 use Rattle.sheet.proofs.Stages.{stage-section}
-use Rattle.sheet.proofs.Turns.{Before, stage-keeps}
+use Rattle.sheet.proofs.EntriesLeft.{Before, stage-keeps}
 
 module _ (sheet : List ℕ) where
   pub stage-empty : (h at k : ℕ) → h ≤ L.horizon → at ≤ length sheet → k ≤ suc at → Stage sheet (whole Events) (empty h) at k
@@ -77,9 +77,9 @@ module _ (sheet : List ℕ) where
       let k = c .line in
       let fs = fields (lineAt sheet at) in
       let w = went sheet at k (headingTests head)
-      (λ fs. readRows sheet s (sectionCount fs) Γ (afterLine sheet at) (suc k)) Δ b j (c .then) in
+      (λ fs. readEntries sheet s (sectionCount fs) Γ (afterLine sheet at) (suc k)) Δ b j (c .then) in
       let n = counted head fs (w .passed .accepted) in
-      rows-keep sheet s (Before sheet s) (stage-keeps sheet s) (sectionCount fs) Γ Δ (afterLine sheet at) (suc k) b j
+      entries-keep sheet s (Before sheet s) (stage-keeps sheet s) (sectionCount fs) Γ Δ (afterLine sheet at) (suc k) b j
       (stage-section sheet s (sectionCount fs) (w .passed .ends) (n .least) (n .most) (h Γ at k (c .first))) (w .then)
 
   -- what is left at the end

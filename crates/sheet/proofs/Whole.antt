@@ -12,7 +12,7 @@ use Rattle.refusal.specs.declared.Cause.the-variants.{TooLong}
 use Rattle.network.specs.declared.Network.{Network}
 use Rattle.line.specs.declared.Section.the-variants.{Events, Signals, Rules}
 use Rattle.sheet.specs.Reading.{longest, Progress, Stop, Go, andThen, readHorizon, readSection, readEnd, progress}
-use Rattle.sheet.proofs.Rows.{stop-not-go}
+use Rattle.sheet.proofs.ReadLine.{stop-not-go}
 
 module _ (sheet : List ℕ) where
   -- the reading as far as each section, and to the end

@@ -44,15 +44,15 @@ module _ (sheet : List ℕ) where
   readLine at k ts next = stopOr k (firstFailing (lineTests (drop at sheet) ts)) (next (fields (lineAt sheet at)))
 
   -- so many lines of a section
-  abbrev pub readRows : Section → ℕ → Network → ℕ → ℕ → Progress
-  readRows s zero Γ at k = Go Γ at k
-  readRows s (suc m) Γ at k =
-      readLine at k (testsOf sheet s Γ) (λ fs. readRows s m (withLine sheet s Γ at fs) (afterLine sheet at) (suc k))
+  abbrev pub readEntries : Section → ℕ → Network → ℕ → ℕ → Progress
+  readEntries s zero Γ at k = Go Γ at k
+  readEntries s (suc m) Γ at k =
+      readLine at k (testsOf sheet s Γ) (λ fs. readEntries s m (withLine sheet s Γ at fs) (afterLine sheet at) (suc k))
 
   -- a section: its heading, and then as many lines as that counts
   abbrev pub readSection : Section → Network → ℕ → ℕ → Progress
   readSection s Γ at k =
-      readLine at k (headingTests (headingOf s)) (λ fs. readRows s (sectionCount fs) Γ (afterLine sheet at) (suc k))
+      readLine at k (headingTests (headingOf s)) (λ fs. readEntries s (sectionCount fs) Γ (afterLine sheet at) (suc k))
 
   -- the horizon, which is the first line
   abbrev pub readHorizon : Progress

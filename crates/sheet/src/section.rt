@@ -4,7 +4,7 @@ ghost use mathlib.Core.Path.{_≡_};
 ghost use Prim.Native.Nat.{_≤_};
 ghost use lib.ListN.{length, drop};
 ghost use Rattle.refusal.specs.Refusal.{refusal};
-ghost use Rattle.sheet.specs.Reading.{longest, Stop, andThen, readRows, readSection, readHorizon, readEnd};
+ghost use Rattle.sheet.specs.Reading.{longest, Stop, andThen, readEntries, readSection, readHorizon, readEnd};
 ghost use Rattle.sheet.specs.Reading.{answered};
 ghost use Rattle.sheet.specs.Stage.{Stage, toCome, whole};
 ghost use Rattle.sheet.specs.Reached.{progressOf, Ready};
@@ -12,18 +12,19 @@ use super::Outcome;
 use super::Reached;
 use super::Reading;
 use super::Step;
+use line::HeadingLine;
 use line::Section;
-use line::SectionRow;
-use line::row;
-use line::row::Entry;
-use line::row::Row;
+use line::entry;
+use line::entry::Entry;
+use line::entry::EntryLine;
+use line::heading;
 use network::Network;
 use refusal::Cause;
 use refusal::Refusal;
 
 // The m lines of a section, from line k on, which begins at this place. What a line holds is stored in place: a
 // function of the network by value would copy it at each line.
-fn read_rows(
+fn read_entries(
     section: Section,
     sheet: &[u8],
     network: Network,
@@ -32,14 +33,14 @@ fn read_rows(
     k: u16,
 ) -> Reached
     requires { ⌜ (length (now sheet) ≤ longest) × Stage (now sheet) (toCome section m) network at k ⌝ }
-    ensures { λ r. ⌜ progressOf r ≡ readRows (now (sheet .entry)) section m network at k ⌝ }
+    ensures { λ r. ⌜ progressOf r ≡ readEntries (now (sheet .entry)) section m network at k ⌝ }
 {
     let mut w = network;
     let mut place = at;
     let mut line = k;
     let mut left = m;
     while 0 < left {
-        let row = row::row_at(
+        let read = entry::entry_at(
             section,
             sheet,
             &sheet[place..],
@@ -50,11 +51,11 @@ fn read_rows(
             &w.letters,
             &w.observations,
         );
-        match row {
-            Row::Refused(cause) => {
+        match read {
+            EntryLine::Refused(cause) => {
                 return refused(cause, line, w);
             }
-            Row::Holds { entry, length } => {
+            EntryLine::Holds { entry, length } => {
                 match entry {
                     Entry::Event => {
                         let n = w.events;
@@ -102,10 +103,10 @@ fn refused(cause: Cause, line: u16, network: Network) -> Reached
 pub(crate) fn read_horizon(sheet: &[u8]) -> Reached
     ensures { λ r. ⌜ progressOf r ≡ readHorizon (now (sheet .entry)) ⌝ }
 {
-    let row = row::section_row(sheet, b"horizon", 0, Network::HORIZON as u32);
-    match row {
-        SectionRow::Refused(cause) => refused(cause, 1, Network::empty(0)),
-        SectionRow::Count { count, length } => Reached {
+    let read = heading::section_line(sheet, b"horizon", 0, Network::HORIZON as u32);
+    match read {
+        HeadingLine::Refused(cause) => refused(cause, 1, Network::empty(0)),
+        HeadingLine::Count { count, length } => Reached {
             step: Step::Next {
                 at: length + 1,
                 line: 2,
@@ -128,10 +129,10 @@ fn read_section(
         (whole section) network at k ⌝ }
     ensures { λ r. ⌜ progressOf r ≡ readSection (now (sheet .entry)) section network at k ⌝ }
 {
-    let row = row::heading(section, rest);
-    match row {
-        SectionRow::Refused(cause) => refused(cause, k, network),
-        SectionRow::Count { count, length } => read_rows(
+    let read = heading::heading_of(section, rest);
+    match read {
+        HeadingLine::Refused(cause) => refused(cause, k, network),
+        HeadingLine::Count { count, length } => read_entries(
             section,
             sheet,
             network,

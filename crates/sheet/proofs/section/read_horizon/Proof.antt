@@ -9,17 +9,17 @@ use Rattle.sheet.proofs.Sections.{horizon-stops, HorizonGoes, horizon-g
 use Rattle.sheet.proofs.section.read_horizon.Statement.{statement}
 use Rattle.sheet.proofs.section.read_horizon.Tie as tie
 
-slice-aggregate-section-row : tie.Need-slice-aggregate-section-row
-slice-aggregate-section-row c = search needs
+slice-aggregate-section-line : tie.Need-slice-aggregate-section-line
+slice-aggregate-section-line c = search needs
 
-cast-section-row : tie.Need-cast-section-row
-cast-section-row c = search needs
+cast-section-line : tie.Need-cast-section-line
+cast-section-line c = search needs
 
-section-row-requires : tie.Need-section-row-requires
-section-row-requires c κs = search needs
+section-line-requires : tie.Need-section-line-requires
+section-line-requires c κs = search needs
 
-enum-known-row : tie.Need-enum-known-row
-enum-known-row c = search needs
+enum-known-read : tie.Need-enum-known-read
+enum-known-read c = search needs
 
 empty-requires : tie.Need-empty-requires
 empty-requires c κs = search needs
@@ -27,17 +27,17 @@ empty-requires c κs = search needs
 refused-requires : tie.Need-refused-requires
 refused-requires c κs = search needs
 
-enum-known-row-2 : tie.Need-enum-known-row-2
-enum-known-row-2 c = search needs
+enum-known-read-2 : tie.Need-enum-known-read-2
+enum-known-read-2 c = search needs
 
 -- the line passes
 goes : (d : tie.After-known-told2)
-    → let row2 = d .before .row2 in
-    HorizonGoes (d .before .before .before .before .before .before .args .sheet .now) (row2 .given .0 .0) (row2 .given .0 .1 .0)
+    → let read2 = d .before .read2 in
+    HorizonGoes (d .before .before .before .before .before .before .args .sheet .now) (read2 .given .0 .0) (read2 .given .0 .1 .0)
 goes d =
-    let row2 = d .before .row2 in
-    horizon-goes (d .before .before .before .before .before .before .args .sheet .now) (row2 .given .0 .0) (row2 .given .0 .1 .0)
-    (sym (d .before .before .before .section-row .ensures) ∙ row2 .given .1)
+    let read2 = d .before .read2 in
+    horizon-goes (d .before .before .before .before .before .before .args .sheet .now) (read2 .given .0 .0) (read2 .given .0 .1 .0)
+    (sym (d .before .before .before .section-line .ensures) ∙ read2 .given .1)
 
 add-t12 : tie.Need-add-t12
 add-t12 c = omega (arith, goes c .inside)
@@ -51,25 +51,25 @@ empty-requires-2 c κs = search needs
 returns : tie.Need-returns
 returns c =
     let args = c .before .before .before .before .before .before .before .before .args in
-    let row = c .before .before .before .row in
-    c .refused .ensures ∙ horizon-stops (args .sheet .now) (row .given .0 .0)
-    (sym (c .before .before .before .before .before .section-row .ensures) ∙ row .given .1)
+    let read = c .before .before .before .read in
+    c .refused .ensures ∙ horizon-stops (args .sheet .now) (read .given .0 .0)
+    (sym (c .before .before .before .before .before .section-line .ensures) ∙ read .given .1)
 
 returns-2 : tie.Need-returns-2
 returns-2 c =
-    ap (λ (Γ : Network). Go Γ (c .before .before .row2 .given .0 .1 .0 + 1) 2) (c .empty2 .ensures) ∙ goes (c .before) .goes
+    ap (λ (Γ : Network). Go Γ (c .before .before .read2 .given .0 .1 .0 + 1) 2) (c .empty2 .ensures) ∙ goes (c .before) .goes
 
 pub read-horizon-spec : {M : Type 1} → statement M
 read-horizon-spec =
     tie.close
     (tie.spec
-    slice-aggregate-section-row
-    cast-section-row
-    section-row-requires
-    enum-known-row
+    slice-aggregate-section-line
+    cast-section-line
+    section-line-requires
+    enum-known-read
     empty-requires
     refused-requires
-    enum-known-row-2
+    enum-known-read-2
     add-t12
     cast-empty
     empty-requires-2

@@ -13,66 +13,66 @@ start d = d .before .before .before .before .before .before
 -- the section's line passes
 goes : (d : tie.After-known-told2)
     → let args = start d .args in
-    let row2 = d .before .row2 in
+    let read2 = d .before .read2 in
     SectionGoes (args .sheet .now) (args .section) (args .at) (args .k) (args .rest .now) (start d .pre .1) (args .network)
-    (row2 .given .0 .0) (row2 .given .0 .1 .0)
+    (read2 .given .0 .0) (read2 .given .0 .1 .0)
 goes d =
     let args = start d .args in
-    let row2 = d .before .row2 in
+    let read2 = d .before .read2 in
     section-goes (args .sheet .now) (args .section) (args .at) (args .k) (args .rest .now) (start d .pre .1) (args .network)
-    (row2 .given .0 .0) (row2 .given .0 .1 .0) (sym (d .before .before .before .heading .ensures) ∙ row2 .given .1)
+    (read2 .given .0 .0) (read2 .given .0 .1 .0) (sym (d .before .before .before .heading-of .ensures) ∙ read2 .given .1)
 
-heading-requires : tie.Need-heading-requires
-heading-requires c κs = search needs
+heading-of-requires : tie.Need-heading-of-requires
+heading-of-requires c κs = search needs
 
-enum-known-row : tie.Need-enum-known-row
-enum-known-row c = search needs
+enum-known-read : tie.Need-enum-known-read
+enum-known-read c = search needs
 
 refused-requires : tie.Need-refused-requires
 refused-requires c κs = search needs
 
-enum-known-row-2 : tie.Need-enum-known-row-2
-enum-known-row-2 c = search needs
+enum-known-read-2 : tie.Need-enum-known-read-2
+enum-known-read-2 c = search needs
 
-cast-read-rows : tie.Need-cast-read-rows
-cast-read-rows c = search needs
+cast-read-entries : tie.Need-cast-read-entries
+cast-read-entries c = search needs
 
-add-read-rows : tie.Need-add-read-rows
-add-read-rows c = omega (arith, goes c .inside, start c .pre .0)
+add-read-entries : tie.Need-add-read-entries
+add-read-entries c = omega (arith, goes c .inside, start c .pre .0)
 
-add-read-rows-2 : tie.Need-add-read-rows-2
-add-read-rows-2 c = omega (arith, goes c .inside, start c .pre .0)
+add-read-entries-2 : tie.Need-add-read-entries-2
+add-read-entries-2 c = omega (arith, goes c .inside, start c .pre .0)
 
-add-read-rows-3 : tie.Need-add-read-rows-3
-add-read-rows-3 c = let pre = start c .pre in omega (arith, pre .2 .line, pre .2 .inside, pre .0)
+add-read-entries-3 : tie.Need-add-read-entries-3
+add-read-entries-3 c = let pre = start c .pre in omega (arith, pre .2 .line, pre .2 .inside, pre .0)
 
-read-rows-requires : tie.Need-read-rows-requires
-read-rows-requires c κs = (start c .pre .0, goes c .stage (start c .pre .2))
+read-entries-requires : tie.Need-read-entries-requires
+read-entries-requires c κs = (start c .pre .0, goes c .stage (start c .pre .2))
 
 returns : tie.Need-returns
 returns c =
     let args = c .before .before .before .before .before .before .before .args in
     let pre = c .before .before .before .before .before .before .before .pre in
-    let heading = c .before .before .before .before .heading in
-    let row = c .before .before .row in
+    let heading = c .before .before .before .before .heading-of in
+    let read = c .before .before .read in
     c .refused .ensures ∙ section-stops (args .sheet .now) (args .section) (args .at) (args .k) (args .rest .now)
-    (pre .1) (args .network) (row .given .0 .0) (sym (heading .ensures) ∙ row .given .1)
+    (pre .1) (args .network) (read .given .0 .0) (sym (heading .ensures) ∙ read .given .1)
 
 returns-2 : tie.Need-returns-2
-returns-2 c = c .read-rows .ensures ∙ goes (c .before) .goes
+returns-2 c = c .read-entries .ensures ∙ goes (c .before) .goes
 
 pub read-section-spec : {M : Type 1} → statement M
 read-section-spec =
     tie.close
     (tie.spec
-    heading-requires
-    enum-known-row
+    heading-of-requires
+    enum-known-read
     refused-requires
-    enum-known-row-2
-    cast-read-rows
-    add-read-rows
-    add-read-rows-2
-    add-read-rows-3
-    read-rows-requires
+    enum-known-read-2
+    cast-read-entries
+    add-read-entries
+    add-read-entries-2
+    add-read-entries-3
+    read-entries-requires
     returns
     returns-2)

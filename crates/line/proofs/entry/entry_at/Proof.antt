@@ -7,9 +7,9 @@ use lib.Seq.{length-take-le}
 use Rattle.line.specs.Answers.{partsOf}
 use Rattle.line.specs.declared.Section.the-variants.{Events, Signals, Rules}
 use Rattle.line.proofs.Refusals.{line-missing, line-le}
-use Rattle.line.proofs.Answered.{event-parts, rule-parts, row-ends}
-use Rattle.line.proofs.row.row_at.Statement.{statement}
-use Rattle.line.proofs.row.row_at.Tie as tie
+use Rattle.line.proofs.Answered.{event-parts, rule-parts, entry-ends}
+use Rattle.line.proofs.entry.entry_at.Statement.{statement}
+use Rattle.line.proofs.entry.entry_at.Tie as tie
 
 until-requires : tie.Need-until-requires
 until-requires c κs = search needs
@@ -53,7 +53,7 @@ returns-2 c =
     (args .observations .now) in
     c .event-fields .ensures
     ∙ event-parts (args .sheet .now) Γ (take (until .result) (args .rest .now))
-    ∙ row-ends (args .sheet .now) Γ (args .rest .now) (until .result) (until .ensures)
+    ∙ entry-ends (args .sheet .now) Γ (args .rest .now) (until .result) (until .ensures)
     (c .before .before .before .before .if1 .left) Events (args .section) (c .before .enum-told .given .1)
 
 returns-3 : tie.Need-returns-3
@@ -63,7 +63,7 @@ returns-3 c =
     let Γ = partsOf (args .n) (args .starts .now) (args .lengths .now) (args .k) (args .letters .now)
     (args .observations .now) in
     c .signal-fields .ensures
-    ∙ row-ends (args .sheet .now) Γ (args .rest .now) (until .result) (until .ensures)
+    ∙ entry-ends (args .sheet .now) Γ (args .rest .now) (until .result) (until .ensures)
     (c .before .before .before .before .if1 .left) Signals (args .section) (c .before .enum-told2 .given .1)
 
 returns-4 : tie.Need-returns-4
@@ -74,11 +74,11 @@ returns-4 c =
     (args .observations .now) in
     c .rule-fields .ensures
     ∙ rule-parts (args .sheet .now) Γ (take (until .result) (args .rest .now))
-    ∙ row-ends (args .sheet .now) Γ (args .rest .now) (until .result) (until .ensures)
+    ∙ entry-ends (args .sheet .now) Γ (args .rest .now) (until .result) (until .ensures)
     (c .before .before .before .before .if1 .left) Rules (args .section) (c .before .enum-told3 .given .1)
 
-pub row-at-spec : {M : Type 1} → statement M
-row-at-spec =
+pub entry-at-spec : {M : Type 1} → statement M
+entry-at-spec =
     tie.close
     (tie.spec
     until-requires

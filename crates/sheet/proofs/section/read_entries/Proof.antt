@@ -1,19 +1,19 @@
--- The invariant: the lines that are left give what all of them give, and the sheet is at its stage (`RowsLeft`). What
+-- The invariant: the lines that are left give what all of them give, and the sheet is at its stage (`EntriesLeft`). What
 -- a line holds is added in place, as `added` says. Assumes nothing.
 use borrow.Author.Needs.{needs}
 use mathlib.Core.Path.{_≡_, refl, sym, _∙_}
 use mathlib.Core.Logic.{inl, inr}
 use native.Mathlib.Omega.{arith}
 use Rattle.line.specs.Sections.{added}
-use Rattle.sheet.specs.Reading.{readRows}
-use Rattle.sheet.proofs.Turns.{RowsLeft, reads-end}
-use Rattle.sheet.proofs.Lines.{names-in, few-signals, row-stop, RowTurn, row-turn}
-use Rattle.sheet.proofs.section.read_rows.Statement.{statement}
-use Rattle.sheet.proofs.section.read_rows.Tie as tie
+use Rattle.sheet.specs.Reading.{readEntries}
+use Rattle.sheet.proofs.EntriesLeft.{EntriesLeft, reads-end}
+use Rattle.sheet.proofs.Lines.{names-in, few-signals, entry-stop, EntryTurn, entry-turn}
+use Rattle.sheet.proofs.section.read_entries.Statement.{statement}
+use Rattle.sheet.proofs.section.read_entries.Tie as tie
 
 abbrev Inv-loop : tie.InvT-loop
 Inv-loop section sheet m at k w₀ place₀ line₀ left₀ w place line left =
-    RowsLeft sheet section (readRows sheet section m w₀ at k) left w place line
+    EntriesLeft sheet section (readEntries sheet section m w₀ at k) left w place line
 
 abbrev μ-loop : tie.MeasureT-loop
 μ-loop section sheet m at k w₀ place₀ line₀ left₀ w place line left = left
@@ -21,22 +21,22 @@ abbrev μ-loop : tie.MeasureT-loop
 loop-holds : tie.Need-loop-holds Inv-loop μ-loop
 loop-holds c = record { rest = refl; stage = c .before .pre .1 }
 
-sub-row-at : tie.Need-sub-row-at Inv-loop μ-loop
-sub-row-at c = c .before .loop .inv .stage .inside
+sub-entry-at : tie.Need-sub-entry-at Inv-loop μ-loop
+sub-entry-at c = c .before .loop .inv .stage .inside
 
-part-row-at-start : tie.Need-part-row-at-start Inv-loop μ-loop
-part-row-at-start c = c .before .loop .inv .stage .inside
+part-entry-at-start : tie.Need-part-entry-at-start Inv-loop μ-loop
+part-entry-at-start c = c .before .loop .inv .stage .inside
 
-part-row-at-end : tie.Need-part-row-at-end Inv-loop μ-loop
-part-row-at-end c = search needs
+part-entry-at-end : tie.Need-part-entry-at-end Inv-loop μ-loop
+part-entry-at-end c = search needs
 
-row-at-requires : tie.Need-row-at-requires Inv-loop μ-loop
-row-at-requires c κs =
+entry-at-requires : tie.Need-entry-at-requires Inv-loop μ-loop
+entry-at-requires c κs =
     let loop = c .before .before .before .before .before .before .before .loop in
     (names-in (loop .inv .stage), few-signals (loop .inv .stage))
 
-enum-known-row : tie.Need-enum-known-row Inv-loop μ-loop
-enum-known-row c = search needs
+enum-known-read : tie.Need-enum-known-read Inv-loop μ-loop
+enum-known-read c = search needs
 
 refused-requires : tie.Need-refused-requires Inv-loop μ-loop
 refused-requires c κs = search needs
@@ -45,24 +45,24 @@ returns : tie.Need-returns Inv-loop μ-loop
 returns c =
     let loop = c .before .before .before .before .before .before .before .before .before .before .before .before .loop in
     let test = c .before .before .before .before .before .before .before .before .before .before .before .loop-test in
-    let row-at = c .before .before .before .before .row-at in
-    let row = c .before .before .row in
-    c .refused .ensures ∙ row-stop (loop .inv) (test .taken) (row .given .0 .0) (sym (row-at .ensures) ∙ row .given .1)
+    let entry-at = c .before .before .before .before .entry-at in
+    let read = c .before .before .read in
+    c .refused .ensures ∙ entry-stop (loop .inv) (test .taken) (read .given .0 .0) (sym (entry-at .ensures) ∙ read .given .1)
 
-enum-known-row-2 : tie.Need-enum-known-row-2 Inv-loop μ-loop
-enum-known-row-2 c = search needs
+enum-known-read-2 : tie.Need-enum-known-read-2 Inv-loop μ-loop
+enum-known-read-2 c = search needs
 
 -- the turn that a line makes which has passed
 turn : (d : tie.After-known-told2 Inv-loop μ-loop)
-    → RowTurn (d .before .before .before .before .before .before .before .before .before .before .before .loop .inv)
+    → EntryTurn (d .before .before .before .before .before .before .before .before .before .before .before .loop .inv)
     (d .before .before .before .before .before .before .before .before .before .before .loop-test .taken)
-    (d .before .row2 .given .0 .0) (d .before .row2 .given .0 .1 .0)
+    (d .before .read2 .given .0 .0) (d .before .read2 .given .0 .1 .0)
 turn d =
     let loop = d .before .before .before .before .before .before .before .before .before .before .before .loop in
     let test = d .before .before .before .before .before .before .before .before .before .before .loop-test in
-    let row2 = d .before .row2 in
-    row-turn (loop .inv) (test .taken) (row2 .given .0 .0) (row2 .given .0 .1 .0)
-    (sym (d .before .before .before .row-at .ensures) ∙ row2 .given .1)
+    let read2 = d .before .read2 in
+    entry-turn (loop .inv) (test .taken) (read2 .given .0 .0) (read2 .given .0 .1 .0)
+    (sym (d .before .before .before .entry-at .ensures) ∙ read2 .given .1)
 
 enum-told : tie.Need-enum-told Inv-loop μ-loop
 enum-told c = search needs
@@ -137,9 +137,9 @@ loop-less c =
 
 loop-again : tie.Need-loop-again Inv-loop μ-loop
 loop-again c =
-    let row2 = c .before .before .row2 in
+    let read2 = c .before .before .read2 in
     let loop = c .before .before .before .before .before .before .before .before .before .before .before .before .loop in
-    let grown : c .match2 .w ≡ added (row2 .given .0 .0) (loop .w) (loop .place) (row2 .given .0 .1 .0) =
+    let grown : c .match2 .w ≡ added (read2 .given .0 .0) (loop .w) (loop .place) (read2 .given .0 .1 .0) =
     elim (c .match2 .came) [
       | inl w ↦ w .2 ∙ sym (rw (w .1 .given .1))
       | inr (inl w) ↦ w .3 ∙ sym (rw (w .1 .given .1))
@@ -150,21 +150,21 @@ loop-again c =
 returns-2 : tie.Need-returns-2 Inv-loop μ-loop
 returns-2 c = reads-end (c .before .loop .inv) (c .loop-test .left)
 
-pub read-rows-spec : {M : Type 1} → statement M
-read-rows-spec =
+pub read-entries-spec : {M : Type 1} → statement M
+read-entries-spec =
     tie.close
     (tie.spec
     Inv-loop
     μ-loop
     loop-holds
-    sub-row-at
-    part-row-at-start
-    part-row-at-end
-    row-at-requires
-    enum-known-row
+    sub-entry-at
+    part-entry-at-start
+    part-entry-at-end
+    entry-at-requires
+    enum-known-read
     refused-requires
     returns
-    enum-known-row-2
+    enum-known-read-2
     enum-told
     mul-w
     element-write-w

@@ -13,8 +13,8 @@ use Rattle.names.proofs.Finds.{event-answers}
 use Rattle.line.specs.Tests.{eventOf}
 use Rattle.line.specs.Answers.{partsOf}
 use Rattle.line.proofs.Refusals.{event-count, event-ill, event-twice, event-passes}
-use Rattle.line.proofs.row.event_fields.Statement.{statement}
-use Rattle.line.proofs.row.event_fields.Tie as tie
+use Rattle.line.proofs.entry.event_fields.Statement.{statement}
+use Rattle.line.proofs.entry.event_fields.Tie as tie
 
 -- the network by its parts, and the fields of the line
 abbrev parts : tie.Start → Network

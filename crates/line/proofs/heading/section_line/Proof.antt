@@ -3,8 +3,8 @@ use borrow.Author.Needs.{needs}
 use mathlib.Core.Path.{sym, _∙_}
 use lib.Seq.{length-take-le}
 use Rattle.line.proofs.Refusals.{line-missing, line-ends, line-le, line-is}
-use Rattle.line.proofs.row.section_row.Statement.{statement}
-use Rattle.line.proofs.row.section_row.Tie as tie
+use Rattle.line.proofs.heading.section_line.Statement.{statement}
+use Rattle.line.proofs.heading.section_line.Tie as tie
 
 until-requires : tie.Need-until-requires
 until-requires c κs = search needs
@@ -32,8 +32,8 @@ returns-2 c =
     rw (line-ends (args .rest .now) (until .result) (until .ensures) (c .before .before .if1 .left))
     (c .section-fields .ensures ∙ rw (line-is (args .rest .now) (until .result) (until .ensures)))
 
-pub section-row-spec : {M : Type 1} → statement M
-section-row-spec =
+pub section-line-spec : {M : Type 1} → statement M
+section-line-spec =
     tie.close
     (tie.spec
     until-requires

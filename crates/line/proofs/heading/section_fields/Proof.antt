@@ -7,8 +7,8 @@ use borrow.Author.Tests.{not-true, not-false}
 use Rattle.prelude.specs.Bytes.{same}
 use Rattle.text.specs.Lines.{fields, field}
 use Rattle.line.proofs.Refusals.{word-count, word-other, word-passes}
-use Rattle.line.proofs.row.section_fields.Statement.{statement}
-use Rattle.line.proofs.row.section_fields.Tie as tie
+use Rattle.line.proofs.heading.section_fields.Statement.{statement}
+use Rattle.line.proofs.heading.section_fields.Tie as tie
 
 cut-requires : tie.Need-cut-requires
 cut-requires c κs = search needs

@@ -10,8 +10,8 @@ use Rattle.names.proofs.Finds.{event-is, event-answers, event-place}
 use Rattle.line.specs.Tests.{eventOf, signalTests}
 use Rattle.line.specs.Answers.{partsOf, checkOf}
 use Rattle.line.proofs.Refusals.{signal-count, gives-found, signal-tests, check-refused, check-passed}
-use Rattle.line.proofs.row.signal_fields.Statement.{statement}
-use Rattle.line.proofs.row.signal_fields.Tie as tie
+use Rattle.line.proofs.entry.signal_fields.Statement.{statement}
+use Rattle.line.proofs.entry.signal_fields.Tie as tie
 
 -- the network by its parts, and the refusal of the line
 abbrev parts : tie.Start → Network

@@ -10,10 +10,10 @@ use Rattle.text.specs.Lines.{fields, field}
 use Rattle.network.specs.declared.Network.{Network}
 use Rattle.line.specs.Answers.{endsAnswer, partsOf, kindFound, limitOf}
 use Rattle.line.specs.Tests.{kindOf}
-use Rattle.line.proofs.Refusals.{limit-fits, ends-row, rule-count, rule-other, rule-ill}
+use Rattle.line.proofs.Refusals.{limit-fits, ends-entry, rule-count, rule-other, rule-ill}
 use Rattle.line.proofs.Refusals.{rule-beyond, kind-some, kind-none, limit-minutes, limit-over, limit-none}
-use Rattle.line.proofs.row.rule_fields.Statement.{statement}
-use Rattle.line.proofs.row.rule_fields.Tie as tie
+use Rattle.line.proofs.entry.rule_fields.Statement.{statement}
+use Rattle.line.proofs.entry.rule_fields.Tie as tie
 
 -- the network by its parts
 abbrev parts : tie.Start → Network
@@ -149,7 +149,7 @@ returns-5 c =
     (field3 .ensures .text)
     ∙ ap (λ (f : List ℕ). endsAnswer sheet Γ (field 1 fs) f (field5 .result .now) k z n) (field4 .ensures .text)
     ∙ ap (λ (f : List ℕ). endsAnswer sheet Γ (field 1 fs) (field 2 fs) f k z n) (field5 .ensures .text)
-    ∙ ends-row sheet Γ fs k z n (five told) (kind told) limit
+    ∙ ends-entry sheet Γ fs k z n (five told) (kind told) limit
 
 pub rule-fields-spec : {M : Type 1} → statement M
 rule-fields-spec =

@@ -13,8 +13,8 @@ use Rattle.network.specs.declared.Network.{Network}
 use Rattle.line.specs.Tests.{Tests}
 use Rattle.line.specs.Sections.{headingOf, testsOf, withLine}
 use Rattle.line.specs.declared.Section.{Section}
-use Rattle.sheet.specs.Reading.{Progress, Go, readLine, readRows}
-use Rattle.sheet.proofs.Rows.{readLine-on, went}
+use Rattle.sheet.specs.Reading.{Progress, Go, readLine, readEntries}
+use Rattle.sheet.proofs.ReadLine.{readLine-on, went}
 use Rattle.layout.specs.Layout.{line, lines}
 use Rattle.layout.proofs.Lines.{Plain, IsRead, is-read, line-read}
 
@@ -72,12 +72,12 @@ module _ {sheet : List ℕ} {s : Section} {X : Type 0} {first : X → List ℕ} 
 
   -- what follows a line
   abbrev next : ℕ → Network → ℕ → ℕ → List (List ℕ) → Progress
-  next m Γ at k fs = readRows sheet s m (withLine sheet s Γ at fs) (afterLine sheet at) (suc k)
+  next m Γ at k fs = readEntries sheet s m (withLine sheet s Γ at fs) (afterLine sheet at) (suc k)
 
   -- so many lines that were read are those of some items
-  pub rows-read : (m : ℕ) (Γ : Network) (xs : List X) (at k : ℕ) → Held Γ xs → length xs + m ≤ headingOf s .most
-      → (Δ : Network) (end number : ℕ) → readRows sheet s m Γ at k ≡ Go Δ end number → Read sheet Held text xs m at Δ end
-  rows-read zero Γ xs at k h few Δ end number g =
+  pub entries-read : (m : ℕ) (Γ : Network) (xs : List X) (at k : ℕ) → Held Γ xs → length xs + m ≤ headingOf s .most
+      → (Δ : Network) (end number : ℕ) → readEntries sheet s m Γ at k ≡ Go Δ end number → Read sheet Held text xs m at Δ end
+  entries-read zero Γ xs at k h few Δ end number g =
       let same-network : Γ ≡ Δ = cc in
       let same-place : at ≡ end = cc in
       record {
@@ -86,7 +86,7 @@ module _ {sheet : List ℕ} {s : Section} {X : Type 0} {first : X → List ℕ} 
         written = ap (λ (i : ℕ). drop i sheet) same-place;
         held = rw (append-nil xs, ← same-network) h;
       }
-  rows-read (suc m) Γ xs at k h few Δ end number g =
+  entries-read (suc m) Γ xs at k h few Δ end number g =
       let p = went sheet at k (testsOf sheet s Γ) (next m Γ at k) Δ end number g in
       let r = w .reads h (fields (lineAt sheet at)) (p .passed .accepted) in
       let x = r .0 in
@@ -95,7 +95,7 @@ module _ {sheet : List ℕ} {s : Section} {X : Type 0} {first : X → List ℕ} 
       let held = w .adds h x (r .2) (omega arith) at behind t in
       let few-left : length (xs ++ x ∷ []) + m ≤ headingOf s .most = omega (arith, length-append xs (x ∷ [])) in
       let on =
-      rows-read m (withLine sheet s Γ at (first x ∷ others x)) (xs ++ x ∷ []) (afterLine sheet at) (suc k) held few-left Δ end number
+      entries-read m (withLine sheet s Γ at (first x ∷ others x)) (xs ++ x ∷ []) (afterLine sheet at) (suc k) held few-left Δ end number
       (rw (r .1) at (p .then)) in
       record {
         items = x ∷ on .items;
@@ -105,12 +105,12 @@ module _ {sheet : List ℕ} {s : Section} {X : Type 0} {first : X → List ℕ} 
       }
 
   -- where the lines of ys stand, they are read
-  pub rows-reads : (ys : List X) (Γ : Network) (xs : List X) (at k : ℕ) (rest : List ℕ) → Held Γ xs → Kept (xs ++ ys)
+  pub entries-reads : (ys : List X) (Γ : Network) (xs : List X) (at k : ℕ) (rest : List ℕ) → Held Γ xs → Kept (xs ++ ys)
       → length xs + length ys ≤ headingOf s .most → drop at sheet ≡ texts text ys ++ rest
-      → Reads sheet Held (readRows sheet s (length ys) Γ at k) (xs ++ ys) rest
-  rows-reads [] Γ xs at k rest h kept few t =
+      → Reads sheet Held (readEntries sheet s (length ys) Γ at k) (xs ++ ys) rest
+  entries-reads [] Γ xs at k rest h kept few t =
       record { network = Γ; at = at; number = k; goes = refl; held = rw append-nil h; behind = t }
-  rows-reads (x ∷ ys) Γ xs at k rest h kept few t =
+  entries-reads (x ∷ ys) Γ xs at k rest h kept few t =
       let m = w .may xs ys x kept in
       let behind = texts text ys ++ rest in
       let l = parts (drop at sheet) (text x) (texts text ys) rest t in
@@ -118,7 +118,7 @@ module _ {sheet : List ℕ} {s : Section} {X : Type 0} {first : X → List ℕ} 
       let held = w .adds h x m (omega arith) at behind l in
       let few-left : length (xs ++ x ∷ []) + length ys ≤ headingOf s .most = omega (arith, length-append xs (x ∷ [])) in
       let on =
-      rows-reads ys (withLine sheet s Γ at (first x ∷ others x)) (xs ++ x ∷ []) (afterLine sheet at) (suc k) rest held
+      entries-reads ys (withLine sheet s Γ at (first x ∷ others x)) (xs ++ x ∷ []) (afterLine sheet at) (suc k) rest held
       (rw append-snoc kept) few-left (r .behind) in
       record {
         network = on .network;

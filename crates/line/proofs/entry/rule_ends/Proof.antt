@@ -15,8 +15,8 @@ use Rattle.names.proofs.Finds.{found-place}
 use Rattle.line.specs.Answers.{partsOf, checkOf}
 use Rattle.line.specs.Tests.{eventOf, endsTests}
 use Rattle.line.proofs.Refusals.{ends-tests, ends-pass, check-refused, check-passed}
-use Rattle.line.proofs.row.rule_ends.Statement.{statement}
-use Rattle.line.proofs.row.rule_ends.Tie as tie
+use Rattle.line.proofs.entry.rule_ends.Statement.{statement}
+use Rattle.line.proofs.entry.rule_ends.Tie as tie
 
 -- the network by its parts, and the refusal of the ends and the label
 abbrev parts : tie.Start → Network

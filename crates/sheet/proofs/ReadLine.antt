@@ -17,7 +17,7 @@ use Rattle.network.specs.declared.Network.{Network}
 use Rattle.line.specs.Tests.{Tests, lineTests}
 use Rattle.line.specs.Sections.{testsOf, withLine}
 use Rattle.line.specs.declared.Section.{Section}
-use Rattle.sheet.specs.Reading.{Progress, Stop, Go, stopOr, andThen, readLine, readRows}
+use Rattle.sheet.specs.Reading.{Progress, Stop, Go, stopOr, andThen, readLine, readEntries}
 
 -- a refusal is no network
 pub stop-not-go {ℓ} : {A : Type ℓ} (r : Refusal) (Γ : Network) (at k : ℕ) → Stop r ≡ Go Γ at k → A
@@ -81,13 +81,14 @@ module _ (sheet : List ℕ) (s : Section) (P : ℕ → Network → ℕ → ℕ �
       (m : ℕ) (Γ : Network) (at k : ℕ) → P (suc m) Γ at k → Passes sheet at k (testsOf sheet s Γ)
       → P m (withLine sheet s Γ at (fields (lineAt sheet at))) (afterLine sheet at) (suc k)
 
-  pub rows-keep : Keeps → (m : ℕ) (Γ Δ : Network) (at k b j : ℕ) → P m Γ at k → readRows sheet s m Γ at k ≡ Go Δ b j → P 0 Δ b j
-  rows-keep keep zero Γ Δ at k b j h e =
+  pub entries-keep : Keeps → (m : ℕ) (Γ Δ : Network) (at k b j : ℕ) → P m Γ at k → readEntries sheet s m Γ at k ≡ Go Δ b j → P 0 Δ b j
+  entries-keep keep zero Γ Δ at k b j h e =
       let network : Γ ≡ Δ = cc in
       let place : at ≡ b = cc in
       let line : k ≡ j = cc in
       rw (← network, ← place, ← line) h
-  rows-keep keep (suc m) Γ Δ at k b j h e =
-      let w = went sheet at k (testsOf sheet s Γ) (λ fs. readRows sheet s m (withLine sheet s Γ at fs) (afterLine sheet at) (suc k)) Δ b j e in
-      rows-keep keep m (withLine sheet s Γ at (fields (lineAt sheet at))) Δ (afterLine sheet at) (suc k) b j
+  entries-keep keep (suc m) Γ Δ at k b j h e =
+      let w = went sheet at k (testsOf sheet s Γ)
+      (λ fs. readEntries sheet s m (withLine sheet s Γ at fs) (afterLine sheet at) (suc k)) Δ b j e in
+      entries-keep keep m (withLine sheet s Γ at (fields (lineAt sheet at))) Δ (afterLine sheet at) (suc k) b j
       (keep m Γ at k h (w .passed)) (w .then)
