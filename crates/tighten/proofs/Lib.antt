@@ -1,7 +1,7 @@
 -- Laws of `specs/`, in reading order: the rows of the rules; the order of limits; rows that have a number; the
 -- tightest row of a key; keys as numbers; what remains, and that it is what is computed; where the rows hold, and
 -- which tables keep them. Then the laws that the code's proofs cite: lists in arrays; the numbers of a rule, and of
--- all rules; the least number from a floor on; the next row; the rows found one after the other.
+-- all rules; the next row; the rows found one after the other.
 pub mod Rules
 pub mod Order
 pub mod Regular
@@ -14,7 +14,6 @@ pub mod Tables
 pub mod Fronts
 pub mod Turned
 pub mod Listed
-pub mod Least
 pub mod Next
 pub mod Found
 pub mod Examples

@@ -2,12 +2,17 @@
 -- row of the first key from there on that a row has; where there is no such number, no row has a key from there on.
 -- Assumes nothing.
 use mathlib.Core.Path.{_≡_, refl, sym, _∙_, ap}
+use mathlib.Core.Logic.{inl, inr}
+use mathlib.Core.Bool.{Bool}
 use mathlib.Core.Option.{some}
 use mathlib.Core.List.{List}
 use Prim.Native.Nat.{ℕ, _*_, _/_, _≤_, _<_}
 use native.Mathlib.Omega.{arith}
+use borrow.Author.Tests.{le-leb, leb-true}
+use lib.Dec.{leb}
 use lib.ListN.{length, getD, length-map}
 use Rattle.prelude.specs.Lists.{In, Each}
+use Rattle.prelude.proofs.Minima.{LeastAt, minWhere-le, minWhere-attained}
 use Rattle.prelude.proofs.Mapped.{getD-map}
 use Rattle.prelude.proofs.Lists.{in-place, each-in}
 use Rattle.prelude.proofs.Gather.{Silent}
@@ -21,7 +26,6 @@ use Rattle.tighten.specs.Held.{NumbersAre}
 use Rattle.tighten.proofs.Regular.{Regular, number-lt, rank-number, rowOf-numberOf}
 use Rattle.tighten.proofs.Tight.{TightestAt, none-tightest, tightest-unique}
 use Rattle.tighten.proofs.Fronts.{front-at}
-use Rattle.tighten.proofs.Least.{LeastAt, least-le, least-at}
 
 module _ {xs : List Constraint} (r : Numbers) (regular : Each Regular xs noConstraint) (are : NumbersAre xs r) where
   -- the numbers in the list
@@ -40,12 +44,17 @@ module _ {xs : List Constraint} (r : Numbers) (regular : Each Regular xs noConst
     abbrev pub leastFrom : ℕ
     leastFrom = leastBelow (r .count) number (key * perKey)
 
+    -- whether the number at i counts
+    abbrev from : ℕ → Bool
+    from i = leb (key * perKey) (number i)
+
     -- no row with a key from there on has a lesser number
     least-row : (y : Constraint) → In y xs noConstraint → key ≤ rank y → leastFrom ≤ numberOf y
     least-row y w h =
         let l : w .place < r .count = omega (arith, counted, w .place-lt) in
         let e = number-is (w .place) l ∙ ap numberOf (w .is) in
-        omega (arith, e, least-le number (key * perKey) (r .count) (w .place) l (omega (arith, e)))
+        let counts = le-leb (key * perKey) (number (w .place)) (omega (arith, e)) in
+        omega (arith, e, minWhere-le from number top (r .count) (w .place) l counts)
 
     pub none-left : leastFrom ≡ top → (n : ℕ) → Silent (tightest xs) key n
     none-left e n = record {
@@ -55,8 +64,8 @@ module _ {xs : List Constraint} (r : Numbers) (regular : Each Regular xs noConst
     }
 
     module _ (h : leastFrom ≡ top → ⊥) where
-      at : LeastAt number (key * perKey) (r .count) leastFrom
-      at = least-at number (key * perKey) (r .count) h
+      at : LeastAt from number top (r .count) leastFrom
+      at = elim (minWhere-attained from number top (r .count)) [ inl e ↦ absurd (h e) | inr a ↦ a ]
 
       -- the row of the least number
       row : Constraint
@@ -84,7 +93,7 @@ module _ {xs : List Constraint} (r : Numbers) (regular : Each Regular xs noConst
 
       -- its key is the first from there on that a row has
       pub least-from : key ≤ leastFrom / perKey
-      least-from = omega (arith, at .from)
+      least-from = omega (arith, at .is, leb-true (key * perKey) (number (at .place)) (at .counted))
 
       pub none-before : Silent (tightest xs) key (leastFrom / perKey)
       none-before = record {

@@ -1,10 +1,10 @@
 -- A row as one number, so that a search for the next key and its least limit compares numbers only: its key, and
 -- behind it its limit plus 10,080, which is not negative.
-use mathlib.Core.Bool.{cond}
-use Prim.Native.Nat.{ℕ, zero, suc, _+_, _*_, _/_, _%_, _<_, min}
+use Prim.Native.Nat.{ℕ, _+_, _*_, _/_, _%_, _<_}
 use lib.IntN.{ℤ}
 use lib.Dec.{leb}
 use Rattle.network.specs.Biased.{biased, unbiased}
+use Rattle.prelude.specs.Bounded.{minWhere}
 use Rattle.network.specs.WellFormed.{InLimits}
 use Rattle.network.specs.declared.Label.{Label}
 use Rattle.network.specs.declared.Constraint.{Constraint}
@@ -41,5 +41,4 @@ top = 2147483648
 
 -- the least of f 0, .., f (n - 1) that is at least lo, or `top` where there is none
 abbrev pub leastBelow : ℕ → (ℕ → ℕ) → ℕ → ℕ
-leastBelow zero f lo = top
-leastBelow (suc n) f lo = cond (leb lo (f n)) (min (leastBelow n f lo) (f n)) (leastBelow n f lo)
+leastBelow n f lo = minWhere n (λ i. leb lo (f i)) f top

@@ -1,15 +1,25 @@
--- Each turn looks at one number (`Least`). The invariant: the least so far is that of the first i numbers. Assumes
--- nothing.
+-- Each turn looks at one number (prelude's `Minima`). The invariant: the least so far is that of the first i numbers.
+-- Assumes nothing.
 use mathlib.Core.Path.{_≡_, sym, _∙_}
 use mathlib.Core.Logic.{⊎-elim}
-use Prim.Native.Nat.{ℕ, _-_, _≤_}
+use Prim.Native.Nat.{ℕ, _+_, _-_, _≤_, _<_, min}
 use native.Mathlib.Omega.{arith}
 use borrow.Author.Needs.{needs}
+use borrow.Author.Tests.{le-leb, lt-leb}
+use lib.Dec.{leb}
 use lib.ListN.{getD}
-use Rattle.tighten.specs.Numbers.{leastBelow}
-use Rattle.tighten.proofs.Least.{least-below, least-kept, least-new}
+use Rattle.prelude.proofs.Minima.{minWhere-more, minWhere-skip}
+use Rattle.tighten.specs.Numbers.{top, leastBelow}
 use Rattle.tighten.proofs.least_from.Statement.{statement}
 use Rattle.tighten.proofs.least_from.Tie as tie
+
+-- a number counts where it is at least the floor
+module _ (f : ℕ → ℕ) (lo i : ℕ) where
+  counts : lo ≤ f i → leastBelow (i + 1) f lo ≡ min (leastBelow i f lo) (f i)
+  counts h = minWhere-more (λ k. leb lo (f k)) f top i (le-leb lo (f i) h)
+
+  passed : f i < lo → leastBelow (i + 1) f lo ≡ leastBelow i f lo
+  passed h = minWhere-skip (λ k. leb lo (f k)) f top i (lt-leb lo (f i) h)
 
 abbrev Inv-loop : tie.InvT-loop
 Inv-loop list count floor least₀ i₀ least i = (i ≤ count) × (least ≡ leastBelow i (λ k. getD list k 0) floor)
@@ -38,11 +48,12 @@ loop-again c =
     let loop = c .before .before .before .loop in
     let f : ℕ → ℕ = λ k. getD (z .args .list .now) k 0 in
     let lo = z .args .floor in
+    let i = loop .i in
     let so-far = loop .inv .1 in (
       omega arith,
-      ⊎-elim (λ w. w .2 ∙ sym (least-new f lo (loop .i) (w .0 .taken) (omega (arith, w .1 .taken))))
-          (⊎-elim (λ w. w .2 ∙ (so-far ∙ sym (least-kept f lo (loop .i) (w .0 .taken) (omega (arith, w .1 .left)))))
-          (λ w. w .1 ∙ (so-far ∙ sym (least-below f lo (loop .i) (w .0 .left)))))
+      ⊎-elim (λ w. omega (arith, w .2, so-far, counts f lo i (w .0 .taken), w .1 .taken))
+          (⊎-elim (λ w. omega (arith, w .2, so-far, counts f lo i (w .0 .taken), w .1 .left))
+          (λ w. w .1 ∙ (so-far ∙ sym (passed f lo i (w .0 .left)))))
           (c .if1 .came),
     )
 
