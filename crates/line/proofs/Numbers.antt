@@ -15,7 +15,7 @@ use mir.ValLaws.{toZ-pos, toZ-ofZ}
 use Rattle.prelude.specs.Checks.{firstFailing}
 use Rattle.prelude.proofs.Tests.{zero-is-one, lt-or-ge, by-cond}
 use Rattle.text.specs.Number.{isNumber, isNegative, inRange, magnitude, valueOf}
-use Rattle.text.specs.ReadNumber.{capped, numberOf}
+use Rattle.text.specs.ReadNumber.{capped, readNumber}
 use Rattle.text.specs.declared.Number.the-variants as Num
 use Rattle.refusal.specs.declared.Cause.{Cause}
 use Rattle.refusal.specs.declared.Cause.the-variants as C
@@ -48,18 +48,18 @@ by-minus true true a v e = (refl, refl, cc)
 by-minus true false a v e = zero-is-one cc
 
 module _ (most : ℕ) (f : List ℕ) where
-  pub number-ill : numberOf most f ≡ Num.IllFormed → isNumber f ≡ false
-  unfolding numberOf
+  pub number-ill : readNumber most f ≡ Num.IllFormed → isNumber f ≡ false
+  unfolding readNumber
   number-ill e = by-ill (isNumber f) (isNegative f) (capped most (magnitude f)) e
 
-  pub number-plus : (v : ℕ) → numberOf most f ≡ Num.Plus v → ReadAs most f false v
-  unfolding numberOf
+  pub number-plus : (v : ℕ) → readNumber most f ≡ Num.Plus v → ReadAs most f false v
+  unfolding readNumber
   number-plus v e =
       let w = by-plus (isNumber f) (isNegative f) (capped most (magnitude f)) v e in
       record { well-formed = w .0; sign = w .1; size = w .2 }
 
-  pub number-minus : (v : ℕ) → numberOf most f ≡ Num.Minus v → ReadAs most f true v
-  unfolding numberOf
+  pub number-minus : (v : ℕ) → readNumber most f ≡ Num.Minus v → ReadAs most f true v
+  unfolding readNumber
   number-minus v e =
       let w = by-minus (isNumber f) (isNegative f) (capped most (magnitude f)) v e in
       record { well-formed = w .0; sign = w .1; size = w .2 }
@@ -69,17 +69,17 @@ module _ (lo hi : ℕ) (f : List ℕ) where
   abbrev why : Option Cause
   why = firstFailing (countTests lo hi f)
 
-  pub count-ill : numberOf hi f ≡ Num.IllFormed → why ≡ some C.IllFormedNumber
+  pub count-ill : readNumber hi f ≡ Num.IllFormed → why ≡ some C.IllFormedNumber
   count-ill e = rw (number-ill hi f e)
 
   out-of-range : isNumber f ≡ true → inRange lo hi f ≡ false → why ≡ some C.OutOfRange
   out-of-range e n = rw (e, n)
 
-  pub count-minus : (v : ℕ) → numberOf hi f ≡ Num.Minus v → why ≡ some C.OutOfRange
+  pub count-minus : (v : ℕ) → readNumber hi f ≡ Num.Minus v → why ≡ some C.OutOfRange
   unfolding inRange
   count-minus v e = let w = number-minus hi f v e in out-of-range (w .well-formed) (rw (w .sign))
 
-  pub count-low : (v : ℕ) → numberOf hi f ≡ Num.Plus v → v < lo → why ≡ some C.OutOfRange
+  pub count-low : (v : ℕ) → readNumber hi f ≡ Num.Plus v → v < lo → why ≡ some C.OutOfRange
   unfolding inRange
   count-low v e h =
       let w = number-plus hi f v e in
@@ -89,14 +89,14 @@ module _ (lo hi : ℕ) (f : List ℕ) where
         | inr p ↦ out-of-range (w .well-formed) (rw (lt-leb (magnitude f) hi (omega arith), and-false, and-false))
       ]
 
-  pub count-high : (v : ℕ) → numberOf hi f ≡ Num.Plus v → hi < v → why ≡ some C.OutOfRange
+  pub count-high : (v : ℕ) → readNumber hi f ≡ Num.Plus v → hi < v → why ≡ some C.OutOfRange
   unfolding inRange
   count-high v e h =
       let w = number-plus hi f v e in
       let size = w .size in
       out-of-range (w .well-formed) (rw (lt-leb (magnitude f) hi (omega arith), and-false, and-false))
 
-  pub count-in : (v : ℕ) → numberOf hi f ≡ Num.Plus v → lo ≤ v → v ≤ hi → (why ≡ none) × (magnitude f ≡ v)
+  pub count-in : (v : ℕ) → readNumber hi f ≡ Num.Plus v → lo ≤ v → v ≤ hi → (why ≡ none) × (magnitude f ≡ v)
   unfolding inRange
   count-in v e l h =
       let w = number-plus hi f v e in
@@ -133,7 +133,7 @@ signed-minus v h = toZ-ofZ w32 (pos 0 -ℤ toZ w32 v) (negated-fits v h) ∙ neg
 
 -- the limit of a rule
 module _ (f : List ℕ) where
-  pub limit-ill : numberOf L.horizon f ≡ Num.IllFormed → limitOf f ≡ M.IllFormed
+  pub limit-ill : readNumber L.horizon f ≡ Num.IllFormed → limitOf f ≡ M.IllFormed
   unfolding limitOf
   limit-ill e = rw (number-ill L.horizon f e)
 

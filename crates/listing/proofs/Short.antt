@@ -24,7 +24,8 @@ use Rattle.network.specs.declared.Network.{Network}
 use Rattle.listing.specs.Listing.{fieldsOf, scenarioText, header, scenarioLine, listing}
 use Rattle.listing.specs.Most.{mostHeader, mostLine, mostListing}
 
-length-join : (f : ℕ → List ℕ) (most i n : ℕ) → ((j : ℕ) → i ≤ j → j < i + n → length (f j) ≤ most) → length (joinFrom i n f) ≤ n * most
+length-join : (f : ℕ → List ℕ) (most i n : ℕ) → ((j : ℕ) → i ≤ j → j < i + n → length (f j) ≤ most)
+    → length (joinFrom i n f) ≤ n * most
 length-join f most i zero h = rw (zero-mul most) (omega arith)
 length-join f most i (suc n) h =
     rw (suc-mul n most)
@@ -35,7 +36,8 @@ length-join f most i (suc n) h =
       length-join f most (suc i) n (λ j a b. h j (omega arith) (omega arith)),
     ))
 
-length-fields : (n most : ℕ) (f : ℕ → List ℕ) → ((j : ℕ) → j < n → length (f j) ≤ most) → length (fieldsOf n f) ≤ n * suc most + 1
+length-fields : (n most : ℕ) (f : ℕ → List ℕ) → ((j : ℕ) → j < n → length (f j) ≤ most)
+    → length (fieldsOf n f) ≤ n * suc most + 1
 length-fields n most f h =
     omega (
       arith,
@@ -45,12 +47,14 @@ length-fields n most f h =
 
 length-scenario : (k s : ℕ) → k ≤ 4 → length (scenarioText k s) ≤ 4
 length-scenario k s h =
-    by-test (λ (t : List ℕ). length t ≤ 4) (eqb k 0) _ (tabulate k (λ p. cond (truth s p) (code "T") (code "F"))) (λ e. omega arith)
+    by-test (λ (t : List ℕ). length t ≤ 4) (eqb k 0) _ (tabulate k (λ p. cond (truth s p) (code "T") (code "F")))
+    (λ e. omega arith)
     (λ e. omega (arith, length-tabulate (λ p. cond (truth s p) (code "T") (code "F")) k))
 
 module _ (sheet : List ℕ) (Γ : Network) (σ : List ℕ) (wf : WellFormed Γ) (named : Named sheet Γ) where
   name-short : (u : ℕ) → u < Γ .events → length (nameOf Γ sheet u) ≤ 8
-  name-short u l = omega (arith, named .short u l, length-take (getD (Γ .lengths) u 0) (drop (getD (Γ .starts) u 0) sheet))
+  name-short u l =
+      omega (arith, named .short u l, length-take (getD (Γ .lengths) u 0) (drop (getD (Γ .starts) u 0) sheet))
 
   header-short : length (header sheet Γ) ≤ mostHeader
   header-short =
@@ -65,7 +69,8 @@ module _ (sheet : List ℕ) (Γ : Network) (σ : List ℕ) (wf : WellFormed Γ) 
           wf .events,
           length-append (scenarioText (Γ .signals) s) minutes,
           length-scenario (Γ .signals) s (wf .signals),
-          length-fields (Γ .events) 5 (λ u. decimal (time (Γ .events) σ s u)) (λ u h. length-decimal-16 _ (times s u l h)),
+          length-fields (Γ .events) 5 (λ u. decimal (time (Γ .events) σ s u))
+              (λ u h. length-decimal-16 _ (times s u l h)),
         )
 
     pub listing-short : length (listing sheet Γ σ) ≤ mostListing

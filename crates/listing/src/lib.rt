@@ -20,7 +20,8 @@ use page::Written;
 
 // The names of all events, and the line feed.
 fn push_names(page: &mut [u8], at: usize, sheet: &[u8], network: Network) -> usize
-    requires { ⌜ WellFormed network × Named (now sheet) network × (at + mostNames (network .events) ≤ length (now page)) ⌝ }
+    requires { ⌜ WellFormed network × Named (now sheet) network
+        × (at + mostNames (network .events) ≤ length (now page)) ⌝ }
     ensures { λ r. ⌜ Appended (mostNames (network .events)) (now (page .entry)) at
         (fieldsOf (network .events) (nameOf network (now (sheet .entry)))) (now (page .exit)) r ⌝ }
 {
@@ -36,7 +37,8 @@ fn push_names(page: &mut [u8], at: usize, sheet: &[u8], network: Network) -> usi
 // The first line, which depends on no time.
 fn push_header(page: &mut [u8], sheet: &[u8], network: Network) -> usize
     requires { ⌜ WellFormed network × Named (now sheet) network × (mostHeader ≤ length (now page)) ⌝ }
-    ensures { λ r. ⌜ Appended mostHeader (now (page .entry)) 0 (header (now (sheet .entry)) network) (now (page .exit)) r ⌝ }
+    ensures { λ r. ⌜ Appended mostHeader (now (page .entry)) 0 (header (now (sheet .entry)) network)
+        (now (page .exit)) r ⌝ }
 {
     let at = page::push_all(page, 0, b"case");
     push_names(page, at, sheet, network)
@@ -103,7 +105,8 @@ fn push_line(
 ) -> usize
     requires { ⌜ (signals ≤ L.signals) × (events ≤ L.events) × (at + mostLine ≤ length (now page))
         × (s * events + events ≤ length (now table)) ⌝ }
-    ensures { λ r. ⌜ Appended mostLine (now (page .entry)) at (lineOf signals events (now (table .entry)) s) (now (page .exit)) r ⌝ }
+    ensures { λ r. ⌜ Appended mostLine (now (page .entry)) at (lineOf signals events (now (table .entry)) s)
+        (now (page .exit)) r ⌝ }
 {
     let next = push_truths(page, at, s, signals);
     push_times(page, next, table, s, events)
@@ -131,7 +134,8 @@ pub const LONGEST: usize = 1765;
 // them.
 pub fn write(sheet: &[u8], network: Network, table: &[u16], out: &mut [u8]) -> Written
     requires { ⌜ WellFormed network × Named (now sheet) network × (length (now table) ≡ cells network) ⌝ }
-    ensures { λ r. ⌜ WrittenIs (listing (now (sheet .entry)) network (now (table .entry))) (now (out .entry)) (now (out .exit)) r ⌝ }
+    ensures { λ r. ⌜ WrittenIs (listing (now (sheet .entry)) network (now (table .entry)))
+        (now (out .entry)) (now (out .exit)) r ⌝ }
 {
     let mut page = [0u8; LONGEST];
     let signals = network.signals;

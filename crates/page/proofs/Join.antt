@@ -21,7 +21,8 @@ module _ (f : ℕ → List ℕ) where
   join-more n = rw add-one (joinFrom-end 0 n n (omega arith))
 
 -- a loop that writes f 0, f 1, .. , each of at most `most` bytes and `total` of them, has come to n
-pub record Joining (most : ℕ) (f : ℕ → List ℕ) (total : ℕ) (b : List ℕ) (at n : ℕ) (page : List ℕ) (next : ℕ) : Type 0 where
+pub record Joining (most : ℕ) (f : ℕ → List ℕ) (total : ℕ) (b : List ℕ) (at n : ℕ) (page : List ℕ)
+    (next : ℕ) : Type 0 where
   pub within : n ≤ total
   pub done : Appended (most * n) b at (joinFrom 0 n f) page next
 
@@ -34,7 +35,8 @@ module _ {most : ℕ} {f : ℕ → List ℕ} {total : ℕ} {b : List ℕ} {at : 
   module _ {n r : ℕ} {m : List ℕ} (here : Joining most f total b at n m r) where
     pub join-next : {j e : ℕ} {a : List ℕ} → n < total → Appended j m r (f n) a e → j ≤ most
         → Joining most f total b at (n + 1) a e
-    join-next h g k = record { within = omega arith; done = rw (join-more f n) (append-then (here .done) g (omega arith)) }
+    join-next h g k =
+        record { within = omega arith; done = rw (join-more f n) (append-then (here .done) g (omega arith)) }
 
     pub join-all : total ≤ n → Appended (most * total) b at (joinFrom 0 total f) m r
     join-all h = let all : n ≡ total = omega arith in rw all at (here .done)

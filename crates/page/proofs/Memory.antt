@@ -27,7 +27,8 @@ module _ (text before : List ℕ) where
       record { answer = rw short; buffer = rw short }
 
   -- the text at the front
-  pub written-all : {most end : ℕ} {after : List ℕ} → Appended most before 0 text after end → WrittenIs text before after (Bytes end)
+  pub written-all : {most end : ℕ} {after : List ℕ} → Appended most before 0 text after end
+      → WrittenIs text before after (Bytes end)
   unfolding writtenOf bufferAfter
   written-all {end = end} f =
       let count : end ≡ length text = omega arith in

@@ -37,7 +37,8 @@ pub fn push_all(page: &mut [u8], at: usize, s: &[u8]) -> usize
 // A field of a line, behind its comma.
 pub fn push_field(page: &mut [u8], at: usize, s: &[u8]) -> usize
     requires { ⌜ at + length (now s) < length (now page) ⌝ }
-    ensures { λ r. ⌜ Appended (1 + length (now (s .entry))) (now (page .entry)) at (comma ∷ now (s .entry)) (now (page .exit)) r ⌝ }
+    ensures { λ r. ⌜ Appended (1 + length (now (s .entry))) (now (page .entry)) at (comma ∷ now (s .entry))
+        (now (page .exit)) r ⌝ }
 {
     let next = push(page, at, b',');
     push_all(page, next, s)

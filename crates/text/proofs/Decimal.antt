@@ -34,13 +34,6 @@ decimal-more v h =
     let t = tenth-lt v h in
     rw (le-ltb v 10 h, digitsWithin, digitsWithin-enough v (suc (v / 10)) (v / 10) (omega arith) (omega arith))
 
-pub 1-le-decimal : (v : ℕ) → 1 ≤ length (decimal v)
-1-le-decimal v =
-    elim (lt-or-ge v 10) [
-      | inl h ↦ rw (decimal-digit v h) (omega arith)
-      | inr h ↦ rw (decimal-more v h, length-append) (omega arith)
-    ]
-
 -- v below 10 ^ (k + 1) has at most k + 1 digits
 pub length-decimal-le : (k v : ℕ) → v < 10 ^ k * 10 → length (decimal v) ≤ suc k
 length-decimal-le zero v h = rw (decimal-digit v (omega arith)) (omega arith)

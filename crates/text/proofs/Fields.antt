@@ -39,7 +39,8 @@ startOf-cons : (k : ℕ) (f : List ℕ) (fs : List (List ℕ)) → startOf (suc 
 startOf-cons zero f fs = omega arith
 startOf-cons (suc k) f fs = omega arith
 
-startOf-intoFirst : (b k : ℕ) (fs : List (List ℕ)) → 1 ≤ length fs → startOf (suc k) (intoFirst b fs) ≡ suc (startOf (suc k) fs)
+startOf-intoFirst : (b k : ℕ) (fs : List (List ℕ)) → 1 ≤ length fs
+    → startOf (suc k) (intoFirst b fs) ≡ suc (startOf (suc k) fs)
 startOf-intoFirst b k fs h = omega (arith, endOf-intoFirst b k fs h)
 
 field-intoFirst : (b k : ℕ) (fs : List (List ℕ)) → field (suc k) (intoFirst b fs) ≡ field (suc k) fs
@@ -91,15 +92,18 @@ part-at (suc k) (b ∷ s) h =
     elim (eq-or-ne b comma) [
       | inl e ↦
           let m : suc k < suc (length (fields s)) = rw (fields-comma b s e) at h in
-          let z : startOf (suc k) ([] ∷ fields s) ≡ suc (startOf k (fields s)) = omega (arith, startOf-cons k [] (fields s)) in
+          let z : startOf (suc k) ([] ∷ fields s) ≡ suc (startOf k (fields s)) =
+          omega (arith, startOf-cons k [] (fields s)) in
           rw (fields-comma b s e, z) (part-at k s (omega arith))
       | inr n ↦
           let m : suc k < length (fields s) = rw (fields-byte b s n, length-intoFirst) at h in
-          rw (fields-byte b s n, field-intoFirst, startOf-intoFirst b k (fields s) (1-le-fields s)) (part-at (suc k) s m)
+          rw (fields-byte b s n, field-intoFirst, startOf-intoFirst b k (fields s) (1-le-fields s))
+          (part-at (suc k) s m)
     ]
 
 pub field-part : (k : ℕ) (l : List ℕ) → k < length (fields l)
     → field k (fields l) ≡ take (endOf k (fields l) - startOf k (fields l)) (drop (startOf k (fields l)) l)
 field-part k l h =
-    let e : endOf k (fields l) - startOf k (fields l) ≡ length (field k (fields l)) = omega (arith, endOf-is k (fields l) h) in
+    let e : endOf k (fields l) - startOf k (fields l) ≡ length (field k (fields l)) =
+    omega (arith, endOf-is k (fields l) h) in
     rw e (sym (part-at k l h))

@@ -1,11 +1,9 @@
 -- Laws of the definitions, for the proofs of this crate and of those above: lines and scans; fields in their line,
--- and the pass that finds them; numbers as they are read, and what an answer says; numbers as they are written; the
--- round trips; examples.
+-- and the pass that finds them; numbers as they are read; numbers as they are written; the round trips; examples.
 pub mod Lines
 pub mod Fields
 pub mod Cutting
 pub mod ReadNumber
-pub mod Answered
 pub mod Decimal
 pub mod Spelled
 pub mod RoundTrip

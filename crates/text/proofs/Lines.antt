@@ -1,18 +1,18 @@
 -- Laws of lines: what stands before a separator, and what a scan that has come to i knows of `drop i s`. Assumes
 -- nothing.
-use mathlib.Core.Path.{_≡_, refl, sym, _∙_, ap}
+use mathlib.Core.Path.{_≡_, refl, sym, ap}
 use mathlib.Core.Logic.{inl, inr}
 use mathlib.Core.Bool.{true, false}
 use mathlib.Core.List.{List, [], _∷_}
 use Prim.Native.Nat.{ℕ, suc, _+_, _-_, _≤_, _<_}
 use native.Mathlib.Numerals.{add-one}
 use native.Mathlib.Omega.{arith}
-use borrow.Author.Tests.{eq-eqb, ne-eqb, eqb-true, eqb-false, lt-ltb, le-ltb}
-use lib.Dec.{eqb, ltb}
+use borrow.Author.Tests.{eq-eqb, ne-eqb, eqb-true, eqb-false}
+use lib.Dec.{eqb}
 use lib.ListN.{length, getD, take, drop, length-drop, drop-of-length-le}
 use lib.Seq.{drop-cons, take-all}
 use Rattle.prelude.specs.Bytes.{isIn, same}
-use Rattle.prelude.proofs.Tests.{either, clash, lt-or-ge}
+use Rattle.prelude.proofs.Tests.{either, clash}
 use Rattle.text.specs.Lines.{upTo}
 
 -- a part that runs to the end of its slice, `&s[a..]`
@@ -71,14 +71,6 @@ module _ (d : ℕ) where
   pub not-isIn-of-upTo-le : (s : List ℕ) → length s ≤ length (upTo d s) → isIn d s ≡ false
   not-isIn-of-upTo-le s h =
       elim (either (isIn d s)) [ inl p ↦ absurd (omega (arith, upTo-lt-of-isIn s p)) | inr q ↦ q ]
-
-  -- the two as one test
-  pub isIn-upTo : (s : List ℕ) → isIn d s ≡ ltb (length (upTo d s)) (length s)
-  isIn-upTo s =
-      elim (lt-or-ge (length (upTo d s)) (length s)) [
-        | inl h ↦ isIn-of-upTo-lt s h ∙ sym (lt-ltb (length (upTo d s)) (length s) h)
-        | inr h ↦ not-isIn-of-upTo-le s h ∙ sym (le-ltb (length (upTo d s)) (length s) h)
-      ]
 
   -- a scan for d at i
   module _ (s : List ℕ) (i : ℕ) where

@@ -11,7 +11,7 @@ use lib.ListN.{length, getD, drop}
 use Rattle.prelude.specs.Bytes.{every}
 use Rattle.prelude.proofs.Tests.{zero-is-one, either, lt-or-ge, eq-or-ne}
 use Rattle.text.specs.Number.{isDigit, isNatural, valueFrom, isNumber, isNegative}
-use Rattle.text.specs.ReadNumber.{capped, sized, digitsOf, naturalOf, numberOf}
+use Rattle.text.specs.ReadNumber.{capped, sized, readDigits, readNatural, readNumber}
 use Rattle.text.specs.declared.Natural.{Natural}
 use Rattle.text.specs.declared.Natural.the-variants as Nat
 use Rattle.text.specs.declared.Number.{Number}
@@ -59,23 +59,23 @@ module _ (most : ℕ) where
     digits-end h l = rw (drop-end s i h) (ap Nat.Size (omega arith))
 
   -- a number with no sign: by its length and its first digit
-  pub natural-empty : (f : List ℕ) → length f ≡ 0 → naturalOf most f ≡ Nat.IllFormed
+  pub natural-empty : (f : List ℕ) → length f ≡ 0 → readNatural most f ≡ Nat.IllFormed
   natural-empty [] h = refl
   natural-empty (b ∷ s) h = absurd (omega arith)
 
-  pub natural-one : (f : List ℕ) → length f ≡ 1 → naturalOf most f ≡ digitsOf most f
+  pub natural-one : (f : List ℕ) → length f ≡ 1 → readNatural most f ≡ readDigits most f
   natural-one [] h = absurd (omega arith)
   natural-one (b ∷ s) h = let e : length s ≡ 0 = omega arith in rw (eq-eqb (length s) 0 e, or-true, and-true)
 
-  pub natural-first : (f : List ℕ) → 0 < length f → (getD f 0 0 ≡ 48 → ⊥) → naturalOf most f ≡ digitsOf most f
+  pub natural-first : (f : List ℕ) → 0 < length f → (getD f 0 0 ≡ 48 → ⊥) → readNatural most f ≡ readDigits most f
   natural-first [] h n = absurd (omega arith)
   natural-first (b ∷ s) h n = rw (ne-eqb b 48 n, and-true)
 
-  pub natural-zero : (f : List ℕ) → (length f ≡ 1 → ⊥) → getD f 0 0 ≡ 48 → naturalOf most f ≡ Nat.IllFormed
+  pub natural-zero : (f : List ℕ) → (length f ≡ 1 → ⊥) → getD f 0 0 ≡ 48 → readNatural most f ≡ Nat.IllFormed
   natural-zero [] h e = refl
   natural-zero (b ∷ s) h e = rw (eq-eqb b 48 e, ne-eqb (length s) 0 (λ z. h (ap suc z)), and-false)
 
-  pub natural-some : (f : List ℕ) (v : ℕ) → naturalOf most f ≡ Nat.Size v → 0 < length f
+  pub natural-some : (f : List ℕ) (v : ℕ) → readNatural most f ≡ Nat.Size v → 0 < length f
   natural-some [] v e = zero-is-one cc
   natural-some (b ∷ s) v e = omega arith
 
@@ -97,29 +97,29 @@ minus Nat.IllFormed = Num.IllFormed
 minus (Nat.Size v) = Num.Minus v
 
 module _ (most : ℕ) (f : List ℕ) where
-  pub number-plus : (getD f 0 0 ≡ 45 → ⊥) → numberOf most f ≡ plus (naturalOf most f)
-  unfolding numberOf isNumber
+  pub number-plus : (getD f 0 0 ≡ 45 → ⊥) → readNumber most f ≡ plus (readNatural most f)
+  unfolding readNumber isNumber
   number-plus n =
       rw (isNegative-false f n, and-true)
       (elim (either (isNatural f)) [ inl t ↦ rw t | inr t ↦ rw t ])
 
-  pub number-minus-zero : 0 < length f → getD f 0 0 ≡ 45 → getD f 1 0 ≡ 48 → numberOf most f ≡ Num.IllFormed
-  unfolding numberOf isNumber
+  pub number-minus-zero : 0 < length f → getD f 0 0 ≡ 45 → getD f 1 0 ≡ 48 → readNumber most f ≡ Num.IllFormed
+  unfolding readNumber isNumber
   number-minus-zero h e z = rw (isNegative-true f h e, eq-eqb (getD f 1 0) 48 z, and-false)
 
   pub number-minus : 0 < length f → getD f 0 0 ≡ 45 → (getD f 1 0 ≡ 48 → ⊥)
-      → numberOf most f ≡ minus (naturalOf most (drop 1 f))
-  unfolding numberOf isNumber
+      → readNumber most f ≡ minus (readNatural most (drop 1 f))
+  unfolding readNumber isNumber
   number-minus h e n =
       rw (isNegative-true f h e, ne-eqb (getD f 1 0) 48 n, and-true)
       (elim (either (isNatural (drop 1 f))) [ inl t ↦ rw t | inr t ↦ rw t ])
 
-  pub number-minus-ill : 0 < length f → getD f 0 0 ≡ 45 → naturalOf most (drop 1 f) ≡ Nat.IllFormed
-      → numberOf most f ≡ Num.IllFormed
+  pub number-minus-ill : 0 < length f → getD f 0 0 ≡ 45 → readNatural most (drop 1 f) ≡ Nat.IllFormed
+      → readNumber most f ≡ Num.IllFormed
   number-minus-ill h e i =
       elim (eq-or-ne (getD f 1 0) 48) [ inl z ↦ number-minus-zero h e z | inr n ↦ number-minus h e n ∙ ap minus i ]
 
-  pub number-empty : length f ≡ 0 → numberOf most f ≡ Num.IllFormed
+  pub number-empty : length f ≡ 0 → readNumber most f ≡ Num.IllFormed
   number-empty h = number-plus (none f h) ∙ ap plus (natural-empty most f h)
     where
       none : (g : List ℕ) → length g ≡ 0 → getD g 0 0 ≡ 45 → ⊥

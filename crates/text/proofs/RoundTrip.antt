@@ -54,7 +54,8 @@ first-decimal =
 
 isNatural-first : (s : List ℕ) → every isDigit s ≡ true → 0 < length s → (getD s 0 0 ≡ 48 → ⊥) → isNatural s ≡ true
 isNatural-first [] e h n = absurd (omega arith)
-isNatural-first (b ∷ s) e h n = and-both (every isDigit (b ∷ s)) (not (eqb b 48) || eqb (length s) 0) e (rw (ne-eqb b 48 n))
+isNatural-first (b ∷ s) e h n =
+    and-both (every isDigit (b ∷ s)) (not (eqb b 48) || eqb (length s) 0) e (rw (ne-eqb b 48 n))
 
 -- what is written is well formed
 pub isNatural-decimal : (v : ℕ) → isNatural (decimal v) ≡ true

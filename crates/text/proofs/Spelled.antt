@@ -19,7 +19,8 @@ module _ (v : ℕ) (h : v ≤ 65535) {r : Digits} (d : DigitsAre (v / 10) r) whe
   room = omega (arith, count-is d, length-tenth-16 v h)
 
   -- the last digit put behind those of a tenth
-  pub digits-more : 10 ≤ v → DigitsAre v (record { bytes = set (r .bytes) (r .count) (48 + v % 10); count = r .count + 1 })
+  pub digits-more : 10 ≤ v
+      → DigitsAre v (record { bytes = set (r .bytes) (r .count) (48 + v % 10); count = r .count + 1 })
   digits-more l =
       let behind = take-suc-set (r .bytes) (r .count) (48 + v % 10) (omega (arith, room, d .sized)) in
       record {

@@ -19,15 +19,15 @@ abbrev pub sized : Bool → ℕ → N.Natural
 sized ok v = cond ok (Nat.Size v) Nat.IllFormed
 
 -- any digits, and those that are a number with no sign
-abbrev pub digitsOf : ℕ → List ℕ → N.Natural
-digitsOf most f = sized (every isDigit f) (capped most (valueFrom 0 f))
+abbrev pub readDigits : ℕ → List ℕ → N.Natural
+readDigits most f = sized (every isDigit f) (capped most (valueFrom 0 f))
 
-abbrev pub naturalOf : ℕ → List ℕ → N.Natural
-naturalOf most f = sized (isNatural f) (capped most (valueFrom 0 f))
+abbrev pub readNatural : ℕ → List ℕ → N.Natural
+readNatural most f = sized (isNatural f) (capped most (valueFrom 0 f))
 
 -- a number with its sign
-unfoldable pub numberOf : ℕ → List ℕ → S.Number
-numberOf most f =
+unfoldable pub readNumber : ℕ → List ℕ → S.Number
+readNumber most f =
     cond (isNumber f)
     (cond (isNegative f) (Num.Minus (capped most (magnitude f))) (Num.Plus (capped most (magnitude f))))
     Num.IllFormed

@@ -5,7 +5,7 @@ ghost use lib.ListN.{length, set};
 ghost use Rattle.prelude.specs.Bytes.{same};
 ghost use Rattle.text.specs.Lines.{upTo};
 ghost use Rattle.text.specs.Cuts.{CutsAre, FieldIs};
-ghost use Rattle.text.specs.ReadNumber.{capped, digitsOf, naturalOf, numberOf};
+ghost use Rattle.text.specs.ReadNumber.{capped, readDigits, readNatural, readNumber};
 ghost use Rattle.text.specs.Spelled.{DigitsAre};
 
 // Where the first byte d stands, or the length where there is none.
@@ -90,7 +90,7 @@ pub fn field(line: &[u8], cuts: Cuts, k: usize) -> &[u8]
     &line[start..end]
 }
 
-// What a row of digits is: no number, or its size.
+// What digits are: no number, or its size.
 enum Natural {
     IllFormed,
     Size(u32),
@@ -120,10 +120,10 @@ fn next_size(v: u32, b: u8, most: u32) -> u32
     most + 1
 }
 
-// The size of a row of digits.
+// The size of digits one behind the other.
 fn read_digits(f: &[u8], most: u32) -> Natural
     requires { ⌜ most ≤ 65535 ⌝ }
-    ensures { λ r. ⌜ r ≡ digitsOf most (now (f .entry)) ⌝ }
+    ensures { λ r. ⌜ r ≡ readDigits most (now (f .entry)) ⌝ }
 {
     let mut v: u32 = 0;
     let mut i = 0;
@@ -144,7 +144,7 @@ fn read_digits(f: &[u8], most: u32) -> Natural
 // A number with no sign.
 fn read_natural(f: &[u8], most: u32) -> Natural
     requires { ⌜ most ≤ 65535 ⌝ }
-    ensures { λ r. ⌜ r ≡ naturalOf most (now (f .entry)) ⌝ }
+    ensures { λ r. ⌜ r ≡ readNatural most (now (f .entry)) ⌝ }
 {
     if f.len() == 0 {
         return Natural::IllFormed;
@@ -161,7 +161,7 @@ fn read_natural(f: &[u8], most: u32) -> Natural
 // A number with its sign; a size over `most` is given as one more than `most`, so that any count of digits is exact.
 pub fn read_number(f: &[u8], most: u32) -> Number
     requires { ⌜ most ≤ 65535 ⌝ }
-    ensures { λ r. ⌜ r ≡ numberOf most (now (f .entry)) ⌝ }
+    ensures { λ r. ⌜ r ≡ readNumber most (now (f .entry)) ⌝ }
 {
     if f.len() == 0 {
         return Number::IllFormed;

@@ -57,7 +57,8 @@ push-field-requires : tie.Need-push-field-requires Inv-loop μ-loop
 push-field-requires c κs =
     let in-loop = c .before .before .before .before .before in
     let start = in-loop .before .before .before in
-    let short = name-short (start .args .t4) (now (start .args .sheet)) (in-loop .loop .u) (start .pre .1) (omega arith) in
+    let short =
+    name-short (start .args .t4) (now (start .args .sheet)) (in-loop .loop .u) (start .pre .1) (omega arith) in
     rw part-from (omega arith)
 
 add-u : tie.Need-add-u Inv-loop μ-loop
@@ -72,7 +73,8 @@ loop-again c =
     let in-loop = field .before .before .before .before .before .before in
     let start = in-loop .before .before .before in
     let inv = in-loop .loop .inv in
-    let short = name-short (start .args .t4) (now (start .args .sheet)) (in-loop .loop .u) (start .pre .1) (omega arith) in
+    let short =
+    name-short (start .args .t4) (now (start .args .sheet)) (in-loop .loop .u) (start .pre .1) (omega arith) in
     (join-next (inv .0) (omega arith) (rw part-from at (field .push-field .ensures)) (omega arith), inv .1)
 
 push-requires : tie.Need-push-requires Inv-loop μ-loop

@@ -68,7 +68,8 @@ returns-2 c =
     let loop = c .before .loop in
     let branch = c .before .before in
     let args = branch .before .before .args in
-    append-as (scenarioText-some (args .s) (args .signals) (branch .if1 .left)) (join-all (loop .inv .0) (omega arith)) (omega arith)
+    append-as (scenarioText-some (args .s) (args .signals) (branch .if1 .left)) (join-all (loop .inv .0) (omega arith))
+    (omega arith)
 
 pub push-truths-spec : {M : Type 1} → statement M
 push-truths-spec =

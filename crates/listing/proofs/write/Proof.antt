@@ -41,7 +41,8 @@ returns c =
     let first = lines .before .before .before in
     let args = first .before .before .before .before .before .args in
     let whole =
-    listing-appended (now (args .sheet)) (args .network) (now (args .table)) (first .push-header .ensures) (lines .push-lines .ensures)
+    listing-appended (now (args .sheet)) (args .network) (now (args .table)) (first .push-header .ensures)
+    (lines .push-lines .ensures)
     in
     rw (append-front whole .1) at (handed .hand-out .ensures)
 

@@ -42,7 +42,8 @@ loop-again c =
     let args = c .before .before .before .args in
     let loop = c .before .before .loop in
     let inv = loop .inv in (
-      rw (inv .0, add-one) (paste-suc (now (args .page)) (args .at) (now (args .s)) (loop .i) 0 (omega arith) (omega arith)),
+      rw (inv .0, add-one)
+          (paste-suc (now (args .page)) (args .at) (now (args .s)) (loop .i) 0 (omega arith) (omega arith)),
       rw length-set (inv .1),
       omega arith,
       inv .3,

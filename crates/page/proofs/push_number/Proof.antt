@@ -22,7 +22,11 @@ slice-aggregate-push-all c =
 push-all-requires : tie.Need-push-all-requires
 push-all-requires c κs =
     let digits = c .before .before .before .spell in
-    omega (arith, count-is (digits .ensures), length-take-le (digits .result .count) (digits .result .bytes) (omega arith))
+    omega (
+      arith,
+      count-is (digits .ensures),
+      length-take-le (digits .result .count) (digits .result .bytes) (omega arith),
+    )
 
 same-length : tie.Need-same-length
 same-length c = search needs

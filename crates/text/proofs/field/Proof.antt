@@ -23,7 +23,9 @@ slice-aggregate-result c = sym (length-take-le _ _ (end-le (c .before .before .b
 returns : tie.Need-returns
 returns c =
     let start = c .before .before .before in
-    let whole = field-is (start .pre) 0 (sym (ap (λ (k : ℕ). startOf k (fields (start .args .line .now))) (c .before .if1 .taken))) in
+    let whole =
+    field-is (start .pre) 0
+    (sym (ap (λ (k : ℕ). startOf k (fields (start .args .line .now))) (c .before .if1 .taken))) in
     rw sub-zero at whole
 
 sub-start : tie.Need-sub-start
@@ -36,7 +38,9 @@ array-read-start : tie.Need-array-read-start
 array-read-start c = search needs
 
 add-start : tie.Need-add-start
-add-start c = omega (arith, end-le (c .before .before .pre), start-le (c .before .before .pre), start-is (c .before .before .pre) (c .if1 .left))
+add-start c =
+    let pre = c .before .before .pre in
+    omega (arith, end-le pre, start-le pre, start-is pre (c .if1 .left))
 
 sub-result : tie.Need-sub-result
 sub-result c = omega (arith, start-le (c .before .before .pre), start-is (c .before .before .pre) (c .if1 .left))

@@ -6,13 +6,13 @@ use Prim.Native.Nat.{_+_, _-_, _≤_}
 use native.Mathlib.Omega.{arith}
 use borrow.Author.Needs.{needs}
 use lib.ListN.{length, drop}
-use Rattle.text.specs.ReadNumber.{digitsOf}
+use Rattle.text.specs.ReadNumber.{readDigits}
 use Rattle.text.proofs.ReadNumber.{digitsFrom, digits-hit, digits-miss, digits-end, isDigit-low, isDigit-high}
 use Rattle.text.proofs.read_digits.Statement.{statement}
 use Rattle.text.proofs.read_digits.Tie as tie
 
 abbrev Inv-loop : tie.InvT-loop
-Inv-loop f most v₀ i₀ v i = (i ≤ length f) × (v ≤ most + 1) × (digitsOf most f ≡ digitsFrom most v (drop i f))
+Inv-loop f most v₀ i₀ v i = (i ≤ length f) × (v ≤ most + 1) × (readDigits most f ≡ digitsFrom most v (drop i f))
 
 abbrev μ-loop : tie.MeasureT-loop
 μ-loop f most v₀ i₀ v i = length f - i

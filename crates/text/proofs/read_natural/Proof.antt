@@ -14,13 +14,17 @@ read-digits-requires : tie.Need-read-digits-requires
 read-digits-requires c κs = search needs
 
 returns-2 : tie.Need-returns-2
-returns-2 c = c .read-digits .ensures ∙ sym (natural-one _ (c .before .before .before .before .args .f .now) (c .before .if2 .taken))
+returns-2 c =
+    let start = c .before .before .before .before in
+    c .read-digits .ensures ∙ sym (natural-one _ (start .args .f .now) (c .before .if2 .taken))
 
 shared-slice-read-if3 : tie.Need-shared-slice-read-if3
 shared-slice-read-if3 c = search needs
 
 returns-3 : tie.Need-returns-3
-returns-3 c = sym (natural-zero _ (c .before .before .before .before .before .args .f .now) (c .before .before .if2 .left) (c .if3 .taken))
+returns-3 c =
+    let start = c .before .before .before .before .before in
+    sym (natural-zero _ (start .args .f .now) (c .before .before .if2 .left) (c .if3 .taken))
 
 read-digits-requires-2 : tie.Need-read-digits-requires-2
 read-digits-requires-2 c κs = search needs

@@ -4,7 +4,7 @@ use mathlib.Core.Path.{sym, _∙_, ap}
 use native.Mathlib.Omega.{arith}
 use borrow.Author.Needs.{needs}
 use lib.ListN.{drop, length-drop}
-use Rattle.text.specs.ReadNumber.{naturalOf}
+use Rattle.text.specs.ReadNumber.{readNatural}
 use Rattle.text.proofs.Lines.{take-drop}
 use Rattle.text.proofs.ReadNumber.{natural-some, plus, minus}
 use Rattle.text.proofs.ReadNumber.{number-empty, number-plus, number-minus, number-minus-zero, number-minus-ill}
@@ -29,12 +29,14 @@ enum-known-n c = search needs
 returns-2 : tie.Need-returns-2
 returns-2 c =
     let read = c .before .before in
-    sym (number-plus _ _ (read .before .if2 .taken) ∙ ap plus (sym (read .read-natural .ensures) ∙ c .enum-told .given .1))
+    let natural = sym (read .read-natural .ensures) ∙ c .enum-told .given .1 in
+    sym (number-plus _ _ (read .before .if2 .taken) ∙ ap plus natural)
 
 returns-3 : tie.Need-returns-3
 returns-3 c =
     let read = c .before .before .before in
-    sym (number-plus _ _ (read .before .if2 .taken) ∙ ap plus (sym (read .read-natural .ensures) ∙ c .before .n .given .1))
+    let natural = sym (read .read-natural .ensures) ∙ c .before .n .given .1 in
+    sym (number-plus _ _ (read .before .if2 .taken) ∙ ap plus natural)
 
 sub-read-natural : tie.Need-sub-read-natural
 sub-read-natural c = search needs
@@ -58,24 +60,31 @@ shared-slice-read-if3 : tie.Need-shared-slice-read-if3
 shared-slice-read-if3 c =
     let read = c .before .before .before .before in
     let f = read .before .before .before .before .before .before .args .f .now in
-    let rest = ap (naturalOf _) (sym (take-drop f 1)) ∙ sym (read .read-natural2 .ensures) ∙ c .before .before .n2 .given .1 in
+    let rest =
+    ap (readNatural _) (sym (take-drop f 1)) ∙ sym (read .read-natural2 .ensures) ∙ c .before .before .n2 .given .1 in
     omega (arith, natural-some _ (drop 1 f) _ rest, length-drop 1 f)
 
 returns-4 : tie.Need-returns-4
-returns-4 c = sym (number-minus-zero _ _ (omega arith) (c .before .before .before .before .before .before .before .if2 .left) (c .if3 .taken))
+returns-4 c =
+    let signed = c .before .before .before .before .before .before .before .if2 .left in
+    sym (number-minus-zero _ _ (omega arith) signed (c .if3 .taken))
 
 returns-5 : tie.Need-returns-5
 returns-5 c =
     let read = c .before .before in
     let f = read .before .before .before .before .before .before .args .f .now in
-    let rest = ap (naturalOf _) (sym (take-drop f 1)) ∙ sym (read .read-natural2 .ensures) ∙ c .enum-told2 .given .1 in
+    let rest =
+    ap (readNatural _) (sym (take-drop f 1)) ∙ sym (read .read-natural2 .ensures) ∙ c .enum-told2 .given .1 in
     sym (number-minus-ill _ _ (omega arith) (read .before .before .if2 .left) rest)
 
 returns-6 : tie.Need-returns-6
 returns-6 c =
     let read = c .before .before .before .before .before in
     let f = read .before .before .before .before .before .before .args .f .now in
-    let rest = ap (naturalOf _) (sym (take-drop f 1)) ∙ sym (read .read-natural2 .ensures) ∙ c .before .before .before .n2 .given .1 in
+    let rest =
+    ap (readNatural _) (sym (take-drop f 1))
+    ∙ sym (read .read-natural2 .ensures)
+    ∙ c .before .before .before .n2 .given .1 in
     sym (number-minus _ _ (omega arith) (read .before .before .if2 .left) (c .if3 .left) ∙ ap minus rest)
 
 pub read-number-spec : {M : Type 1} → statement M

@@ -26,7 +26,8 @@ returns : tie.Need-returns Inv-loop μ-loop
 returns c =
     let in-loop = c .before .before in
     let here = in-loop .before in
-    omega (arith, upTo-hit (here .before .args .d) (here .before .args .s .now) (here .loop .i) (in-loop .loop-test .taken) (c .if1 .taken))
+    let args = here .before .args in
+    omega (arith, upTo-hit (args .d) (args .s .now) (here .loop .i) (in-loop .loop-test .taken) (c .if1 .taken))
 
 add-i : tie.Need-add-i Inv-loop μ-loop
 add-i c = search needs
@@ -38,7 +39,8 @@ loop-again : tie.Need-loop-again Inv-loop μ-loop
 loop-again c =
     let in-loop = c .before .before in
     let here = in-loop .before in
-    omega (arith, upTo-miss (here .before .args .d) (here .before .args .s .now) (here .loop .i) (in-loop .loop-test .taken) (c .if1 .left))
+    let args = here .before .args in
+    omega (arith, upTo-miss (args .d) (args .s .now) (here .loop .i) (in-loop .loop-test .taken) (c .if1 .left))
 
 returns-2 : tie.Need-returns-2 Inv-loop μ-loop
 returns-2 c =
