@@ -11,7 +11,7 @@ use Rattle.sheet.specs.Reading.{read}
 use Rattle.sheet.specs.declared.Outcome.the-variants.{Accepted}
 use Rattle.sheet.specs.declared.Reading.{Reading}
 use Rattle.tighten.specs.Tightest.{remainingOf}
-use Rattle.tighten.proofs.Regular.{rows-regular}
+use Rattle.tighten.proofs.Regular.{uppers-regular}
 use Rattle.tighten.proofs.Remains.{remaining-is, remaining-unique}
 use Rattle.canonical.specs.House.{houseText}
 use Rattle.canonical.specs.Same.{Same}
@@ -71,8 +71,8 @@ equal sheet other f g Γ Δ form form′ =
 pub housing : Housing
 housing = record {
   written = all-written;
-  rows = λ sheet Γ reads. remaining-is (rows-regular Γ (reads-well-formed reads));
-  rows-alone = λ sheet Γ rs reads is. remaining-unique (rows-regular Γ (reads-well-formed reads)) is;
+  rows = λ sheet Γ reads. remaining-is (uppers-regular Γ (reads-well-formed reads));
+  rows-alone = λ sheet Γ rs reads is. remaining-unique (uppers-regular Γ (reads-well-formed reads)) is;
   again = again;
   second-pass = second-pass;
   tables = tables;

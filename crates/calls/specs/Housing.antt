@@ -9,7 +9,7 @@ use Rattle.network.specs.Solution.{Solution}
 use Rattle.network.specs.Least.{Least, Inconsistent}
 use Rattle.network.specs.declared.Constraint.{Constraint}
 use Rattle.network.specs.declared.Network.{Network}
-use Rattle.tighten.specs.Upper.{rowsOf}
+use Rattle.tighten.specs.Upper.{uppersOf}
 use Rattle.tighten.specs.Remaining.{Remaining}
 use Rattle.tighten.specs.Tightest.{remainingOf}
 use Rattle.canonical.specs.House.{houseText}
@@ -35,8 +35,8 @@ pub record Housing : Type 0 where
   pub written : (sheet m f : List ℕ) (Γ : Network) → Form sheet Γ f → length f ≤ length m
       → Wrote f m (housed sheet m)
   -- the rows in it are those that remain of the sheet's, in document 02's words, and no other list is
-  pub rows : (sheet : List ℕ) (Γ : Network) → Reads sheet Γ → Remaining (rowsOf Γ) (remainingOf Γ)
-  pub rows-alone : (sheet : List ℕ) (Γ : Network) (rs : List Constraint) → Reads sheet Γ → Remaining (rowsOf Γ) rs
+  pub rows : (sheet : List ℕ) (Γ : Network) → Reads sheet Γ → Remaining (uppersOf Γ) (remainingOf Γ)
+  pub rows-alone : (sheet : List ℕ) (Γ : Network) (rs : List Constraint) → Reads sheet Γ → Remaining (uppersOf Γ) rs
       → rs ≡ remainingOf Γ
   -- the form is a sheet that is accepted, and it is its own form
   pub again : (sheet f : List ℕ) (Γ : Network) → Form sheet Γ f → (Δ : Network) × Form f Δ f

@@ -1,5 +1,5 @@
--- The form of an accepted sheet, where no more rows remain than a sheet may have (02, point 2): it is accepted, and
--- its network has the horizon, the events and the signals of the sheet's, and for rules the rows that remain. So "the
+-- The form of an accepted sheet, where no more upper bounds remain than a sheet may have (02, point 2): it is accepted,
+-- and its network has the horizon, the events and the signals of the sheet's, and for rules those that remain. So "the
 -- form reads back to the same good tables, and a second pass changes no byte". Assumes nothing.
 use mathlib.Core.Path.{_≡_, refl, sym, _∙_, ap}
 use mathlib.Core.Logic.{_↔_}
@@ -15,9 +15,9 @@ use Rattle.sheet.specs.declared.Outcome.the-variants.{Accepted}
 use Rattle.layout.specs.Layout.{Layout, textOf}
 use Rattle.layout.specs.Contains.{Contains}
 use Rattle.layout.proofs.Accepted.{accepted-iff, network-contains}
-use Rattle.tighten.specs.Upper.{rowsOf}
+use Rattle.tighten.specs.Upper.{uppersOf}
 use Rattle.tighten.specs.Tightest.{remaining, remainingOf}
-use Rattle.tighten.proofs.Regular.{rows-regular}
+use Rattle.tighten.proofs.Regular.{uppers-regular}
 use Rattle.tighten.proofs.Remains.{remaining-again}
 use Rattle.tighten.proofs.Tables.{Agree, solutions-by-remaining}
 use Rattle.canonical.specs.House.{houseOf, houseText}
@@ -26,7 +26,7 @@ use Rattle.canonical.specs.Most.{mostForm}
 use Rattle.canonical.proofs.Faithful.{faithful, names-held, signals-held}
 use Rattle.canonical.proofs.Keeping.{labels-few, house-keeps}
 use Rattle.canonical.proofs.Short.{length-text}
-use Rattle.canonical.proofs.Back.{rows-back, agrees-back}
+use Rattle.canonical.proofs.Back.{uppers-back, agrees-back}
 use Rattle.canonical.proofs.Likeness.{text-same}
 
 -- the form is the text of what it contains
@@ -67,19 +67,19 @@ module _ (sheet : List ℕ) (a : read sheet .outcome ≡ Accepted) (few : length
   pub form-agrees : Agree Γ Δ
   form-agrees = agrees-back (faithful sheet a) form-contains
 
-  pub form-rows : rowsOf Δ ≡ remainingOf Γ
-  form-rows = rows-back (faithful sheet a) form-contains
+  pub form-uppers : uppersOf Δ ≡ remainingOf Γ
+  form-uppers = uppers-back (faithful sheet a) form-contains
 
   -- what remains of them is they themselves
   pub form-remaining : remainingOf Δ ≡ remainingOf Γ
-  form-remaining = ap remaining form-rows ∙ remaining-again (rows-regular Γ (faithful sheet a .formed))
+  form-remaining = ap remaining form-uppers ∙ remaining-again (uppers-regular Γ (faithful sheet a .formed))
 
   pub form-same : Same form Δ sheet Γ
   form-same = record {
     horizons = form-contains .horizon;
     events = names-held form-contains;
     signals = signals-held form-contains;
-    rows = form-remaining;
+    remaining = form-remaining;
   }
 
   pub form-again : houseText form Δ ≡ form

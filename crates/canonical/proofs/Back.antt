@@ -1,4 +1,4 @@
--- The form is a sheet, and what is read from it is what was written: its rules are the rows that remain, row for row,
+-- The form is a sheet, and what is read from it is what was written: its rules are the upper bounds that remain,
 -- since a name tells its event, and the letters of a label tell the label. Assumes nothing.
 use mathlib.Core.Path.{_≡_, sym, _∙_, ap}
 use mathlib.Core.List.{List, [], map}
@@ -14,14 +14,14 @@ use Rattle.network.specs.declared.Constraint.{Constraint}
 use Rattle.network.specs.declared.Network.{Network}
 use Rattle.layout.specs.Layout.{noSignal, noRule, signalLetters}
 use Rattle.layout.specs.Contains.{Bears, Means, Contains}
-use Rattle.tighten.specs.Upper.{rowsOf}
+use Rattle.tighten.specs.Upper.{uppersOf}
 use Rattle.tighten.specs.Tightest.{remainingOf}
-use Rattle.tighten.proofs.Rules.{rows-max}
+use Rattle.tighten.proofs.Rules.{uppersBelow-max}
 use Rattle.tighten.proofs.Tables.{Agree}
 use Rattle.canonical.specs.House.{namesOf, signalAt, signalsOf, asRule, houseOf}
 use Rattle.canonical.proofs.Signs.{mask-literals}
 use Rattle.canonical.proofs.Faithful.{Faithful, names-held, letters-held}
-use Rattle.canonical.proofs.Keeping.{Row, remaining-rows}
+use Rattle.canonical.proofs.Keeping.{Remains, each-remains}
 
 module _ {sheet : List ℕ} {Γ : Network} (t : Faithful sheet Γ) where
   -- an event is told by its name
@@ -33,8 +33,8 @@ module _ {sheet : List ℕ} {Γ : Network} (t : Faithful sheet Γ) where
       once .once v u (b .defined) (omega arith) (b .name ∙ sym (getD-tabulate (nameOf Γ sheet) (Γ .events) u [] h))
 
   module _ {form : List ℕ} {Δ : Network} (h : Contains form Δ (houseOf sheet Γ)) where
-    -- a rule of the form is the row that remains
-    means-back : (r c : Constraint) → Row Γ r → Means (namesOf sheet Γ) (signalsOf sheet Γ) c (asRule sheet Γ r) → c ≡ r
+    -- a rule of the form is the upper bound that remains
+    means-back : (r c : Constraint) → Remains Γ r → Means (namesOf sheet Γ) (signalsOf sheet Γ) c (asRule sheet Γ r) → c ≡ r
     means-back r c w m =
         let xs = signalsOf sheet Γ in
         let s = letters-held t in
@@ -53,20 +53,20 @@ module _ {sheet : List ℕ} {Γ : Network} (t : Faithful sheet Γ) where
           label = label i;
         }
 
-    row-back : (i : ℕ) → i < length (remainingOf Γ) → constraint Δ i ≡ getD (remainingOf Γ) i noConstraint
-    row-back i l =
+    upper-back : (i : ℕ) → i < length (remainingOf Γ) → constraint Δ i ≡ getD (remainingOf Γ) i noConstraint
+    upper-back i l =
         let inside : i < length (map (asRule sheet Γ) (remainingOf Γ)) = omega (arith, length-map (remainingOf Γ) (asRule sheet Γ)) in
         let r = getD (remainingOf Γ) i noConstraint in
-        means-back r (constraint Δ i) (remaining-rows t .each i l)
+        means-back r (constraint Δ i) (each-remains t .each i l)
         (rw (getD-map (asRule sheet Γ) noConstraint noRule (remainingOf Γ) i l) at (h .means i inside))
 
-    pub rows-back : rowsOf Δ ≡ remainingOf Γ
-    rows-back =
+    pub uppers-back : uppersOf Δ ≡ remainingOf Γ
+    uppers-back =
         let count : Δ .rules ≡ length (remainingOf Γ) = h .rules ∙ length-map (remainingOf Γ) (asRule sheet Γ) in
-        rows-max Δ (Δ .rules) (λ i l.
+        uppersBelow-max Δ (Δ .rules) (λ i l.
         let inside : i < length (remainingOf Γ) = omega arith in
-        ap (λ (c : Constraint). c .kind) (row-back i inside) ∙ remaining-rows t .each i inside .kind)
-        ∙ tabulate-is (constraint Δ) noConstraint (Δ .rules) (remainingOf Γ) count row-back
+        ap (λ (c : Constraint). c .kind) (upper-back i inside) ∙ each-remains t .each i inside .kind)
+        ∙ tabulate-is (constraint Δ) noConstraint (Δ .rules) (remainingOf Γ) count upper-back
 
     pub agrees-back : Agree Γ Δ
     agrees-back = record {

@@ -1,4 +1,4 @@
--- Rows as a form writes them: one table, which one theorem covers by computation. Assumes nothing.
+-- Upper bounds as a form writes them: one table, which one theorem covers by computation. Assumes nothing.
 use mathlib.Core.Path.{_≡_, refl}
 use mathlib.Core.Bool.{Bool, true, _&&_}
 use mathlib.Core.List.{List, [], _∷_, _++_}
@@ -26,7 +26,7 @@ abbrev network : Network
 network =
     withSignal (withSignal (withSignal (withEvent (withEvent (empty 60) 0 5) 5 4) (code "q") 1) (code "p") 0) (code "r") 1
 
--- a limit and a label as they are typed; the row from the start to the door
+-- a limit and a label as they are typed; the rule from the start to the door
 record Example : Type 0 where
   limit : ℤ
   typed : String

@@ -1,6 +1,6 @@
 -- What is known of the network of an accepted sheet, in the words of the form: its event list and signal list are the
--- layout's, so they keep the layout's rules, and no row's label asks a letter to be both true and false. Assumes
--- nothing.
+-- layout's, so they keep the layout's rules, and no upper bound's label asks a letter to be both true and false.
+-- Assumes nothing.
 use mathlib.Core.Path.{_≡_, sym, _∙_}
 use mathlib.Core.List.{List, []}
 use Prim.Native.Nat.{ℕ, _<_}
@@ -22,8 +22,8 @@ use Rattle.layout.specs.Contains.{Contains}
 use Rattle.layout.proofs.Finds.{letter-is, mask-is}
 use Rattle.layout.proofs.KindWords.{defined-passes}
 use Rattle.layout.proofs.Accepted.{accepted-iff, network-contains}
-use Rattle.tighten.specs.Upper.{rowsOf}
-use Rattle.tighten.proofs.Rules.{rows-each, uppers-each}
+use Rattle.tighten.specs.Upper.{uppersOf}
+use Rattle.tighten.proofs.Rules.{uppersBelow-each, uppers-each}
 use Rattle.canonical.specs.House.{namesOf, signalAt, signalsOf}
 use Rattle.canonical.proofs.Signs.{LettersAre}
 
@@ -84,8 +84,8 @@ module _ {sheet : List ℕ} {Γ : Network} (t : Faithful sheet Γ) where
       (defined-passes (t .held) (lettersOf ls) (keeps .known))
       (test-of-distinct (lettersOf ls) (keeps .once)))
 
-  pub rows-apart : Each (λ r. Apart (r .label)) (rowsOf Γ) noConstraint
-  rows-apart =
-      rows-each (λ r. Apart (r .label)) Γ (Γ .rules) (λ i h.
+  pub uppers-apart : Each (λ r. Apart (r .label)) (uppersOf Γ) noConstraint
+  uppers-apart =
+      uppersBelow-each (λ r. Apart (r .label)) Γ (Γ .rules) (λ i h.
       let c = constraint Γ i in
       uppers-each (λ r. Apart (r .label)) (c .kind) c (label-apart i h) (label-apart i h))

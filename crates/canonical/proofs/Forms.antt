@@ -1,5 +1,6 @@
 -- "Two sheets give equal bytes if and only if their horizons, event lists, signal lists and remaining rows are equal"
--- (02, point 2). Equal bytes are read to one network, which has the horizon, the lists and the rows of each sheet;
+-- (02, point 2). Equal bytes are read to one network, which has the horizon and the lists of each sheet, and what remains of
+-- it;
 -- and the bytes are written from these alone. Assumes nothing.
 use mathlib.Core.Path.{_≡_, sym, _∙_, ap}
 use mathlib.Core.Logic.{_↔_}
@@ -37,7 +38,7 @@ module _ (sheet : List ℕ) (a : read sheet .outcome ≡ Accepted) (few : length
         horizons = sym (one .horizons) ∙ ap (λ (f : List ℕ). from f .horizon) e ∙ two .horizons;
         events = sym (one .events) ∙ ap (λ (f : List ℕ). namesOf f (from f)) e ∙ two .events;
         signals = sym (one .signals) ∙ ap (λ (f : List ℕ). signalsOf f (from f)) e ∙ two .signals;
-        rows = sym (one .rows) ∙ ap (λ (f : List ℕ). remainingOf (from f)) e ∙ two .rows;
+        remaining = sym (one .remaining) ∙ ap (λ (f : List ℕ). remainingOf (from f)) e ∙ two .remaining;
       }
 
   pub equal-of-same : Same sheet Γ other Δ → houseText sheet Γ ≡ houseText other Δ

@@ -1,5 +1,5 @@
--- What the form contains keeps the layout's rules, where no more rows remain than a sheet may have: the events and
--- signals are those of a sheet, and each row that remains has events of it for its ends, a limit in range, and
+-- What the form contains keeps the layout's rules, where no more upper bounds remain than a sheet may have: the
+-- events and signals are those of a sheet, and each one that remains has events of it for its ends, a limit in range, and
 -- letters of it, each once, for its label. Assumes nothing.
 use mathlib.Core.Path.{_≡_}
 use mathlib.Core.List.{List, [], map}
@@ -20,27 +20,27 @@ use Rattle.network.specs.declared.Network.{Network}
 use Rattle.names.proofs.Apart.{Apart}
 use Rattle.layout.specs.Layout.{KeepsRule, Keeps, noRule, signalLetters}
 use Rattle.tighten.specs.Tightest.{remainingOf}
-use Rattle.tighten.proofs.Regular.{rows-regular}
+use Rattle.tighten.proofs.Regular.{uppers-regular}
 use Rattle.tighten.proofs.Remains.{remaining-each, remaining-regular, remaining-proper}
 use Rattle.canonical.specs.House.{literalAt, namesOf, signalsOf, asRule, houseOf}
 use Rattle.canonical.proofs.Signs.{letters-known, letters-once}
-use Rattle.canonical.proofs.Faithful.{Faithful, names-held, signals-held, letters-held, rows-apart}
+use Rattle.canonical.proofs.Faithful.{Faithful, names-held, signals-held, letters-held, uppers-apart}
 
--- a row that remains
-pub record Row (Γ : Network) (r : Constraint) : Type 0 where
+-- an upper bound that remains
+pub record Remains (Γ : Network) (r : Constraint) : Type 0 where
   pub kind : r .kind ≡ Max
   pub proper : Proper Γ r
   pub apart : Apart (r .label)
 
 module _ {sheet : List ℕ} {Γ : Network} (t : Faithful sheet Γ) where
-  pub remaining-rows : Each (Row Γ) (remainingOf Γ) noConstraint
-  remaining-rows =
-      let regular = rows-regular Γ (t .formed) in
+  pub each-remains : Each (Remains Γ) (remainingOf Γ) noConstraint
+  each-remains =
+      let regular = uppers-regular Γ (t .formed) in
       record {
         each = λ i h. record {
           kind = remaining-regular regular .each i h .kind;
           proper = remaining-proper Γ (t .formed) .each i h;
-          apart = remaining-each regular (rows-apart t) .each i h;
+          apart = remaining-each regular (uppers-apart t) .each i h;
         };
       }
 
@@ -51,7 +51,7 @@ module _ {sheet : List ℕ} {Γ : Network} (t : Faithful sheet Γ) where
     is = getD-tabulate (nameOf Γ sheet) (Γ .events) u [] h;
   }
 
-  rule-keeps : (r : Constraint) → Row Γ r
+  rule-keeps : (r : Constraint) → Remains Γ r
       → KeepsRule (namesOf sheet Γ) (signalLetters (signalsOf sheet Γ)) (asRule sheet Γ r)
   rule-keeps r w =
       let xs = signalsOf sheet Γ in
@@ -67,7 +67,7 @@ module _ {sheet : List ℕ} {Γ : Network} (t : Faithful sheet Γ) where
   pub labels-few : Each (λ x. length (x .label) ≤ L.signals) (map (asRule sheet Γ) (remainingOf Γ)) noRule
   labels-few =
       each-map (asRule sheet Γ) (λ x. length (x .label) ≤ L.signals) noConstraint noRule (remainingOf Γ)
-      (each-mono (λ r w. omega (arith, length-gather (literalAt Γ (r .label)) 0 (Γ .signals), t .formed .signals)) remaining-rows)
+      (each-mono (λ r w. omega (arith, length-gather (literalAt Γ (r .label)) 0 (Γ .signals), t .formed .signals)) each-remains)
 
   pub house-keeps : length (remainingOf Γ) ≤ L.rules → Keeps (houseOf sheet Γ)
   house-keeps few =
@@ -87,5 +87,5 @@ module _ {sheet : List ℕ} {Γ : Network} (t : Faithful sheet Γ) where
         few-rules = omega (arith, length-map (remainingOf Γ) (asRule sheet Γ));
         rules =
             each-map (asRule sheet Γ) (KeepsRule (namesOf sheet Γ) (signalLetters (signalsOf sheet Γ)))
-            noConstraint noRule (remainingOf Γ) (each-mono rule-keeps remaining-rows);
+            noConstraint noRule (remainingOf Γ) (each-mono rule-keeps each-remains);
       }

@@ -1,7 +1,7 @@
 -- Laws of the form, in reading order: a label letter by letter; what is known of an accepted sheet's network; the
 -- form keeps the layout's rules and is short; what is read back from it. Then the theorems: `Again` of one sheet and
 -- its form, and `Forms` of two sheets. Behind them the laws that the writer's proofs cite: a section; a label, a
--- limit and a row; the rows that are held; the form.
+-- limit and a line; the upper bounds that remain; the form.
 pub mod Signs
 pub mod Faithful
 pub mod Keeping
@@ -13,7 +13,7 @@ pub mod Forms
 pub mod Sections
 pub mod Literals
 pub mod Limit
-pub mod Row
-pub mod Held
+pub mod RuleLine
+pub mod Remaining
 pub mod House
 pub mod Examples

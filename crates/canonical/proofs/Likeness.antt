@@ -1,5 +1,5 @@
--- Sheets with equal horizons, event lists, signal lists and remaining rows have forms that contain the same: a row
--- says its ends by names and its label by letters, which stand in those lists. Assumes nothing.
+-- Sheets with equal horizons, event lists, signal lists and remaining upper bounds have forms that contain the
+-- same: each says its ends by names and its label by letters, which stand in those lists. Assumes nothing.
 use mathlib.Core.Path.{_≡_, _∙_, ap}
 use mathlib.Core.List.{List, map}
 use Prim.Native.Nat.{ℕ, _<_}
@@ -19,7 +19,7 @@ use Rattle.tighten.specs.Tightest.{remainingOf}
 use Rattle.canonical.specs.House.{literalBy, literalAt, literalsOf, signalAt, asRule, houseOf, houseText}
 use Rattle.canonical.specs.Same.{Same}
 use Rattle.canonical.proofs.Faithful.{Faithful}
-use Rattle.canonical.proofs.Keeping.{Row, remaining-rows}
+use Rattle.canonical.proofs.Keeping.{Remains, each-remains}
 
 module _ {sheet : List ℕ} {Γ : Network} {other : List ℕ} {Δ : Network} (s : Same sheet Γ other Δ) where
   name-same : (u : ℕ) → u < Γ .events → nameOf Γ sheet u ≡ nameOf Δ other u
@@ -38,7 +38,7 @@ module _ {sheet : List ℕ} {Γ : Network} {other : List ℕ} {Δ : Network} (s 
       ∙ ap (λ (k : ℕ). gather k (literalAt Δ ℓ))
       (tabulate-count (signalAt sheet Γ) (signalAt other Δ) (Γ .signals) (Δ .signals) (s .signals))
 
-  rule-same : (r : Constraint) → Row Γ r → asRule sheet Γ r ≡ asRule other Δ r
+  rule-same : (r : Constraint) → Remains Γ r → asRule sheet Γ r ≡ asRule other Δ r
   rule-same r w =
       let from = name-same (r .from) (w .proper .from) in
       let to = name-same (r .to) (w .proper .to) in
@@ -48,8 +48,8 @@ module _ {sheet : List ℕ} {Γ : Network} {other : List ℕ} {Δ : Network} (s 
   pub house-same : Faithful sheet Γ → houseOf sheet Γ ≡ houseOf other Δ
   house-same t =
       let rules : map (asRule sheet Γ) (remainingOf Γ) ≡ map (asRule other Δ) (remainingOf Δ) =
-      map-same (asRule sheet Γ) (asRule other Δ) noConstraint (remainingOf Γ) (each-mono rule-same (remaining-rows t))
-      ∙ ap (map (asRule other Δ)) (s .rows) in
+      map-same (asRule sheet Γ) (asRule other Δ) noConstraint (remainingOf Γ) (each-mono rule-same (each-remains t))
+      ∙ ap (map (asRule other Δ)) (s .remaining) in
       λ i. record { horizon = s .horizons i; names = s .events i; signals = s .signals i; rules = rules i }
 
   pub text-same : Faithful sheet Γ → houseText sheet Γ ≡ houseText other Δ

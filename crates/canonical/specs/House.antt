@@ -1,4 +1,5 @@
--- A sheet in its house form (02, point 2): its horizon, events and signals as they are, and the rows that remain.
+-- A sheet in its house form (02, point 2): its horizon, events and signals as they are, and the upper bounds that
+-- remain.
 -- "Label letters stand in signal order". What the form contains is said as the layout says what any sheet contains,
 -- and it is written as any sheet is.
 use mathlib.Core.Bool.{Bool, true, false}
@@ -48,7 +49,7 @@ module _ (sheet : List ℕ) (Γ : Network) where
   abbrev pub signalsOf : List Signal
   signalsOf = tabulate (Γ .signals) signalAt
 
-  -- a row that remains
+  -- an upper bound that remains
   abbrev pub asRule : Constraint → Rule
   asRule r = record {
     kind = Max;

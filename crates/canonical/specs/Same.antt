@@ -1,6 +1,6 @@
 -- What two sheets have in common whose forms are the same bytes (02, point 2): "their horizons, event lists, signal
--- lists and remaining rows are equal". A row names its events by their places, which are the same events where the
--- event lists are equal.
+-- lists and remaining rows are equal". An upper bound names its events by their places, which are the same events
+-- where the event lists are equal.
 use mathlib.Core.Path.{_≡_}
 use mathlib.Core.List.{List}
 use Prim.Native.Nat.{ℕ}
@@ -12,4 +12,4 @@ pub record Same (sheet : List ℕ) (Γ : Network) (other : List ℕ) (Δ : Netwo
   pub horizons : Γ .horizon ≡ Δ .horizon
   pub events : namesOf sheet Γ ≡ namesOf other Δ
   pub signals : signalsOf sheet Γ ≡ signalsOf other Δ
-  pub rows : remainingOf Γ ≡ remainingOf Δ
+  pub remaining : remainingOf Γ ≡ remainingOf Δ

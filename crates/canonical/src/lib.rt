@@ -14,14 +14,14 @@ ghost use Rattle.network.specs.Build.{nameOf};
 ghost use Rattle.network.specs.WellFormed.{InLimits, Proper, WellFormed, Named};
 ghost use Rattle.layout.specs.Layout.{line, section, signalLine, ruleLine, signedText, literalsText, labelText};
 ghost use Rattle.tighten.specs.Tightest.{remainingOf};
-ghost use Rattle.tighten.specs.Held.{RowsAre};
+ghost use Rattle.tighten.specs.Fronts.{UppersAre};
 ghost use Rattle.canonical.specs.House.{literalBy, literalsOf, namesOf, signalsOf, asRule, houseText};
 ghost use Rattle.canonical.specs.Most.{mostCount, mostEvents, mostSignals, mostLabel, mostRule, mostRules};
 use network::Constraint;
 use network::Label;
 use network::Network;
 use page::Written;
-use tighten::Rows;
+use tighten::UpperBounds;
 
 // The name of event u, as a part of the sheet.
 fn name_of(sheet: &[u8], network: Network, u: usize) -> &[u8]
@@ -107,7 +107,8 @@ fn push_literal(page: &mut [u8], at: usize, letter: u8, positive: bool, negative
 // A label, its letters in signal order; its two sums are halved from one signal to the next.
 fn push_label(page: &mut [u8], at: usize, network: Network, label: Label) -> usize
     requires { ⌜ WellFormed network × (at + mostLabel ≤ length (now page)) ⌝ }
-    ensures { λ r. ⌜ Appended mostLabel (now (page .entry)) at (labelText (literalsOf network label)) (now (page .exit)) r ⌝ }
+    ensures { λ r. ⌜ Appended mostLabel (now (page .entry)) at (labelText (literalsOf network label))
+        (now (page .exit)) r ⌝ }
 {
     let mut next = at;
     let mut positive = label.positive;
@@ -129,31 +130,40 @@ fn push_label(page: &mut [u8], at: usize, network: Network, label: Label) -> usi
     next
 }
 
-// One row.
-fn push_rule(page: &mut [u8], at: usize, sheet: &[u8], network: Network, row: Constraint) -> usize
-    requires { ⌜ WellFormed network × Named (now sheet) network × Proper network row × (at + mostRule ≤ length (now page)) ⌝ }
-    ensures { λ r. ⌜ Appended mostRule (now (page .entry)) at (ruleLine (asRule (now (sheet .entry)) network row)) (now (page .exit)) r ⌝ }
+// One upper bound.
+fn push_rule(page: &mut [u8], at: usize, sheet: &[u8], network: Network, upper: Constraint) -> usize
+    requires { ⌜ WellFormed network × Named (now sheet) network × Proper network upper
+        × (at + mostRule ≤ length (now page)) ⌝ }
+    ensures { λ r. ⌜ Appended mostRule (now (page .entry)) at (ruleLine (asRule (now (sheet .entry)) network upper))
+        (now (page .exit)) r ⌝ }
 {
-    let label = row.label;
+    let label = upper.label;
     let mut next = page::push_all(page, at, b"max");
-    next = page::push_field(page, next, name_of(sheet, network, row.from));
-    next = page::push_field(page, next, name_of(sheet, network, row.to));
-    next = push_limit(page, next, row.bound);
+    next = page::push_field(page, next, name_of(sheet, network, upper.from));
+    next = page::push_field(page, next, name_of(sheet, network, upper.to));
+    next = push_limit(page, next, upper.bound);
     next = page::push(page, next, b',');
     next = push_label(page, next, network, label);
     page::push(page, next, b'\n')
 }
 
-// The rows that remain.
-fn push_rules(page: &mut [u8], at: usize, sheet: &[u8], network: Network, rows: Rows) -> usize
-    requires { ⌜ WellFormed network × Named (now sheet) network × RowsAre (remainingOf network) rows × (rows .fits ≡ true) ×
-        (at + mostRules ≤ length (now page)) ⌝ }
+// The upper bounds that remain.
+fn push_rules(
+    page: &mut [u8],
+    at: usize,
+    sheet: &[u8],
+    network: Network,
+    remaining: UpperBounds,
+) -> usize
+    requires { ⌜ WellFormed network × Named (now sheet) network × UppersAre (remainingOf network) remaining
+        × (remaining .fits ≡ true) × (at + mostRules ≤ length (now page)) ⌝ }
     ensures { λ r. ⌜ Appended mostRules (now (page .entry)) at
-        (section "rules" (map ruleLine (map (asRule (now (sheet .entry)) network) (remainingOf network)))) (now (page .exit)) r ⌝ }
+        (section "rules" (map ruleLine (map (asRule (now (sheet .entry)) network) (remainingOf network))))
+        (now (page .exit)) r ⌝ }
 {
-    let mut next = push_count(page, at, b"rules", rows.count as u16);
-    for i in 0..rows.count {
-        next = push_rule(page, next, sheet, network, rows.rows[i]);
+    let mut next = push_count(page, at, b"rules", remaining.count as u16);
+    for i in 0..remaining.count {
+        next = push_rule(page, next, sheet, network, remaining.uppers[i]);
     }
     next
 }
@@ -161,16 +171,17 @@ fn push_rules(page: &mut [u8], at: usize, sheet: &[u8], network: Network, rows: 
 // No form is longer.
 const LONGEST: usize = 2673;
 
-// The form into out, where the rows that remain fit a sheet: how many bytes were written, or that out is too short
-// for them.
-pub fn write(sheet: &[u8], network: Network, rows: Rows, out: &mut [u8]) -> Written
-    requires { ⌜ WellFormed network × Named (now sheet) network × RowsAre (remainingOf network) rows × (rows .fits ≡ true) ⌝ }
+// The form into out, where the upper bounds that remain fit a sheet: how many bytes were written, or that out is too
+// short for them.
+pub fn write(sheet: &[u8], network: Network, remaining: UpperBounds, out: &mut [u8]) -> Written
+    requires { ⌜ WellFormed network × Named (now sheet) network × UppersAre (remainingOf network) remaining
+        × (remaining .fits ≡ true) ⌝ }
     ensures { λ r. ⌜ WrittenIs (houseText (now (sheet .entry)) network) (now (out .entry)) (now (out .exit)) r ⌝ }
 {
     let mut page = [0u8; LONGEST];
     let events = push_count(&mut page, 0, b"horizon", network.horizon);
     let signals = push_events(&mut page, events, sheet, network);
     let rules = push_signals(&mut page, signals, sheet, network);
-    let end = push_rules(&mut page, rules, sheet, network, rows);
+    let end = push_rules(&mut page, rules, sheet, network, remaining);
     page::hand_out(&page[..end], out)
 }

@@ -1,4 +1,4 @@
--- Rules and rows at the edges: one table, which one theorem covers by computation. Assumes nothing.
+-- Rules and upper bounds at the edges: one table, which one theorem covers by computation. Assumes nothing.
 use mathlib.Core.Path.{_≡_, refl}
 use mathlib.Core.Bool.{Bool, true, _&&_}
 use mathlib.Core.Option.{Option, none, some}
@@ -41,14 +41,15 @@ rising [] = true
 rising (a ∷ []) = true
 rising (a ∷ (b ∷ xs)) = ltb (rank a) (rank b) && rising (b ∷ xs)
 
--- the rows of each kind: 0 has no sign
+-- the upper bounds of each kind: 0 has no sign
 abbrev kinds : Bool
 kinds =
     allSame (uppers Max (rule Max (pos 5))) (upper 1 2 (pos 5) (label 0 0) ∷ [])
     && (allSame (uppers Min (rule Min (pos 5))) (upper 2 1 (negsuc 4) (label 0 0) ∷ [])
     && (allSame (uppers Min (rule Min (negsuc 10079))) (upper 2 1 (pos 10080) (label 0 0) ∷ [])
     && (allSame (uppers Min (rule Min (pos 0))) (upper 2 1 (pos 0) (label 0 0) ∷ [])
-    && allSame (uppers Fix (rule Fix (pos 20))) (upper 1 2 (pos 20) (label 0 0) ∷ (upper 2 1 (negsuc 19) (label 0 0) ∷ [])))))
+    && allSame (uppers Fix (rule Fix (pos 20)))
+    (upper 1 2 (pos 20) (label 0 0) ∷ (upper 2 1 (negsuc 19) (label 0 0) ∷ [])))))
 
 -- `from` decides before `to`, this before the true letters, and these before the false ones
 abbrev order : Bool
@@ -61,15 +62,15 @@ order =
     ∷ (upper 1 0 (negsuc 4) (label 2 0)
     ∷ (upper 1 1 (pos 7) (label 0 0) ∷ []))))))
 
--- the least of three limits, of rows between which another stands
-abbrev rows : List Constraint
-rows =
+-- the least of three limits, between which another key stands
+abbrev three : List Constraint
+three =
     upper 1 2 (pos 5) (label 0 0)
     ∷ (upper 2 1 (negsuc 8) (label 0 0)
     ∷ (upper 1 2 (negsuc 2) (label 0 0) ∷ (upper 1 2 (pos 0) (label 0 0) ∷ [])))
 
 abbrev least : Bool
-least = isSome (tightest rows (rank (upper 1 2 (pos 0) (label 0 0)))) (upper 1 2 (negsuc 2) (label 0 0))
+least = isSome (tightest three (rank (upper 1 2 (pos 0) (label 0 0)))) (upper 1 2 (negsuc 2) (label 0 0))
 
 pub examples-hold : kinds && (order && least) ≡ true
 examples-hold = refl

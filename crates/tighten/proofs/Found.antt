@@ -1,5 +1,5 @@
--- The rows that remain, found one after the other: so many stand first in the array, and what remains are they and
--- the tightest rows of the keys from the next one on. Assumes nothing.
+-- The upper bounds that remain, found one after the other: so many stand first in the array, and what remains are
+-- they and the tightest of the keys from the next one on. Assumes nothing.
 use mathlib.Core.Path.{_≡_, refl, sym, _∙_, ap}
 use mathlib.Core.Bool.{true, false}
 use mathlib.Core.List.{List, [], _∷_, _++_, append-nil}
@@ -15,38 +15,38 @@ use Rattle.prelude.proofs.Tests.{clash}
 use Rattle.network.specs.Limits as L
 use Rattle.network.specs.Build.{noConstraint}
 use Rattle.network.specs.declared.Constraint.{Constraint}
-use Rattle.tighten.specs.declared.Numbers.{Numbers}
+use Rattle.tighten.specs.declared.Encodings.{Encodings}
 use Rattle.tighten.specs.Tightest.{ranks, tightest, remaining}
-use Rattle.tighten.specs.Numbers.{perKey, rowOf, behind, top, leastBelow}
-use Rattle.tighten.specs.Held.{Front, NumbersAre, RowsAre}
+use Rattle.tighten.specs.Encoding.{perKey, decoded, behind, top, leastBelow}
+use Rattle.tighten.specs.Fronts.{Front, EncodingsAre, UppersAre}
 use Rattle.tighten.proofs.Regular.{Regular}
 use Rattle.tighten.proofs.Fronts.{front-few, front-more, front-nothing}
-use Rattle.tighten.proofs.Next.{leastFrom, none-left, least-lt, least-from, none-before, next-row}
+use Rattle.tighten.proofs.Next.{leastFrom, none-left, least-lt, least-from, none-before, next-upper}
 
--- the rows of the keys below `key` are found, and `left` keys are to be tried
-pub record Found (xs : List Constraint) (count : ℕ) (rows : List Constraint) (floor : ℕ) : Type 0 where
+-- those of the keys below `key` are found, and `left` keys are to be tried
+pub record Found (xs : List Constraint) (count : ℕ) (uppers : List Constraint) (floor : ℕ) : Type 0 where
   pub done : List Constraint
   pub key : ℕ
   pub left : ℕ
   pub keys : key + left ≡ ranks
   pub floor-is : floor ≡ key * perKey
-  pub held : Front L.rules done count rows
+  pub held : Front L.rules done count uppers
   pub rest : remaining xs ≡ done ++ gatherFrom key left (tightest xs)
 
-pub found-nothing : (xs rows : List Constraint) → length rows ≡ L.rules → Found xs 0 rows 0
+pub found-nothing : (xs uppers : List Constraint) → length uppers ≡ L.rules → Found xs 0 uppers 0
 unfolding remaining
-found-nothing xs rows h = record {
+found-nothing xs uppers h = record {
   done = [];
   key = 0;
   left = ranks;
   keys = refl;
   floor-is = refl;
-  held = front-nothing L.rules rows h;
+  held = front-nothing L.rules uppers h;
   rest = refl;
 }
 
-module _ {xs : List Constraint} (r : Numbers) (regular : Each Regular xs noConstraint) (are : NumbersAre xs r) where
-  module _ {count floor : ℕ} {rows : List Constraint} (f : Found xs count rows floor) (v : ℕ)
+module _ {xs : List Constraint} (r : Encodings) (regular : Each Regular xs noConstraint) (are : EncodingsAre xs r) where
+  module _ {count floor : ℕ} {uppers : List Constraint} (f : Found xs count uppers floor) (v : ℕ)
       (e : v ≡ leastBelow (r .count) (λ i. getD (r .list) i 0) floor) where
     is-least : v ≡ leastFrom r regular are (f .key)
     is-least = e ∙ ap (leastBelow (r .count) (λ i. getD (r .list) i 0)) (f .floor-is)
@@ -54,12 +54,12 @@ module _ {xs : List Constraint} (r : Numbers) (regular : Each Regular xs noConst
     -- no number is left: all of them are found
     all-found : v ≡ top → remaining xs ≡ f .done
     all-found t =
+        let silent = none-left r regular are (f .key) (sym is-least ∙ t) (f .key + f .left) in
         f .rest
-        ∙ ap (λ (l : List Constraint). f .done ++ l)
-        (gather-none (tightest xs) (f .key) (f .left) (none-left r regular are (f .key) (sym is-least ∙ t) (f .key + f .left)))
+        ∙ ap (λ (l : List Constraint). f .done ++ l) (gather-none (tightest xs) (f .key) (f .left) silent)
         ∙ append-nil (f .done)
 
-    pub found-all : v ≡ top → RowsAre (remaining xs) (record { fits = true; count = count; rows = rows })
+    pub found-all : v ≡ top → UppersAre (remaining xs) (record { fits = true; count = count; uppers = uppers })
     found-all t = rw (all-found t) (record {
       fits = sym (le-leb (length (f .done)) L.rules (omega (arith, f .held .counted, front-few (f .held))));
       held = λ p. f .held;
@@ -72,32 +72,35 @@ module _ {xs : List Constraint} (r : Numbers) (regular : Each Regular xs noConst
       pub found-lt : v < top
       found-lt = omega (arith, is-least, least-lt r regular are (f .key) other)
 
-      -- its row is the next, and these are behind it
+      -- what it stands for is the next, and these are behind it
       abbrev others : List Constraint
       others = gatherFrom (suc (v / perKey)) (ranks - suc (v / perKey)) (tightest xs)
 
-      found-next : remaining xs ≡ f .done ++ rowOf v ∷ others
+      found-next : remaining xs ≡ f .done ++ decoded v ∷ others
       found-next =
           f .rest
           ∙ ap (λ (l : List Constraint). f .done ++ l)
-          (gather-next (tightest xs) (f .key) (f .left) (v / perKey) (ranks - suc (v / perKey)) (rowOf v)
+          (gather-next (tightest xs) (f .key) (f .left) (v / perKey) (ranks - suc (v / perKey)) (decoded v)
           (rw is-least (least-from r regular are (f .key) other))
           (omega (arith, found-lt, f .keys))
           (rw is-least (none-before r regular are (f .key) other))
-          (rw is-least (next-row r regular are (f .key) other)))
+          (rw is-least (next-upper r regular are (f .key) other)))
 
       -- one more than the array holds
-      pub found-many : count ≡ L.rules → RowsAre (remaining xs) (record { fits = false; count = count; rows = rows })
+      pub found-many : count ≡ L.rules
+          → UppersAre (remaining xs) (record { fits = false; count = count; uppers = uppers })
       found-many c =
-          let l = length-append (f .done) (rowOf v ∷ others) in
+          let l = length-append (f .done) (decoded v ∷ others) in
           record {
-            fits = rw found-next (sym (lt-leb (length (f .done ++ rowOf v ∷ others)) L.rules (omega (arith, l, f .held .counted))));
+            fits =
+                rw found-next
+                (sym (lt-leb (length (f .done ++ decoded v ∷ others)) L.rules (omega (arith, l, f .held .counted))));
             held = λ p. clash false p refl;
           }
 
       -- one more in the array
-      pub found-more : {x : Constraint} {floor′ : ℕ} → count < L.rules → x ≡ rowOf v → floor′ ≡ behind v
-          → Found xs (count + 1) (set rows count x) floor′
+      pub found-more : {x : Constraint} {floor′ : ℕ} → count < L.rules → x ≡ decoded v → floor′ ≡ behind v
+          → Found xs (count + 1) (set uppers count x) floor′
       found-more {x} {floor′} h p q = record {
         done = f .done ++ x ∷ [];
         key = suc (v / perKey);

@@ -7,7 +7,7 @@ use native.Mathlib.Numerals.{add-one}
 use native.Mathlib.Omega.{arith}
 use lib.ListN.{length, getD, take, set, length-append, length-set, length-take}
 use lib.Seq.{length-take-le, take-suc-set, getD-take}
-use Rattle.tighten.specs.Held.{Front, Added}
+use Rattle.tighten.specs.Fronts.{Front, Added}
 
 module _ {A : Type 0} {size count : ℕ} {xs array : List A} where
   -- the list has no more elements than the array
@@ -19,7 +19,8 @@ module _ {A : Type 0} {size count : ℕ} {xs array : List A} where
   front-at f i d h = sym (getD-take count array i d h) ∙ ap (λ (l : List A). getD l i d) (f .front)
 
   -- one more at the end
-  pub front-more : (x : A) → Front size xs count array → count < size → Front size (xs ++ x ∷ []) (count + 1) (set array count x)
+  pub front-more : (x : A) → Front size xs count array → count < size
+      → Front size (xs ++ x ∷ []) (count + 1) (set array count x)
   front-more x f h = record {
     counted = omega (arith, f .counted, length-append xs (x ∷ []));
     sized = length-set array count x ∙ f .sized;
@@ -38,11 +39,13 @@ front-taken size count array e h = record {
   front = refl;
 }
 
-pub added-one : (array : List ℕ) (count x : ℕ) → count < 128 → Added array count (x ∷ []) (set array count x) (count + 1)
+pub added-one : (array : List ℕ) (count x : ℕ) → count < 128
+    → Added array count (x ∷ []) (set array count x) (count + 1)
 added-one array count x h = record { front = λ xs f. front-more x f h }
 
 -- so many, and more behind them
-pub added-then : {a b c : List ℕ} {i j k : ℕ} {xs ys : List ℕ} → Added a i xs b j → Added b j ys c k → Added a i (xs ++ ys) c k
+pub added-then : {a b c : List ℕ} {i j k : ℕ} {xs ys : List ℕ} → Added a i xs b j → Added b j ys c k
+    → Added a i (xs ++ ys) c k
 added-then {xs = xs} {ys = ys} f g = record {
   front = λ zs h. rw append-assoc at (g .front (zs ++ xs) (f .front zs h));
 }

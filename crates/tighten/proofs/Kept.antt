@@ -1,5 +1,5 @@
--- The rules hold in a table exactly where their rows do: a rule admits two times exactly when each of its rows does,
--- and covers the scenarios that they cover. Assumes nothing.
+-- The rules hold in a table exactly where their upper bounds do: a rule admits two times exactly when each of them
+-- does, and covers the scenarios that they cover. Assumes nothing.
 use mathlib.Core.Path.{_≡_, sym, _∙_}
 use mathlib.Core.Logic.{inl, inr}
 use mathlib.Core.Bool.{true}
@@ -20,10 +20,10 @@ use Rattle.network.specs.declared.Kind.{Kind}
 use Rattle.network.specs.declared.Kind.the-variants.{Max, Min, Fix}
 use Rattle.network.specs.declared.Constraint.{Constraint}
 use Rattle.network.specs.declared.Network.{Network}
-use Rattle.tighten.specs.Upper.{forward, backward, uppers, rowsOf}
-use Rattle.tighten.proofs.Rules.{rows-each, each-rows, uppers-each}
+use Rattle.tighten.specs.Upper.{forward, backward, uppers, uppersOf}
+use Rattle.tighten.proofs.Rules.{uppersBelow-each, each-uppersBelow, uppers-each}
 
--- the times t of events keep a row
+-- the times t of events keep an upper bound
 pub record Admits (t : ℕ → ℕ) (r : Constraint) : Type 0 where
   pub admitted : atMost (t (r .from)) (t (r .to)) (r .bound) ≡ true
 
@@ -63,7 +63,7 @@ module _ (t : ℕ → ℕ) (c : Constraint) where
       (above-of (e .each 1 (omega arith)))
 
 module _ (Γ : Network) (σ : List ℕ) (s : ℕ) where
-  -- a row holds in s
+  -- it holds in s
   pub record Kept (r : Constraint) : Type 0 where
     pub kept : covers Γ r s ≡ true → Admits (time (Γ .events) σ s) r
 
@@ -77,7 +77,8 @@ module _ (Γ : Network) (σ : List ℕ) (s : ℕ) where
   kept-of-holds c h =
       elim (either (covers Γ c s)) [
         | inl e ↦
-            each-mono (λ r a. record { kept = λ o. a }) (uppers-of-admits (time (Γ .events) σ s) c (c .kind) (h .holds e))
+            each-mono (λ r a. record { kept = λ o. a })
+            (uppers-of-admits (time (Γ .events) σ s) c (c .kind) (h .holds e))
         | inr e ↦ each-mono (λ r p. record { kept = λ o. clash (covers Γ r s) o (p ∙ e) }) (covers-uppers (c .kind) c)
       ]
 
@@ -88,8 +89,8 @@ module _ (Γ : Network) (σ : List ℕ) (s : ℕ) where
     });
   }
 
-  pub rows-kept : ((c : ℕ) → c < Γ .rules → Holds Γ σ s (constraint Γ c)) → Each Kept (rowsOf Γ) noConstraint
-  rows-kept h = rows-each Kept Γ (Γ .rules) (λ c l. kept-of-holds (constraint Γ c) (h c l))
+  pub uppers-kept : ((c : ℕ) → c < Γ .rules → Holds Γ σ s (constraint Γ c)) → Each Kept (uppersOf Γ) noConstraint
+  uppers-kept h = uppersBelow-each Kept Γ (Γ .rules) (λ c l. kept-of-holds (constraint Γ c) (h c l))
 
-  pub rules-hold : Each Kept (rowsOf Γ) noConstraint → (c : ℕ) → c < Γ .rules → Holds Γ σ s (constraint Γ c)
-  rules-hold k c l = holds-of-kept (constraint Γ c) (each-rows Kept Γ (Γ .rules) k c l)
+  pub rules-hold : Each Kept (uppersOf Γ) noConstraint → (c : ℕ) → c < Γ .rules → Holds Γ σ s (constraint Γ c)
+  rules-hold k c l = holds-of-kept (constraint Γ c) (each-uppersBelow Kept Γ (Γ .rules) k c l)

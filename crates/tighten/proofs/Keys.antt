@@ -1,4 +1,4 @@
--- A row's key as a list and as one number: equal together, and in order together, since the number's digits in base
+-- A key as a list and as one number: equal together, and in order together, since the number's digits in base
 -- 16 are the key's parts. Assumes nothing.
 use mathlib.Core.Path.{_≡_, ap}
 use mathlib.Core.Logic.{_⊎_, inl, inr}
@@ -40,29 +40,29 @@ module _ {a b : ℕ} {B : Type 0} where
 module _ {r q : Constraint} (h : Regular r) (l : Regular q) where
   module _ (e : rank r ≡ rank q) where
     from-of-rank : r .from ≡ q .from
-    from-of-rank = omega (arith, h .numbered, l .numbered)
+    from-of-rank = omega (arith, h .encodable, l .encodable)
 
     to-of-rank : r .to ≡ q .to
-    to-of-rank = omega (arith, h .numbered, l .numbered)
+    to-of-rank = omega (arith, h .encodable, l .encodable)
 
     positive-of-rank : r .label .positive ≡ q .label .positive
-    positive-of-rank = omega (arith, h .numbered, l .numbered)
+    positive-of-rank = omega (arith, h .encodable, l .encodable)
 
     negative-of-rank : r .label .negative ≡ q .label .negative
-    negative-of-rank = omega (arith, h .numbered, l .numbered)
+    negative-of-rank = omega (arith, h .encodable, l .encodable)
 
     pub key-of-rank : keyOf r ≡ keyOf q
     key-of-rank = λ i. from-of-rank i ∷ to-of-rank i ∷ positive-of-rank i ∷ negative-of-rank i ∷ []
 
   pub before-of-rank : rank r < rank q → Before (keyOf r) (keyOf q)
   before-of-rank k =
-      first-decides (omega (arith, h .numbered, l .numbered)) (λ e₀.
-      first-decides (omega (arith, h .numbered, l .numbered)) (λ e₁.
-      first-decides (omega (arith, h .numbered, l .numbered)) (λ e₂. inl (omega arith))))
+      first-decides (omega (arith, h .encodable, l .encodable)) (λ e₀.
+      first-decides (omega (arith, h .encodable, l .encodable)) (λ e₁.
+      first-decides (omega (arith, h .encodable, l .encodable)) (λ e₂. inl (omega arith))))
 
   pub rank-of-before : Before (keyOf r) (keyOf q) → rank r < rank q
   rank-of-before b₀ =
-      by-first b₀ (λ k. omega (arith, h .numbered, l .numbered)) (λ e₀ b₁.
-      by-first b₁ (λ k. omega (arith, h .numbered, l .numbered)) (λ e₁ b₂.
-      by-first b₂ (λ k. omega (arith, h .numbered, l .numbered)) (λ e₂ b₃.
+      by-first b₀ (λ k. omega (arith, h .encodable, l .encodable)) (λ e₀ b₁.
+      by-first b₁ (λ k. omega (arith, h .encodable, l .encodable)) (λ e₁ b₂.
+      by-first b₂ (λ k. omega (arith, h .encodable, l .encodable)) (λ e₂ b₃.
       by-first b₃ (λ k. omega arith) (λ e₃ b₄. absurd b₄))))

@@ -1,5 +1,5 @@
--- The next row: among regular rows whose numbers are listed, the least number from a key on is that of the tightest
--- row of the first key from there on that a row has; where there is no such number, no row has a key from there on.
+-- The next upper bound: among regular ones whose numbers are listed, the least number from a key on is that of the
+-- tightest of the first key from there on that one has; where there is no such number, none has a key from there on.
 -- Assumes nothing.
 use mathlib.Core.Path.{_≡_, refl, sym, _∙_, ap}
 use mathlib.Core.Logic.{inl, inr}
@@ -19,25 +19,25 @@ use Rattle.prelude.proofs.Gather.{Silent}
 use Rattle.network.specs.Build.{noConstraint}
 use Rattle.network.specs.declared.Constraint.{Constraint}
 use Rattle.network.proofs.Signed.{le-biased}
-use Rattle.tighten.specs.declared.Numbers.{Numbers}
+use Rattle.tighten.specs.declared.Encodings.{Encodings}
 use Rattle.tighten.specs.Tightest.{rank, tightest}
-use Rattle.tighten.specs.Numbers.{perKey, numberOf, rowOf, top, leastBelow}
-use Rattle.tighten.specs.Held.{NumbersAre}
-use Rattle.tighten.proofs.Regular.{Regular, number-lt, rank-number, rowOf-numberOf}
+use Rattle.tighten.specs.Encoding.{perKey, encoded, decoded, top, leastBelow}
+use Rattle.tighten.specs.Fronts.{EncodingsAre}
+use Rattle.tighten.proofs.Regular.{Regular, encoded-lt, rank-encoded, decoded-encoded}
 use Rattle.tighten.proofs.Tight.{TightestAt, none-tightest, tightest-unique}
 use Rattle.tighten.proofs.Fronts.{front-at}
 
-module _ {xs : List Constraint} (r : Numbers) (regular : Each Regular xs noConstraint) (are : NumbersAre xs r) where
+module _ {xs : List Constraint} (r : Encodings) (regular : Each Regular xs noConstraint) (are : EncodingsAre xs r) where
   -- the numbers in the list
   abbrev number : ℕ → ℕ
   number i = getD (r .list) i 0
 
   counted : r .count ≡ length xs
-  counted = are .held .counted ∙ length-map xs numberOf
+  counted = are .held .counted ∙ length-map xs encoded
 
-  number-is : (i : ℕ) → i < r .count → number i ≡ numberOf (getD xs i noConstraint)
+  number-is : (i : ℕ) → i < r .count → number i ≡ encoded (getD xs i noConstraint)
   number-is i h =
-      front-at (are .held) i 0 h ∙ getD-map numberOf noConstraint 0 xs i (omega (arith, counted))
+      front-at (are .held) i 0 h ∙ getD-map encoded noConstraint 0 xs i (omega (arith, counted))
 
   module _ (key : ℕ) where
     -- the least number from the key on
@@ -48,11 +48,11 @@ module _ {xs : List Constraint} (r : Numbers) (regular : Each Regular xs noConst
     abbrev from : ℕ → Bool
     from i = leb (key * perKey) (number i)
 
-    -- no row with a key from there on has a lesser number
-    least-row : (y : Constraint) → In y xs noConstraint → key ≤ rank y → leastFrom ≤ numberOf y
-    least-row y w h =
+    -- none with a key from there on has a lesser number
+    least-upper : (y : Constraint) → In y xs noConstraint → key ≤ rank y → leastFrom ≤ encoded y
+    least-upper y w h =
         let l : w .place < r .count = omega (arith, counted, w .place-lt) in
-        let e = number-is (w .place) l ∙ ap numberOf (w .is) in
+        let e = number-is (w .place) l ∙ ap encoded (w .is) in
         let counts = le-leb (key * perKey) (number (w .place)) (omega (arith, e)) in
         omega (arith, e, minWhere-le from number top (r .count) (w .place) l counts)
 
@@ -60,38 +60,39 @@ module _ {xs : List Constraint} (r : Numbers) (regular : Each Regular xs noConst
     none-left e n = record {
       silent =
           λ k h l.
-          none-tightest xs k (λ y w p. omega (arith, least-row y w (omega (arith, p)), number-lt (each-in Regular regular w)));
+          none-tightest xs k
+          (λ y w p. omega (arith, least-upper y w (omega (arith, p)), encoded-lt (each-in Regular regular w)));
     }
 
     module _ (h : leastFrom ≡ top → ⊥) where
       at : LeastAt from number top (r .count) leastFrom
       at = elim (minWhere-attained from number top (r .count)) [ inl e ↦ absurd (h e) | inr a ↦ a ]
 
-      -- the row of the least number
-      row : Constraint
-      row = getD xs (at .place) noConstraint
+      -- the one with the least number
+      next : Constraint
+      next = getD xs (at .place) noConstraint
 
-      stands : In row xs noConstraint
-      unfolding row
+      stands : In next xs noConstraint
+      unfolding next
       stands = in-place xs (at .place) (omega (arith, counted, at .place-lt))
 
-      row-regular : Regular row
-      row-regular = each-in Regular regular stands
+      next-regular : Regular next
+      next-regular = each-in Regular regular stands
 
-      is-least : numberOf row ≡ leastFrom
-      unfolding row
+      is-least : encoded next ≡ leastFrom
+      unfolding next
       is-least = sym (number-is (at .place) (at .place-lt)) ∙ at .is
 
-      row-is : rowOf leastFrom ≡ row
-      row-is = ap rowOf (sym is-least) ∙ rowOf-numberOf row-regular
+      next-is : decoded leastFrom ≡ next
+      next-is = ap decoded (sym is-least) ∙ decoded-encoded next-regular
 
-      rank-is : rank row ≡ leastFrom / perKey
-      rank-is = sym (rank-number row-regular) ∙ ap (λ (v : ℕ). v / perKey) is-least
+      rank-is : rank next ≡ leastFrom / perKey
+      rank-is = sym (rank-encoded next-regular) ∙ ap (λ (v : ℕ). v / perKey) is-least
 
       pub least-lt : leastFrom < top
-      least-lt = omega (arith, is-least, number-lt row-regular)
+      least-lt = omega (arith, is-least, encoded-lt next-regular)
 
-      -- its key is the first from there on that a row has
+      -- its key is the first from there on that one has
       pub least-from : key ≤ leastFrom / perKey
       least-from = omega (arith, at .is, leb-true (key * perKey) (number (at .place)) (at .counted))
 
@@ -100,19 +101,19 @@ module _ {xs : List Constraint} (r : Numbers) (regular : Each Regular xs noConst
         silent =
             λ k h l.
             none-tightest xs k
-            (λ y w p. omega (arith, least-row y w (omega (arith, p)), rank-number (each-in Regular regular w)));
+            (λ y w p. omega (arith, least-upper y w (omega (arith, p)), rank-encoded (each-in Regular regular w)));
       }
 
-      -- and it is the tightest row of the key
-      tightest-row : TightestAt xs (rank row) row
-      tightest-row = record {
+      -- and it is the tightest of the key
+      next-tightest : TightestAt xs (rank next) next
+      next-tightest = record {
         stands = stands;
         key = refl;
         least = λ y w p.
             let q = each-in Regular regular w in
-            le-biased (row .bound) (y .bound) (row-regular .numbered .bound) (q .numbered .bound)
-            (omega (arith, least-row y w (omega (arith, p, rank-is, least-from)), is-least, p));
+            le-biased (next .bound) (y .bound) (next-regular .encodable .bound) (q .encodable .bound)
+            (omega (arith, least-upper y w (omega (arith, p, rank-is, least-from)), is-least, p));
       }
 
-      pub next-row : tightest xs (leastFrom / perKey) ≡ some (rowOf leastFrom)
-      next-row = rw (row-is, ← rank-is) (tightest-unique regular tightest-row)
+      pub next-upper : tightest xs (leastFrom / perKey) ≡ some (decoded leastFrom)
+      next-upper = rw (next-is, ← rank-is) (tightest-unique regular next-tightest)

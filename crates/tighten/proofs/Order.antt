@@ -18,7 +18,8 @@ ge-of-test (negsuc v) (pos w) e = zero-is-one cc
 ge-of-test (negsuc v) (negsuc w) e = record { le = le→leb v w (omega (arith, leb-false w v e)) }
 
 pub ≤ℤ-trans : (u v w : ℤ) → u ≤ℤ v → v ≤ℤ w → u ≤ℤ w
-≤ℤ-trans (pos u) (pos v) (pos w) h l = record { le = le→leb u w (omega (arith, leb→le u v (h .le), leb→le v w (l .le))) }
+≤ℤ-trans (pos u) (pos v) (pos w) h l =
+    record { le = le→leb u w (omega (arith, leb→le u v (h .le), leb→le v w (l .le))) }
 ≤ℤ-trans (pos u) (pos v) (negsuc w) h l = absurd (l .le)
 ≤ℤ-trans (pos u) (negsuc v) w h l = absurd (h .le)
 ≤ℤ-trans (negsuc u) (pos v) (pos w) h l = record { le = tt }

@@ -1,5 +1,5 @@
--- The rows that remain are those that are computed, and no others: of each key that there is, in the order of the
--- keys, the tightest row. What remains of them is they themselves. The count of keys stands in these laws as n, so
+-- The upper bounds that remain are those that are computed, and no others: of each key that there is, in the order of
+-- the keys, the tightest. What remains of them is they themselves. The count of keys stands in these laws as n, so
 -- that nothing counts so far. Assumes nothing.
 use mathlib.Core.Path.{_≡_, refl, sym}
 use mathlib.Core.List.{List}
@@ -17,7 +17,7 @@ use Rattle.network.specs.declared.Constraint.{Constraint}
 use Rattle.network.specs.declared.Network.{Network}
 use Rattle.tighten.specs.Remaining.{Stays, Remaining}
 use Rattle.tighten.specs.Tightest.{rank, ranks, tightest, remaining, remainingOf}
-use Rattle.tighten.proofs.Regular.{Regular, rank-lt, rows-proper, rows-regular}
+use Rattle.tighten.proofs.Regular.{Regular, rank-lt, uppers-proper, uppers-regular}
 use Rattle.tighten.proofs.Tight.{TightestAt, tightest-is, tightest-none, tightest-unique}
 use Rattle.tighten.proofs.Keys.{key-of-rank, before-of-rank}
 use Rattle.tighten.proofs.Stays.{remaining-itself, among, remains-ordered, remains-tightest, tightest-remains}
@@ -28,7 +28,7 @@ module _ {xs : List Constraint} (regular : Each Regular xs noConstraint) where
     abbrev gathered : List Constraint
     gathered = gather n (tightest xs)
 
-    -- an answer is the tightest row of its key
+    -- an answer is the tightest of its key
     answer-tightest : {x : Constraint} (a : Answer (tightest xs) 0 n x) → TightestAt xs (a .number) x
     answer-tightest a = tightest-is xs (a .number) (a .is)
 
@@ -39,7 +39,7 @@ module _ {xs : List Constraint} (regular : Each Regular xs noConstraint) where
         (λ r e.
         let t = tightest-is xs (rank x) e in
         record {
-          row = r;
+          upper = r;
           stands = in-gather (tightest xs) noConstraint 0 n r (record {
             number = rank x;
             from = omega arith;
@@ -88,7 +88,7 @@ module _ {xs : List Constraint} (regular : Each Regular xs noConstraint) where
   unfolding remaining
   remaining-unique {rs} m = gathered-unique ranks few-ranks rs m
 
-  -- what holds of each row holds of each that remains
+  -- what holds of each holds of each that remains
   pub remaining-each : {P : Constraint → Type 0} → Each P xs noConstraint → Each P (remaining xs) noConstraint
   remaining-each {P} e = each-mono (λ r i. each-in P e i) (remaining-is .each)
 
@@ -99,4 +99,4 @@ pub remaining-again : {xs : List Constraint} → Each Regular xs noConstraint �
 remaining-again h = sym (remaining-unique (remaining-regular h) (remaining-itself (remaining-is h)))
 
 pub remaining-proper : (Γ : Network) → WellFormed Γ → Each (Proper Γ) (remainingOf Γ) noConstraint
-remaining-proper Γ w = remaining-each (rows-regular Γ w) (rows-proper Γ w)
+remaining-proper Γ w = remaining-each (uppers-regular Γ w) (uppers-proper Γ w)

@@ -1,5 +1,5 @@
--- What remains of regular rows, whatever list it is: no two have one key, each is the tightest of its key, and the
--- tightest of each key is among them. What remains of it is it itself. Assumes nothing.
+-- What remains of regular upper bounds, whatever list it is: no two have one key, each is the tightest of its key, and
+-- the tightest of each key is among them. What remains of it is it itself. Assumes nothing.
 use mathlib.Core.Path.{_≡_, refl, sym, _∙_, ap}
 use mathlib.Core.Logic.{inl, inr}
 use mathlib.Core.List.{List}
@@ -15,13 +15,13 @@ use Rattle.network.specs.declared.Constraint.{Constraint}
 use Rattle.tighten.specs.Remaining.{Stays, Remaining}
 use Rattle.tighten.specs.Tightest.{rank}
 use Rattle.tighten.proofs.Order.{≤ℤ-antisym}
-use Rattle.tighten.proofs.Regular.{Regular, row-unique}
+use Rattle.tighten.proofs.Regular.{Regular, upper-unique}
 use Rattle.tighten.proofs.Tight.{TightestAt}
 use Rattle.tighten.proofs.Keys.{rank-of-key, rank-of-before}
 
--- a row stays where it stands
+-- one stays where it stands
 pub stays-self : {rs : List Constraint} {r : Constraint} → In r rs noConstraint → Stays rs r
-stays-self {r = r} i = record { row = r; stands = i; key = refl; limit = ≤ℤ-refl (r .bound) }
+stays-self {r = r} i = record { upper = r; stands = i; key = refl; limit = ≤ℤ-refl (r .bound) }
 
 pub remaining-itself : {xs rs : List Constraint} → Remaining xs rs → Remaining rs rs
 remaining-itself {rs = rs} m = record {
@@ -30,12 +30,13 @@ remaining-itself {rs = rs} m = record {
   least = record { each = λ p h. stays-self (in-place rs p h) };
 }
 
--- what remains is of the rows
+-- what remains is of them
 pub among : {xs rs : List Constraint} {r : Constraint} → Remaining xs rs → In r rs noConstraint → In r xs noConstraint
 among {xs = xs} m i = each-in (λ r. In r xs noConstraint) (m .each) i
 
 module _ {xs rs : List Constraint} (regular : Each Regular xs noConstraint) (m : Remaining xs rs) where
-  pub remains-ordered : (p q : ℕ) → p < q → q < length rs → rank (getD rs p noConstraint) < rank (getD rs q noConstraint)
+  pub remains-ordered : (p q : ℕ) → p < q → q < length rs
+      → rank (getD rs p noConstraint) < rank (getD rs q noConstraint)
   remains-ordered p q h l =
       rank-of-before
       (each-in Regular regular (among m (in-place rs p (omega arith))))
@@ -65,7 +66,7 @@ module _ {xs rs : List Constraint} (regular : Each Regular xs noConstraint) (m :
     key = refl;
     least = λ y j e.
         let s = each-in (Stays rs) (m .least) j in
-        let same = remains-once (s .stands) i (rank-of-key (s .row) y (s .key) ∙ e) in
+        let same = remains-once (s .stands) i (rank-of-key (s .upper) y (s .key) ∙ e) in
         rw same at (s .limit);
   }
 
@@ -73,9 +74,9 @@ module _ {xs rs : List Constraint} (regular : Each Regular xs noConstraint) (m :
   pub tightest-remains : {k : ℕ} {x : Constraint} → TightestAt xs k x → In x rs noConstraint
   tightest-remains {x = x} t =
       let s = each-in (Stays rs) (m .least) (t .stands) in
-      let of-key = rank-of-key (s .row) x (s .key) in
+      let of-key = rank-of-key (s .upper) x (s .key) in
       let inside = among m (s .stands) in
       let same =
-      row-unique (each-in Regular regular inside) (each-in Regular regular (t .stands)) of-key
-      (≤ℤ-antisym (s .row .bound) (x .bound) (s .limit) (t .least (s .row) inside (of-key ∙ t .key))) in
+      upper-unique (each-in Regular regular inside) (each-in Regular regular (t .stands)) of-key
+      (≤ℤ-antisym (s .upper .bound) (x .bound) (s .limit) (t .least (s .upper) inside (of-key ∙ t .key))) in
       rw same at (s .stands)

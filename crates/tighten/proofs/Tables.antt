@@ -1,6 +1,6 @@
--- Which tables keep the rows: of networks that agree in all but names, letters and rules, a table that solves the
--- first solves the second where each row of the second has one as tight among the rows of the first. So they have the
--- same solutions where the same rows remain. Assumes nothing.
+-- Which tables keep the upper bounds: of networks that agree in all but names, letters and rules, a table that solves
+-- the first solves the second where each upper bound of the second has one as tight among those of the first. So they
+-- have the same solutions where the same ones remain. Assumes nothing.
 use mathlib.Core.Path.{_≡_, refl, sym, _∙_, ap}
 use mathlib.Core.Logic.{_↔_}
 use mathlib.Core.Bool.{true}
@@ -20,14 +20,14 @@ use Rattle.network.proofs.Masks.{covers-satisfies}
 use Rattle.network.proofs.Bounds.{atMost-mono}
 use Rattle.network.specs.declared.Constraint.{Constraint}
 use Rattle.network.specs.declared.Network.{Network}
-use Rattle.tighten.specs.Upper.{rowsOf}
+use Rattle.tighten.specs.Upper.{uppersOf}
 use Rattle.tighten.specs.Remaining.{keyOf, Stays}
 use Rattle.tighten.specs.Tightest.{remainingOf}
-use Rattle.tighten.proofs.Regular.{rows-regular}
+use Rattle.tighten.proofs.Regular.{uppers-regular}
 use Rattle.tighten.proofs.Keys.{key-from, key-to, key-label}
 use Rattle.tighten.proofs.Stays.{among}
 use Rattle.tighten.proofs.Remains.{remaining-is}
-use Rattle.tighten.proofs.Kept.{Admits, Kept, rows-kept, rules-hold}
+use Rattle.tighten.proofs.Kept.{Admits, Kept, uppers-kept, rules-hold}
 
 -- Γ and Δ may differ in names, letters and rules only
 pub record Agree (Γ Δ : Network) : Type 0 where
@@ -45,7 +45,7 @@ agree-sym a = record {
 }
 
 module _ {Γ Δ : Network} (a : Agree Γ Δ) where
-  -- they react alike, and rows of one key cover the same scenarios
+  -- they react alike, and upper bounds of one key cover the same scenarios
   reaction-agree : (p : ℕ) → reaction Γ p ≡ reaction Δ p
   unfolding reaction
   reaction-agree p = refl
@@ -82,26 +82,30 @@ module _ {Γ Δ : Network} (a : Agree Γ Δ) where
           ∙ time-agree r u;
     }
 
-    -- a row holds where one of its key with no greater limit holds
-    kept-agree : (s : ℕ) → Each (Kept Γ σ s) (rowsOf Γ) noConstraint → (y : Constraint) → Stays (rowsOf Γ) y → Kept Δ σ s y
-    kept-agree s k y w = record { kept = λ e. at (w .row) (w .key) (w .limit) (each-in (Kept Γ σ s) k (w .stands)) e }
+    -- an upper bound holds where one of its key with no greater limit holds
+    kept-agree : (s : ℕ) → Each (Kept Γ σ s) (uppersOf Γ) noConstraint → (y : Constraint) → Stays (uppersOf Γ) y
+        → Kept Δ σ s y
+    kept-agree s k y w = record { kept = λ e. at (w .upper) (w .key) (w .limit) (each-in (Kept Γ σ s) k (w .stands)) e }
       where
         at : (x : Constraint) → keyOf x ≡ keyOf y → x .bound ≤ℤ y .bound → Kept Γ σ s x → covers Δ y s ≡ true
             → Admits (time (Δ .events) σ s) y
         at x p l q e =
             let h = q .kept (covers-agree x y p s ∙ e) .admitted in
+            let t = time (Γ .events) σ s in
             record {
               admitted = rw (← (time-agree s (y .from)), ← (time-agree s (y .to)), ← (key-from x y p), ← (key-to x y p))
-                  (atMost-mono (time (Γ .events) σ s (x .from)) (time (Γ .events) σ s (x .to)) (x .bound) (y .bound) l h);
+                  (atMost-mono (t (x .from)) (t (x .to)) (x .bound) (y .bound) l h);
             }
 
-  pub solution-by-rows : Each (Stays (rowsOf Γ)) (rowsOf Δ) noConstraint → (σ : List ℕ) → Solution Γ σ → Solution Δ σ
-  solution-by-rows stay σ h = record {
+  pub solution-by-uppers : Each (Stays (uppersOf Γ)) (uppersOf Δ) noConstraint → (σ : List ℕ) → Solution Γ σ
+      → Solution Δ σ
+  solution-by-uppers stay σ h = record {
     sized = h .sized ∙ cells-agree;
-    on-time = λ s u l m. on-time-agree σ s u (h .on-time s u (omega (arith, scenarios-agree)) (omega (arith, a .events)));
+    on-time =
+        λ s u l m. on-time-agree σ s u (h .on-time s u (omega (arith, scenarios-agree)) (omega (arith, a .events)));
     viable = λ s c l m.
         rules-hold Δ σ s
-        (each-mono (kept-agree σ s (rows-kept Γ σ s (λ c m. h .viable s c (omega (arith, scenarios-agree)) m))) stay)
+        (each-mono (kept-agree σ s (uppers-kept Γ σ s (λ c m. h .viable s c (omega (arith, scenarios-agree)) m))) stay)
         c
         m;
     dynamic = λ s r u l m n.
@@ -109,20 +113,20 @@ module _ {Γ Δ : Network} (a : Agree Γ Δ) where
         (h .dynamic s r u (omega (arith, scenarios-agree)) (omega (arith, scenarios-agree)) (omega (arith, a .events)));
   }
 
-pub same-solutions : {Γ Δ : Network} → Agree Γ Δ → Each (Stays (rowsOf Γ)) (rowsOf Δ) noConstraint
-    → Each (Stays (rowsOf Δ)) (rowsOf Γ) noConstraint → (σ : List ℕ) → Solution Γ σ ↔ Solution Δ σ
-same-solutions a f g σ = (solution-by-rows a f σ, solution-by-rows (agree-sym a) g σ)
+pub same-solutions : {Γ Δ : Network} → Agree Γ Δ → Each (Stays (uppersOf Γ)) (uppersOf Δ) noConstraint
+    → Each (Stays (uppersOf Δ)) (uppersOf Γ) noConstraint → (σ : List ℕ) → Solution Γ σ ↔ Solution Δ σ
+same-solutions a f g σ = (solution-by-uppers a f σ, solution-by-uppers (agree-sym a) g σ)
 
--- each row of Δ stays among those of Γ, where the same rows remain
+-- each of Δ stays among those of Γ, where the same ones remain
 stays-by-remaining : (Γ Δ : Network) → WellFormed Γ → WellFormed Δ → remainingOf Γ ≡ remainingOf Δ
-    → Each (Stays (rowsOf Γ)) (rowsOf Δ) noConstraint
+    → Each (Stays (uppersOf Γ)) (uppersOf Δ) noConstraint
 stays-by-remaining Γ Δ w v e =
     each-mono (λ y s. record {
-      row = s .row;
-      stands = among (remaining-is (rows-regular Γ w)) (rw (← e) at (s .stands));
+      upper = s .upper;
+      stands = among (remaining-is (uppers-regular Γ w)) (rw (← e) at (s .stands));
       key = s .key;
       limit = s .limit;
-    }) (remaining-is (rows-regular Δ v) .least)
+    }) (remaining-is (uppers-regular Δ v) .least)
 
 pub solutions-by-remaining : {Γ Δ : Network} → WellFormed Γ → WellFormed Δ → Agree Γ Δ → remainingOf Γ ≡ remainingOf Δ
     → (σ : List ℕ) → Solution Γ σ ↔ Solution Δ σ

@@ -1,5 +1,5 @@
--- The tightest row of a key: it stands among the rows, has the key, and no row with the key has a lesser limit; there
--- is none exactly where no row has the key; and where the rows are regular, it is the only such row. Row by row, the
+-- The tightest upper bound of a key: it stands among them, has the key, and none with the key has a lesser limit;
+-- there is none exactly where none has the key; and where they are regular, it is the only such one. One by one, the
 -- lesser of two limits is kept. Assumes nothing.
 use mathlib.Core.Path.{_≡_, sym, _∙_, ap}
 use mathlib.Core.Logic.{inl, inr}
@@ -19,7 +19,7 @@ use Rattle.network.specs.Build.{noConstraint}
 use Rattle.network.specs.declared.Constraint.{Constraint}
 use Rattle.tighten.specs.Tightest.{rank, tighter, tightest}
 use Rattle.tighten.proofs.Order.{le-of-test, ge-of-test, ≤ℤ-trans, ≤ℤ-antisym}
-use Rattle.tighten.proofs.Regular.{Regular, row-unique}
+use Rattle.tighten.proofs.Regular.{Regular, upper-unique}
 
 pub record TightestAt (xs : List Constraint) (k : ℕ) (x : Constraint) : Type 0 where
   pub stands : In x xs noConstraint
@@ -36,7 +36,7 @@ Says xs k none = Absent xs k
 Says xs k (some x) = TightestAt xs k x
 
 module _ (r : Constraint) (rs : List Constraint) (k : ℕ) where
-  -- r has the key: r, or a row behind it with a lesser limit
+  -- r has the key: r, or one behind it with a lesser limit
   hit : rank r ≡ k → (o : Option Constraint) → Says rs k o → TightestAt (r ∷ rs) k (tighter r o)
   hit e none s = record {
     stands = in-first;
@@ -89,11 +89,11 @@ module _ (xs : List Constraint) (k : ℕ) where
   none-tightest h =
       by-answer (tightest xs k) (λ e. e) (λ x e. let t = tightest-is e in absurd (h x (t .stands) (t .key)))
 
--- two rows of one key, neither of which has a greater limit, are one
+-- two of one key, neither of which has a greater limit, are one
 pub tightest-same : {xs : List Constraint} {k : ℕ} {x y : Constraint} → Each Regular xs noConstraint
     → TightestAt xs k x → TightestAt xs k y → x ≡ y
 tightest-same {x = x} {y = y} h a b =
-    row-unique (each-in Regular h (a .stands)) (each-in Regular h (b .stands))
+    upper-unique (each-in Regular h (a .stands)) (each-in Regular h (b .stands))
     (a .key ∙ sym (b .key))
     (≤ℤ-antisym (x .bound) (y .bound) (a .least y (b .stands) (b .key)) (b .least x (a .stands) (a .key)))
 

@@ -1,5 +1,5 @@
--- Which rows remain (02, point 2): "Of rows with equal ends and label the least limit stays. Rows are ordered by
--- `from`, then `to`, in event order, then by the sum of the true letters' weights, then of the false ones'." In the
+-- Which upper bounds remain (02, point 2): "Of rows with equal ends and label the least limit stays. Rows are ordered
+-- by `from`, then `to`, in event order, then by the sum of the true letters' weights, then of the false ones'." In the
 -- field's words, of parallel labelled edges the tightest.
 use mathlib.Core.Path.{_≡_}
 use mathlib.Core.Logic.{_⊎_}
@@ -11,7 +11,7 @@ use Rattle.prelude.specs.Lists.{In, Each}
 use Rattle.network.specs.Build.{noConstraint}
 use Rattle.network.specs.declared.Constraint.{Constraint}
 
--- what a row is ordered by: its ends and its label, as the two sums of weights
+-- what an upper bound is ordered by: its ends and its label, as the two sums of weights
 abbrev pub keyOf : Constraint → List ℕ
 keyOf r = r .from ∷ r .to ∷ r .label .positive ∷ r .label .negative ∷ []
 
@@ -21,15 +21,16 @@ Before [] ys = ⊥
 Before (a ∷ xs) [] = ⊥
 Before (a ∷ xs) (b ∷ ys) = (a < b) ⊎ ((a ≡ b) × Before xs ys)
 
--- one of the rows has the ends and the label of x, and no greater limit
+-- one of them has the ends and the label of x, and no greater limit
 pub record Stays (rs : List Constraint) (x : Constraint) : Type 0 where
-  pub row : Constraint
-  pub stands : In row rs noConstraint
-  pub key : keyOf row ≡ keyOf x
-  pub limit : row .bound ≤ℤ x .bound
+  pub upper : Constraint
+  pub stands : In upper rs noConstraint
+  pub key : keyOf upper ≡ keyOf x
+  pub limit : upper .bound ≤ℤ x .bound
 
--- rs are the rows that remain of xs; by their order no two have equal ends and label
+-- rs are those that remain of xs; by their order no two have equal ends and label
 pub record Remaining (xs rs : List Constraint) : Type 0 where
-  pub ordered : (i j : ℕ) → i < j → j < length rs → Before (keyOf (getD rs i noConstraint)) (keyOf (getD rs j noConstraint))
+  pub ordered : (i j : ℕ) → i < j → j < length rs
+      → Before (keyOf (getD rs i noConstraint)) (keyOf (getD rs j noConstraint))
   pub each : Each (λ r. In r xs noConstraint) rs noConstraint
   pub least : Each (Stays rs) xs noConstraint

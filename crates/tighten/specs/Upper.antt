@@ -1,5 +1,5 @@
--- Every rule as upper bounds, which a sheet writes as `max` rows (02, point 2): the edges of the network's distance
--- graph.
+-- Every rule as upper bounds on differences, the edges of the network's distance graph. Document 02, point 2, calls
+-- them rows, since a sheet writes each as a `max` row.
 use mathlib.Core.List.{List, [], _∷_, _++_}
 use Prim.Native.Nat.{ℕ, zero, suc}
 use lib.IntN.{ℤ, negℤ}
@@ -10,7 +10,7 @@ use Rattle.network.specs.declared.Label.{Label}
 use Rattle.network.specs.declared.Constraint.{Constraint}
 use Rattle.network.specs.declared.Network.{Network}
 
--- the row `max,from,to,w,ℓ`
+-- the upper bound that a sheet writes as `max,from,to,w,ℓ`
 abbrev pub upper : ℕ → ℕ → ℤ → Label → Constraint
 upper from to w ℓ = record { kind = Max; from = from; to = to; bound = w; label = ℓ }
 
@@ -28,10 +28,10 @@ uppers Max c = forward c ∷ []
 uppers Min c = backward c ∷ []
 uppers Fix c = forward c ∷ (backward c ∷ [])
 
--- the rows of the first n rules, in the sheet's order, and of all
-abbrev pub rowsBelow : Network → ℕ → List Constraint
-rowsBelow Γ zero = []
-rowsBelow Γ (suc n) = rowsBelow Γ n ++ uppers (constraint Γ n .kind) (constraint Γ n)
+-- those of the first n rules, in the sheet's order, and of all
+abbrev pub uppersBelow : Network → ℕ → List Constraint
+uppersBelow Γ zero = []
+uppersBelow Γ (suc n) = uppersBelow Γ n ++ uppers (constraint Γ n .kind) (constraint Γ n)
 
-abbrev pub rowsOf : Network → List Constraint
-rowsOf Γ = rowsBelow Γ (Γ .rules)
+abbrev pub uppersOf : Network → List Constraint
+uppersOf Γ = uppersBelow Γ (Γ .rules)

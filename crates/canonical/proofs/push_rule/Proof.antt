@@ -13,23 +13,23 @@ use Rattle.network.specs.Build.{nameOf}
 use Rattle.network.proofs.Signed.{read-back}
 use Rattle.layout.specs.Layout.{signedText, labelText}
 use Rattle.canonical.specs.House.{literalsOf}
-use Rattle.canonical.proofs.Row.{endsText, row-line}
+use Rattle.canonical.proofs.RuleLine.{endsText, rule-line}
 use Rattle.canonical.proofs.push_rule.Statement.{statement}
 use Rattle.canonical.proofs.push_rule.Tie as tie
 
 module _ (start : tie.Start) where
-  -- the parts of the row
+  -- the parts of the upper bound
   abbrev from : List ℕ
-  from = nameOf (start .args .network) (now (start .args .sheet)) (start .args .row .from)
+  from = nameOf (start .args .network) (now (start .args .sheet)) (start .args .upper .from)
 
   abbrev to : List ℕ
-  to = nameOf (start .args .network) (now (start .args .sheet)) (start .args .row .to)
+  to = nameOf (start .args .network) (now (start .args .sheet)) (start .args .upper .to)
 
   abbrev limit : List ℕ
-  limit = signedText (start .args .row .bound)
+  limit = signedText (start .args .upper .bound)
 
   abbrev label : List ℕ
-  label = labelText (literalsOf (start .args .network) (start .args .row .label))
+  label = labelText (literalsOf (start .args .network) (start .args .upper .label))
 
   -- what is written behind the second name, behind the limit and behind the label
   abbrev ends : List ℕ
@@ -41,7 +41,7 @@ module _ (start : tie.Start) where
   abbrev labelled : List ℕ
   labelled = limited ++ comma ∷ label
 
-  -- a text of at most so many bytes stands on the page where the row begins
+  -- a text of at most so many bytes stands on the page where the line begins
   abbrev Written : ℕ → List ℕ → List ℕ → ℕ → Type 0
   Written most text page next = Appended most (now (start .args .page)) (start .args .at) text page next
 
@@ -75,7 +75,7 @@ limit-written c =
     let start = before-limit c in
     append-then
     (ends-written (c .before .before .before .before .before))
-    (rw (read-back (start .args .row .bound) (start .pre .2 .bound)) at (c .push-limit .ensures))
+    (rw (read-back (start .args .upper .bound) (start .pre .2 .bound)) at (c .push-limit .ensures))
     (omega arith)
 
 label-written : (c : tie.After-push-label)
@@ -110,7 +110,7 @@ push-limit-requires c κs =
     let last = c .before .before .before .before in
     let written = ends-written last in
     let start = before-ends last in
-    (rw (read-back (start .args .row .bound) (start .pre .2 .bound)) (start .pre .2 .bound), omega (arith, start .pre .3))
+    (rw (read-back (start .args .upper .bound) (start .pre .2 .bound)) (start .pre .2 .bound), omega (arith, start .pre .3))
 
 push-requires : tie.Need-push-requires
 push-requires c κs =
@@ -140,7 +140,7 @@ returns : tie.Need-returns
 returns c =
     let last = c .before .before .before .before .before .before in
     let start = before-label last in
-    append-as (row-line (from start) (to start) (limit start) (label start))
+    append-as (rule-line (from start) (to start) (limit start) (label start))
     (append-both (label-written last) (c .before .before .push2 .ensures))
     (omega arith)
 

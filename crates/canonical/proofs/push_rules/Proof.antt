@@ -1,6 +1,6 @@
--- `canonical::push_rules` meets its contract. The invariant: behind the section's first line, the lines of the rows
--- below i are written. The array holds the rows that remain, no more than 64, and each is proper (`Held`). The
--- measure is the count of rows left. Assumes nothing.
+-- `canonical::push_rules` meets its contract. The invariant: behind the section's first line, the lines of those
+-- below i are written. The array holds the upper bounds that remain, no more than 64, and each is proper
+-- (`Remaining`). The measure is the count of those left. Assumes nothing.
 use mathlib.Core.Path.{_≡_, refl}
 use Prim.Native.Nat.{_-_, _≤_}
 use native.Mathlib.Omega.{arith}
@@ -14,21 +14,21 @@ use Rattle.layout.specs.Layout.{ruleLine}
 use Rattle.canonical.specs.House.{asRule}
 use Rattle.canonical.specs.Most.{mostRule}
 use Rattle.canonical.proofs.Sections.{section-appended}
-use Rattle.canonical.proofs.Held.{rows-few, row-proper, row-lines}
+use Rattle.canonical.proofs.Remaining.{remaining-few, remaining-proper-at, remaining-lines}
 use Rattle.canonical.proofs.push_rules.Statement.{statement}
 use Rattle.canonical.proofs.push_rules.Tie as tie
 
 abbrev Inv-loop : tie.InvT-loop
-Inv-loop page₀ at sheet network rows next₀ i₀ i-end page next i =
-    Joining mostRule (λ k. ruleLine (asRule sheet network (getD (rows .rows) k noConstraint))) (rows .count) page₀ next₀ i page next
-    × (i-end ≡ rows .count)
+Inv-loop page₀ at sheet network remaining next₀ i₀ i-end page next i =
+    Joining mostRule (λ k. ruleLine (asRule sheet network (getD (remaining .uppers) k noConstraint))) (remaining .count) page₀ next₀ i page next
+    × (i-end ≡ remaining .count)
 
 abbrev μ-loop : tie.MeasureT-loop
-μ-loop page₀ at sheet network rows next₀ i₀ i-end page next i = rows .count - i
+μ-loop page₀ at sheet network remaining next₀ i₀ i-end page next i = remaining .count - i
 
 -- the count is no more than a sheet may have
 few : (start : tie.Start Inv-loop μ-loop) → start .args .t5 .count ≤ L.rules
-few start = rows-few (start .args .network) (start .pre .2) (start .pre .3)
+few start = remaining-few (start .args .network) (start .pre .2) (start .pre .3)
 
 slice-aggregate-push-count : tie.Need-slice-aggregate-push-count Inv-loop μ-loop
 slice-aggregate-push-count c = search needs
@@ -54,7 +54,7 @@ push-rule-requires c κs =
     let start = in-loop .before .before .before .before .before .before .before .before in (
       start .pre .0,
       start .pre .1,
-      row-proper (start .args .network) (start .pre .2) (start .pre .3) (start .pre .0) (in-loop .loop .i) (omega arith),
+      remaining-proper-at (start .args .network) (start .pre .2) (start .pre .3) (start .pre .0) (in-loop .loop .i) (omega arith),
       omega (arith, few start),
     )
 
@@ -66,9 +66,9 @@ loop-less c = search needs
 
 loop-again : tie.Need-loop-again Inv-loop μ-loop
 loop-again c =
-    let row = c .before .before in
-    let loop = row .before .before .before .before .loop in
-    (join-next (loop .inv .0) (omega arith) (row .push-rule .ensures) (omega arith), loop .inv .1)
+    let written = c .before .before in
+    let loop = written .before .before .before .before .loop in
+    (join-next (loop .inv .0) (omega arith) (written .push-rule .ensures) (omega arith), loop .inv .1)
 
 same-length : tie.Need-same-length Inv-loop μ-loop
 same-length c = search needs
@@ -80,8 +80,8 @@ returns c =
     let start = count .before .before .before .before .before in
     let args = start .args in
     section-appended "rules" _ (args .t5 .count)
-    (λ k. ruleLine (asRule (now (args .sheet)) (args .network) (getD (args .t5 .rows) k noConstraint)))
-    (row-lines (args .network) (start .pre .2) (start .pre .3) (now (args .sheet)))
+    (λ k. ruleLine (asRule (now (args .sheet)) (args .network) (getD (args .t5 .uppers) k noConstraint)))
+    (remaining-lines (args .network) (start .pre .2) (start .pre .3) (now (args .sheet)))
     (count .push-count .ensures)
     (join-all (loop .inv .0) (omega arith))
     (omega (arith, few start))

@@ -9,7 +9,7 @@ use borrow.Author.Tests.{le-leb, lt-leb}
 use lib.Dec.{leb}
 use lib.ListN.{getD}
 use Rattle.prelude.proofs.Minima.{minWhere-more, minWhere-skip}
-use Rattle.tighten.specs.Numbers.{top, leastBelow}
+use Rattle.tighten.specs.Encoding.{top, leastBelow}
 use Rattle.tighten.proofs.least_from.Statement.{statement}
 use Rattle.tighten.proofs.least_from.Tie as tie
 

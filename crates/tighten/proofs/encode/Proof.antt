@@ -7,9 +7,9 @@ use Rattle.network.specs.Biased.{biased}
 use Rattle.network.proofs.Signed.{read-back}
 use Rattle.tighten.specs.Upper.{upper}
 use Rattle.tighten.specs.Tightest.{rank}
-use Rattle.tighten.specs.Numbers.{perKey}
-use Rattle.tighten.proofs.number_of.Statement.{statement}
-use Rattle.tighten.proofs.number_of.Tie as tie
+use Rattle.tighten.specs.Encoding.{perKey}
+use Rattle.tighten.proofs.encode.Statement.{statement}
+use Rattle.tighten.proofs.encode.Tie as tie
 
 cast-ends : tie.Need-cast-ends
 cast-ends c = search needs
@@ -59,8 +59,8 @@ returns c =
     ap (λ (v : ℕ). rank (upper (z .args .from) (z .args .to) (z .args .bound) (z .args .label)) * perKey + v)
     (c .biased .ensures ∙ ap biased (read-back (z .args .bound) (z .pre .bound)))
 
-pub number-of-spec : {M : Type 1} → statement M
-number-of-spec =
+pub encode-spec : {M : Type 1} → statement M
+encode-spec =
     tie.close
     (tie.spec
     cast-ends

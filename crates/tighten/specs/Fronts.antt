@@ -7,11 +7,11 @@ use lib.Dec.{leb}
 use lib.ListN.{length, take}
 use Rattle.network.specs.Limits as L
 use Rattle.network.specs.declared.Constraint.{Constraint}
-use Rattle.tighten.specs.Numbers as N
-use Rattle.tighten.specs.declared.Numbers.{Numbers}
-use Rattle.tighten.specs.declared.Rows.{Rows}
+use Rattle.tighten.specs.Encoding as E
+use Rattle.tighten.specs.declared.Encodings.{Encodings}
+use Rattle.tighten.specs.declared.UpperBounds.{UpperBounds}
 
--- a rule becomes at most two rows
+-- a rule becomes at most two upper bounds
 abbrev pub most : ℕ
 most = 2 * L.rules
 
@@ -25,11 +25,11 @@ pub record Front {A : Type 0} (size : ℕ) (xs : List A) (count : ℕ) (array : 
 pub record Added (before : List ℕ) (count : ℕ) (numbers after : List ℕ) (count′ : ℕ) : Type 0 where
   pub front : (xs : List ℕ) → Front most xs count before → Front most (xs ++ numbers) count′ after
 
--- r holds the numbers of these rows
-pub record NumbersAre (rs : List Constraint) (r : Numbers) : Type 0 where
-  pub held : Front most (map N.numberOf rs) (r .count) (r .list)
+-- r holds the numbers of these upper bounds
+pub record EncodingsAre (rs : List Constraint) (r : Encodings) : Type 0 where
+  pub held : Front most (map E.encoded rs) (r .count) (r .list)
 
--- r holds these rows, where they are no more than a sheet may have
-pub record RowsAre (rs : List Constraint) (r : Rows) : Type 0 where
+-- r holds these upper bounds, where they are no more than a sheet may have
+pub record UppersAre (rs : List Constraint) (r : UpperBounds) : Type 0 where
   pub fits : r .fits ≡ leb (length rs) L.rules
-  pub held : r .fits ≡ true → Front L.rules rs (r .count) (r .rows)
+  pub held : r .fits ≡ true → Front L.rules rs (r .count) (r .uppers)

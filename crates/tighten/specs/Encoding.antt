@@ -1,5 +1,5 @@
--- A row as one number, so that a search for the next key and its least limit compares numbers only: its key, and
--- behind it its limit plus 10,080, which is not negative.
+-- An upper bound as one number, so that a search for the next key and its least limit compares numbers only: its key,
+-- and behind it its limit plus 10,080, which is not negative.
 use Prim.Native.Nat.{ℕ, _+_, _*_, _/_, _%_, _<_}
 use lib.IntN.{ℤ}
 use lib.Dec.{leb}
@@ -15,16 +15,17 @@ use Rattle.tighten.specs.Tightest.{rank}
 abbrev pub perKey : ℕ
 perKey = 32768
 
-abbrev pub numberOf : Constraint → ℕ
-numberOf r = rank r * perKey + biased (r .bound)
+abbrev pub encoded : Constraint → ℕ
+encoded r = rank r * perKey + biased (r .bound)
 
--- the row that a number stands for: its parts in front of the limit are digits in base 16
-abbrev pub rowOf : ℕ → Constraint
-rowOf v =
-    upper (v / 134217728) (v / 8388608 % 16) (unbiased (v % perKey)) (record { positive = v / 524288 % 16; negative = v / perKey % 16 })
+-- the upper bound that a number stands for: its parts in front of the limit are digits in base 16
+abbrev pub decoded : ℕ → Constraint
+decoded v =
+    upper (v / 134217728) (v / 8388608 % 16) (unbiased (v % perKey))
+    (record { positive = v / 524288 % 16; negative = v / perKey % 16 })
 
 -- each part of the key is a digit in base 16, and the limit is in range
-pub record Numbered (from to : ℕ) (w : ℤ) (ℓ : Label) : Type 0 where
+pub record Encodable (from to : ℕ) (w : ℤ) (ℓ : Label) : Type 0 where
   pub from-few : from < 16
   pub to-few : to < 16
   pub positive-few : ℓ .positive < 16
@@ -35,7 +36,7 @@ pub record Numbered (from to : ℕ) (w : ℤ) (ℓ : Label) : Type 0 where
 abbrev pub behind : ℕ → ℕ
 behind v = (v / perKey + 1) * perKey
 
--- more than the number of any row
+-- more than the number of any upper bound
 abbrev pub top : ℕ
 top = 2147483648
 

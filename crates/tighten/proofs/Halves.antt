@@ -10,13 +10,13 @@ use Rattle.network.specs.declared.Kind.the-variants.{Max, Min, Fix}
 use Rattle.network.specs.declared.Constraint.{Constraint}
 use Rattle.network.proofs.Signed.{read-back, negated, negated-read, negated-limit}
 use Rattle.tighten.specs.Upper.{upper, forward, backward, uppers}
-use Rattle.tighten.specs.Numbers.{numberOf, Numbered}
-use Rattle.tighten.specs.Held.{Added}
+use Rattle.tighten.specs.Encoding.{encoded, Encodable}
+use Rattle.tighten.specs.Fronts.{Added}
 use Rattle.tighten.proofs.Fronts.{added-then}
 
-module _ (c : Constraint) (n : Numbered (c .from) (c .to) (c .bound) (c .label)) where
+module _ (c : Constraint) (n : Encodable (c .from) (c .to) (c .bound) (c .label)) where
   -- with its ends swapped and its limit negated
-  pub swapped : Numbered (c .to) (c .from) (toZ w32 (ofZ w32 (negated (c .bound) (n .bound)))) (c .label)
+  pub swapped : Encodable (c .to) (c .from) (toZ w32 (ofZ w32 (negated (c .bound) (n .bound)))) (c .label)
   swapped = record {
     from-few = n .to-few;
     to-few = n .from-few;
@@ -27,25 +27,28 @@ module _ (c : Constraint) (n : Numbered (c .from) (c .to) (c .bound) (c .label))
 
   -- the numbers of its two halves, as the code makes them
   abbrev upperNumber : ℕ
-  upperNumber = numberOf (upper (c .from) (c .to) (toZ w32 (ofZ w32 (c .bound))) (c .label))
+  upperNumber = encoded (upper (c .from) (c .to) (toZ w32 (ofZ w32 (c .bound))) (c .label))
 
   abbrev lowerNumber : ℕ
-  lowerNumber = numberOf (upper (c .to) (c .from) (toZ w32 (ofZ w32 (negated (c .bound) (n .bound)))) (c .label))
+  lowerNumber = encoded (upper (c .to) (c .from) (toZ w32 (ofZ w32 (negated (c .bound) (n .bound)))) (c .label))
 
-  upper-number : {v : ℕ} → v ≡ upperNumber → v ≡ numberOf (forward c)
-  upper-number e = e ∙ ap (λ (w : ℤ). numberOf (upper (c .from) (c .to) w (c .label))) (read-back (c .bound) (n .bound))
+  upper-number : {v : ℕ} → v ≡ upperNumber → v ≡ encoded (forward c)
+  upper-number e = e ∙ ap (λ (w : ℤ). encoded (upper (c .from) (c .to) w (c .label))) (read-back (c .bound) (n .bound))
 
-  lower-number : {v : ℕ} → v ≡ lowerNumber → v ≡ numberOf (backward c)
-  lower-number e = e ∙ ap (λ (w : ℤ). numberOf (upper (c .to) (c .from) w (c .label))) (negated-read (c .bound) (n .bound))
+  lower-number : {v : ℕ} → v ≡ lowerNumber → v ≡ encoded (backward c)
+  lower-number e =
+      e ∙ ap (λ (w : ℤ). encoded (upper (c .to) (c .from) w (c .label))) (negated-read (c .bound) (n .bound))
 
   -- they are the numbers of the rule
   module _ {a b : List ℕ} {i j v : ℕ} where
-    pub added-max : c .kind ≡ Max → v ≡ upperNumber → Added a i (v ∷ []) b j → Added a i (map numberOf (uppers (c .kind) c)) b j
+    pub added-max : c .kind ≡ Max → v ≡ upperNumber → Added a i (v ∷ []) b j
+        → Added a i (map encoded (uppers (c .kind) c)) b j
     added-max k e f = rw k (rw (upper-number e) at f)
 
-    pub added-min : c .kind ≡ Min → v ≡ lowerNumber → Added a i (v ∷ []) b j → Added a i (map numberOf (uppers (c .kind) c)) b j
+    pub added-min : c .kind ≡ Min → v ≡ lowerNumber → Added a i (v ∷ []) b j
+        → Added a i (map encoded (uppers (c .kind) c)) b j
     added-min k e f = rw k (rw (lower-number e) at f)
 
   pub added-fix : {a m b : List ℕ} {i k j v w : ℕ} → c .kind ≡ Fix → v ≡ upperNumber → w ≡ lowerNumber
-      → Added a i (v ∷ []) m k → Added m k (w ∷ []) b j → Added a i (map numberOf (uppers (c .kind) c)) b j
+      → Added a i (v ∷ []) m k → Added m k (w ∷ []) b j → Added a i (map encoded (uppers (c .kind) c)) b j
   added-fix h d e f g = rw h (rw (upper-number d, lower-number e) at (added-then f g))

@@ -4,10 +4,10 @@ use mathlib.Core.Path.{refl}
 use Prim.Native.Nat.{_-_}
 use native.Mathlib.Omega.{arith}
 use borrow.Author.Needs.{needs}
-use Rattle.tighten.proofs.Regular.{proper-numbered}
-use Rattle.tighten.proofs.Listed.{Listed, listed-none, listed-few, listed-more, numbers-are}
-use Rattle.tighten.proofs.numbers_of.Statement.{statement}
-use Rattle.tighten.proofs.numbers_of.Tie as tie
+use Rattle.tighten.proofs.Regular.{proper-encodable}
+use Rattle.tighten.proofs.Listed.{Listed, listed-none, listed-few, listed-more, encodings-are}
+use Rattle.tighten.proofs.encodings_of.Statement.{statement}
+use Rattle.tighten.proofs.encodings_of.Tie as tie
 
 abbrev Inv-loop : tie.InvT-loop
 Inv-loop network list₀ count₀ c₀ c-end list count c = Listed network c count list
@@ -32,7 +32,7 @@ add-rule-requires c κs =
     let few = listed-few (z .args .t1) (loop .inv) in (
       loop .inv .held .sized,
       omega (arith, z .pre .rules, test .taken),
-      proper-numbered (z .args .t1) (z .pre) _ (z .pre .proper (loop .c) (test .taken)),
+      proper-encodable (z .args .t1) (z .pre) _ (z .pre .proper (loop .c) (test .taken)),
     )
 
 add-c : tie.Need-add-c Inv-loop μ-loop
@@ -49,10 +49,10 @@ loop-again c =
     listed-more (z .args .t1) (loop .inv) (test .taken) (c .add-rule .ensures)
 
 returns : tie.Need-returns Inv-loop μ-loop
-returns c = numbers-are (c .before .before .args .t1) _ (c .before .loop .inv) (c .loop-test .left)
+returns c = encodings-are (c .before .before .args .t1) _ (c .before .loop .inv) (c .loop-test .left)
 
-pub numbers-of-spec : {M : Type 1} → statement M
-numbers-of-spec =
+pub encodings-of-spec : {M : Type 1} → statement M
+encodings-of-spec =
     tie.close
     (tie.spec
     Inv-loop
