@@ -22,7 +22,7 @@ use Rattle.moves.specs.Moves.{Placed}
 use Rattle.moves.specs.Levels.{Some}
 use Rattle.moves.proofs.Moves.{placed-times}
 use Rattle.leap.specs.Tables.{Advanced}
-use Rattle.leap.proofs.Held.{held-moved, placed-within, some-cell}
+use Rattle.leap.proofs.Strategies.{held-moved, placed-within, some-cell}
 use Rattle.leap.proofs.Tables.{horizon-few, placed-framed, moved-whole}
 
 module _ {frame : Frame} {counts lists : List ℕ} where

@@ -22,7 +22,7 @@ use Rattle.rounds.proofs.Effects.{step-rises, length-held}
 use Rattle.moves.specs.Moves.{Between}
 use Rattle.moves.specs.Levels.{NextLevel}
 use Rattle.leap.specs.Levels.{Faster, Slower, Level}
-use Rattle.leap.proofs.Held.{held-at}
+use Rattle.leap.proofs.Strategies.{held-at}
 
 -- p rounds from t moved on j times by what f makes of d's rises
 abbrev pub farBy : Network → ℕ → ℕ → List ℕ → List ℕ → (ℕ → ℕ) → List ℕ

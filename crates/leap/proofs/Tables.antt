@@ -23,7 +23,7 @@ use Rattle.rounds.proofs.Effects.{times-framed, round-leads}
 use Rattle.moves.specs.Moves.{partOf, Placed}
 use Rattle.moves.proofs.Moves.{wrote-at, wrote-times}
 use Rattle.leap.specs.Tables.{Advanced, Far}
-use Rattle.leap.proofs.Held.{held-few, held-same, held-moved, placed-within}
+use Rattle.leap.proofs.Strategies.{held-few, held-same, held-moved, placed-within}
 
 pub horizon-few : {frame : Frame} {counts lists : List ℕ} → Usable frame counts lists → frame .horizon ≤ 10080
 horizon-few U = omega (arith, U .compiled .formed .horizon, U .compiled .framed .horizon)

@@ -21,7 +21,7 @@ use Rattle.moves.specs.Moves.{partOf, Between}
 use Rattle.moves.specs.Levels.{NextLevel}
 use Rattle.leap.specs.Tables.{Advanced, Far}
 use Rattle.leap.specs.Levels.{AtLevel, Faster, Slower, Level}
-use Rattle.leap.proofs.Held.{held-low, held-few}
+use Rattle.leap.proofs.Strategies.{held-low, held-few}
 use Rattle.leap.proofs.Levels.{farBy, faster-by, slower-by, Lower, each-level}
 
 module _ {frame : Frame} {counts lists : List ℕ} {Γ : Network} (C : Compiled Γ frame counts lists) where

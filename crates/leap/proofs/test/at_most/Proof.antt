@@ -11,7 +11,7 @@ use Rattle.network.specs.declared.Network.{Network}
 use Rattle.rounds.specs.Compiled.{Compiled}
 use Rattle.rounds.proofs.Usable.{scenarios-in}
 use Rattle.leap.specs.Levels.{Faster}
-use Rattle.leap.proofs.Held.{level-up}
+use Rattle.leap.proofs.Strategies.{level-up}
 use Rattle.leap.proofs.Levels.{Lower, lower-start, lower-next}
 use Rattle.leap.proofs.Tested.{next-framed, at-most-of}
 use Rattle.leap.proofs.test.at_most.Statement.{statement}
