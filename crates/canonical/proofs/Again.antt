@@ -34,7 +34,8 @@ text-is : (sheet : List ℕ) (Γ : Network) → houseText sheet Γ ≡ textOf (h
 unfolding houseText
 text-is sheet Γ = refl
 
-module _ (sheet : List ℕ) (a : read sheet .outcome ≡ Accepted) (few : length (remainingOf (read sheet .network)) ≤ L.rules) where
+module _ (sheet : List ℕ) (a : read sheet .outcome ≡ Accepted)
+    (few : length (remainingOf (read sheet .network)) ≤ L.rules) where
   abbrev Γ : Network
   Γ = read sheet .network
 
@@ -90,4 +91,5 @@ module _ (sheet : List ℕ) (a : read sheet .outcome ≡ Accepted) (few : length
 
   pub form-tables : (σ : List ℕ) → Solution Γ σ ↔ Solution Δ σ
   form-tables =
-      solutions-by-remaining (faithful sheet a .formed) (faithful form form-accepted .formed) form-agrees (sym form-remaining)
+      solutions-by-remaining (faithful sheet a .formed) (faithful form form-accepted .formed) form-agrees
+      (sym form-remaining)

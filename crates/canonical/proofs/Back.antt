@@ -34,7 +34,8 @@ module _ {sheet : List ℕ} {Γ : Network} (t : Faithful sheet Γ) where
 
   module _ {form : List ℕ} {Δ : Network} (h : Contains form Δ (houseOf sheet Γ)) where
     -- a rule of the form is the upper bound that remains
-    means-back : (r c : Constraint) → Remains Γ r → Means (namesOf sheet Γ) (signalsOf sheet Γ) c (asRule sheet Γ r) → c ≡ r
+    means-back : (r c : Constraint) → Remains Γ r → Means (namesOf sheet Γ) (signalsOf sheet Γ) c (asRule sheet Γ r)
+        → c ≡ r
     means-back r c w m =
         let xs = signalsOf sheet Γ in
         let s = letters-held t in
@@ -55,7 +56,8 @@ module _ {sheet : List ℕ} {Γ : Network} (t : Faithful sheet Γ) where
 
     upper-back : (i : ℕ) → i < length (remainingOf Γ) → constraint Δ i ≡ getD (remainingOf Γ) i noConstraint
     upper-back i l =
-        let inside : i < length (map (asRule sheet Γ) (remainingOf Γ)) = omega (arith, length-map (remainingOf Γ) (asRule sheet Γ)) in
+        let inside : i < length (map (asRule sheet Γ) (remainingOf Γ)) =
+        omega (arith, length-map (remainingOf Γ) (asRule sheet Γ)) in
         let r = getD (remainingOf Γ) i noConstraint in
         means-back r (constraint Δ i) (each-remains t .each i l)
         (rw (getD-map (asRule sheet Γ) noConstraint noRule (remainingOf Γ) i l) at (h .means i inside))

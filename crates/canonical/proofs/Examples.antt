@@ -6,7 +6,6 @@ use Prim.Native.Nat.{ℕ, _+_}
 use Prim.Native.Char.{code}
 use Prim.Native.String.{String}
 use lib.IntN.{ℤ, pos, negsuc}
-use lib.ListN.{length}
 use Rattle.prelude.specs.Bytes.{ascii, same}
 use Rattle.text.specs.Lines.{lineFeed}
 use Rattle.network.specs.Build.{empty, withEvent, withSignal}
@@ -24,7 +23,8 @@ sheet = ascii "startdoor"
 
 abbrev network : Network
 network =
-    withSignal (withSignal (withSignal (withEvent (withEvent (empty 60) 0 5) 5 4) (code "q") 1) (code "p") 0) (code "r") 1
+    withSignal (withSignal (withSignal (withEvent (withEvent (empty 60) 0 5) 5 4) (code "q") 1) (code "p") 0)
+    (code "r") 1
 
 -- a limit and a label as they are typed; the rule from the start to the door
 record Example : Type 0 where
@@ -45,11 +45,13 @@ examples =
     ∷ (example (pos 10080) "!p" "max,start,door,10080,!p"
     ∷ (example (negsuc 10079) "r!p!q" "max,start,door,-10080,!q!pr" ∷ []))))
 
+-- the label that is typed
+abbrev labelled : Example → Label
+labelled e = maskOf (network .signals) (network .letters) (labelOf (ascii (e .typed)))
+
 abbrev agrees : Example → Bool
 agrees e =
-    same
-    (ruleLine (asRule sheet network (upper 0 1 (e .limit) (maskOf (network .signals) (network .letters) (labelOf (ascii (e .typed)))))))
-    (ascii (e .prints) ++ lineFeed ∷ [])
+    same (ruleLine (asRule sheet network (upper 0 1 (e .limit) (labelled e)))) (ascii (e .prints) ++ lineFeed ∷ [])
 
 abbrev allAgree : List Example → Bool
 allAgree [] = true

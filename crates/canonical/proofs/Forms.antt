@@ -1,6 +1,5 @@
 -- "Two sheets give equal bytes if and only if their horizons, event lists, signal lists and remaining rows are equal"
--- (02, point 2). Equal bytes are read to one network, which has the horizon and the lists of each sheet, and what remains of
--- it;
+-- (02, point 2). Equal bytes are read to one network, which has the horizon, the lists and what remains of each sheet;
 -- and the bytes are written from these alone. Assumes nothing.
 use mathlib.Core.Path.{_≡_, sym, _∙_, ap}
 use mathlib.Core.Logic.{_↔_}
@@ -22,8 +21,10 @@ use Rattle.canonical.proofs.Again.{form-same}
 abbrev from : List ℕ → Network
 from form = read form .network
 
-module _ (sheet : List ℕ) (a : read sheet .outcome ≡ Accepted) (few : length (remainingOf (read sheet .network)) ≤ L.rules)
-    (other : List ℕ) (b : read other .outcome ≡ Accepted) (fits : length (remainingOf (read other .network)) ≤ L.rules) where
+module _ (sheet : List ℕ) (a : read sheet .outcome ≡ Accepted)
+    (few : length (remainingOf (read sheet .network)) ≤ L.rules)
+    (other : List ℕ) (b : read other .outcome ≡ Accepted)
+    (fits : length (remainingOf (read other .network)) ≤ L.rules) where
   abbrev Γ : Network
   Γ = read sheet .network
 

@@ -1,6 +1,6 @@
 -- What the form contains keeps the layout's rules, where no more upper bounds remain than a sheet may have: the
--- events and signals are those of a sheet, and each one that remains has events of it for its ends, a limit in range, and
--- letters of it, each once, for its label. Assumes nothing.
+-- events and signals are those of a sheet, and each one that remains has events of it for its ends, a limit in range,
+-- and letters of it, each once, for its label. Assumes nothing.
 use mathlib.Core.Path.{_≡_}
 use mathlib.Core.List.{List, [], map}
 use Prim.Native.Nat.{ℕ, _≤_, _<_}
@@ -67,7 +67,8 @@ module _ {sheet : List ℕ} {Γ : Network} (t : Faithful sheet Γ) where
   pub labels-few : Each (λ x. length (x .label) ≤ L.signals) (map (asRule sheet Γ) (remainingOf Γ)) noRule
   labels-few =
       each-map (asRule sheet Γ) (λ x. length (x .label) ≤ L.signals) noConstraint noRule (remainingOf Γ)
-      (each-mono (λ r w. omega (arith, length-gather (literalAt Γ (r .label)) 0 (Γ .signals), t .formed .signals)) each-remains)
+      (each-mono (λ r w.
+      omega (arith, length-gather (literalAt Γ (r .label)) 0 (Γ .signals), t .formed .signals)) each-remains)
 
   pub house-keeps : length (remainingOf Γ) ≤ L.rules → Keeps (houseOf sheet Γ)
   house-keeps few =

@@ -31,7 +31,8 @@ labelText-some (l ∷ ls) h = refl
 
 -- one letter, before others
 literal-first : (b : ℕ) (positive negative : Bool) (ls : List Literal)
-    → literalsText (ahead (literalBy b positive negative) ls) ≡ literalsText (ahead (literalBy b positive negative) []) ++ literalsText ls
+    → literalsText (ahead (literalBy b positive negative) ls)
+    ≡ literalsText (ahead (literalBy b positive negative) []) ++ literalsText ls
 literal-first b true negative ls = refl
 literal-first b false true ls = refl
 literal-first b false false ls = refl

@@ -40,8 +40,14 @@ module _ (Γ : Network) {r : UpperBounds} (held : UppersAre (remainingOf Γ) r) 
 
   -- the lines of those that remain, by their places in the array
   pub remaining-lines : (sheet : List ℕ)
-      → map ruleLine (map (asRule sheet Γ) (remainingOf Γ)) ≡ tabulate (r .count) (λ i. ruleLine (asRule sheet Γ (at i)))
+      → map ruleLine (map (asRule sheet Γ) (remainingOf Γ))
+      ≡ tabulate (r .count) (λ i. ruleLine (asRule sheet Γ (at i)))
   remaining-lines sheet =
       let all : remainingOf Γ ≡ tabulate (r .count) at =
-      sym (front .front) ∙ take-tabulate noConstraint (r .count) (r .uppers) (omega (arith, remaining-few, front .sized)) in
-      rw (all, map-tabulate (asRule sheet Γ) at (r .count), map-tabulate ruleLine (λ i. asRule sheet Γ (at i)) (r .count))
+      sym (front .front)
+      ∙ take-tabulate noConstraint (r .count) (r .uppers) (omega (arith, remaining-few, front .sized)) in
+      rw (
+        all,
+        map-tabulate (asRule sheet Γ) at (r .count),
+        map-tabulate ruleLine (λ i. asRule sheet Γ (at i)) (r .count),
+      )

@@ -18,7 +18,8 @@ module _ (f : ℕ → List ℕ) where
   lines-tabulateFrom i zero = refl
   lines-tabulateFrom i (suc n) = ap (λ (l : List ℕ). f i ++ l) (lines-tabulateFrom (suc i) n)
 
-  section-tabulate : (word : String) (n : ℕ) → line (ascii word) (decimal n ∷ []) ++ joinFrom 0 n f ≡ section word (tabulate n f)
+  section-tabulate : (word : String) (n : ℕ)
+      → line (ascii word) (decimal n ∷ []) ++ joinFrom 0 n f ≡ section word (tabulate n f)
   section-tabulate word n = rw (length-tabulate f n, lines-tabulateFrom 0 n)
 
 -- the first line, and the lines of a table of n

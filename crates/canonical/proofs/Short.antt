@@ -44,7 +44,8 @@ length-lines m (l ∷ ls) e =
     let rest = length-lines m ls (record { each = λ i h. e .each (suc i) (omega arith) }) in
     omega (arith, length-append l (lines ls), mul-suc m (length ls), e .each 0 (omega arith), rest)
 
-length-section : (word : String) (m n : ℕ) (ls : List (List ℕ)) → length ls ≤ n → n ≤ 65535 → Each (λ l. length l ≤ m) ls []
+length-section : (word : String) (m n : ℕ) (ls : List (List ℕ)) → length ls ≤ n → n ≤ 65535
+    → Each (λ l. length l ≤ m) ls []
     → length (section word ls) ≤ mostCount (length (ascii word)) + m * n
 length-section word m n ls few h e =
     let count = line (ascii word) (decimal (length ls) ∷ []) in
@@ -68,7 +69,12 @@ length-sign false = omega arith
 length-literals : (ls : List Literal) → length (literalsText ls) ≤ 2 * length ls
 length-literals [] = omega arith
 length-literals (l ∷ ls) =
-    omega (arith, length-append (signText (l .value)) (l .letter ∷ literalsText ls), length-sign (l .value), length-literals ls)
+    omega (
+      arith,
+      length-append (signText (l .value)) (l .letter ∷ literalsText ls),
+      length-sign (l .value),
+      length-literals ls,
+    )
 
 length-label : (ls : List Literal) → length ls ≤ L.signals → length (labelText ls) ≤ mostLabel
 length-label [] h = omega arith
@@ -80,7 +86,8 @@ length-kind Min = omega arith
 length-kind Fix = omega arith
 
 -- four parts one behind the other
-length-parts : (h e s r : List ℕ) → length h ≤ mostCount 7 → length e ≤ mostEvents → length s ≤ mostSignals → length r ≤ mostRules
+length-parts : (h e s r : List ℕ) → length h ≤ mostCount 7 → length e ≤ mostEvents → length s ≤ mostSignals
+    → length r ≤ mostRules
     → length (h ++ e ++ s ++ r) ≤ mostForm
 length-parts h e s r a b c d =
     omega (arith, length-append (h ++ e ++ s) r, length-append (h ++ e) s, length-append h e)
@@ -99,7 +106,8 @@ module _ (c : Contents) (k : Keeps c) where
   abbrev Few : Rule → Type 0
   Few x = length (x .label) ≤ L.signals
 
-  length-rule : (x : Rule) → KeepsRule (c .names) (map (λ s. s .letter) (c .signals)) x → Few x → length (ruleLine x) ≤ mostRule
+  length-rule : (x : Rule) → KeepsRule (c .names) (map (λ s. s .letter) (c .signals)) x → Few x
+      → length (ruleLine x) ≤ mostRule
   length-rule x e few =
       let from = name-short (x .from) (each-in (λ n. isName n ≡ true) (k .names) (e .from)) in
       let to = name-short (x .to) (each-in (λ n. isName n ≡ true) (k .names) (e .to)) in
@@ -122,13 +130,16 @@ module _ (c : Contents) (k : Keeps c) where
       let names = map (λ n. line n []) (c .names) in
       let signals = map signalLine (c .signals) in
       let rules = map ruleLine (c .rules) in
-      length-parts (line (ascii "horizon") (decimal (c .horizon) ∷ [])) (section "events" names) (section "signals" signals)
+      let name-count = length-map (c .names) (λ n. line n []) in
+      let signal-count = length-map (c .signals) signalLine in
+      let rule-count = length-map (c .rules) ruleLine in
+      length-parts (line (ascii "horizon") (decimal (c .horizon) ∷ [])) (section "events" names)
+      (section "signals" signals)
       (section "rules" rules)
       (length-count (ascii "horizon") (c .horizon) (omega (arith, k .horizon)))
-      (length-section "events" 9 L.events names (omega (arith, k .events, length-map (c .names) (λ n. line n []))) (omega arith)
-      length-events)
-      (length-section "signals" 11 L.signals signals (omega (arith, k .few-signals, length-map (c .signals) signalLine)) (omega arith)
+      (length-section "events" 9 L.events names (omega (arith, k .events, name-count)) (omega arith) length-events)
+      (length-section "signals" 11 L.signals signals (omega (arith, k .few-signals, signal-count)) (omega arith)
       (each-map signalLine (λ l. length l ≤ 11) noSignal [] (c .signals) (each-mono length-signal (k .signals))))
-      (length-section "rules" mostRule L.rules rules (omega (arith, k .few-rules, length-map (c .rules) ruleLine)) (omega arith)
+      (length-section "rules" mostRule L.rules rules (omega (arith, k .few-rules, rule-count)) (omega arith)
       (each-map ruleLine (λ l. length l ≤ mostRule) noRule [] (c .rules)
       (record { each = λ i h. length-rule (getD (c .rules) i noRule) (k .rules .each i h) (few .each i h) })))

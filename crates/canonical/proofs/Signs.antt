@@ -97,7 +97,8 @@ weights-by k bs b q e false true false h = omega arith
 weights-by k bs b q e false false true h = omega (arith, e)
 weights-by k bs b q e false false false h = refl
 
-truth-sum : (v : Bool) (ℓ : Label) (p : ℕ) → cond v (truth (ℓ .positive) p) (truth (ℓ .negative) p) ≡ truth (sumOf v ℓ) p
+truth-sum : (v : Bool) (ℓ : Label) (p : ℕ)
+    → cond v (truth (ℓ .positive) p) (truth (ℓ .negative) p) ≡ truth (sumOf v ℓ) p
 truth-sum true ℓ p = refl
 truth-sum false ℓ p = refl
 
@@ -106,8 +107,10 @@ module _ (Γ : Network) (ℓ : Label) (apart : Apart ℓ) (k : ℕ) (bs : List �
   weight-at : (p : ℕ) → p < k → weights k bs v (ahead (literalAt Γ ℓ p) []) ≡ weightIn (sumOf v ℓ) p
   weight-at p h =
       let size = w .sized in
-      let is : weight k bs (letter Γ p) ≡ 2 ^ p = rw (w .are p h, ← w .sized) (weight-of bs (w .once) p (omega arith)) in
-      weights-by k bs (letter Γ p) (2 ^ p) is v (truth (ℓ .positive) p) (truth (ℓ .negative) p) (apart .apart p (omega (arith, w .few)))
+      let is : weight k bs (letter Γ p) ≡ 2 ^ p =
+      rw (w .are p h, ← w .sized) (weight-of bs (w .once) p (omega arith)) in
+      weights-by k bs (letter Γ p) (2 ^ p) is v (truth (ℓ .positive) p) (truth (ℓ .negative) p)
+      (apart .apart p (omega (arith, w .few)))
       ∙ ap (λ (t : Bool). cond t (2 ^ p) 0) (truth-sum v ℓ p)
 
   weights-below : (n : ℕ) → n ≤ k → weights k bs v (gather n (literalAt Γ ℓ)) ≡ sumBelow n (weightIn (sumOf v ℓ))

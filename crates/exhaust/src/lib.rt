@@ -123,8 +123,8 @@ fn passes(network: Network, table: &[u16]) -> bool
 
 // Table number k: 1 where it is a solution, and then each cell of least is no more than its own.
 fn attempt(network: Network, k: u32, times: u32, cells: usize, least: &mut [u16; CELLS]) -> u32
-    requires { ⌜ WellFormed network × (0 < times) × (times ≤ 16) × (cells ≤ 32) × (cells ≡ network .events * 2 ^ network .signals)
-        × (length (now least) ≡ 32) ⌝ }
+    requires { ⌜ WellFormed network × (0 < times) × (times ≤ 16) × (cells ≤ 32)
+        × (cells ≡ network .events * 2 ^ network .signals) × (length (now least) ≡ 32) ⌝ }
     ensures { λ r. ⌜ (r ≤ 1) × (length (now (least .exit)) ≡ 32) ⌝ }
 {
     let events = network.events;

@@ -16,7 +16,8 @@ pub length-minutesOf : (b : List ℕ) → length (minutesOf b) ≡ length b / 2
 length-minutesOf b = length-tabulate (pairAt b) (length b / 2)
 
 -- the next cell behind a filled front is set
-put-next : (p t : List ℕ) (i v : ℕ) → length p ≡ i → i < length t → set (p ++ drop i t) i v ≡ (p ++ v ∷ []) ++ drop (i + 1) t
+put-next : (p t : List ℕ) (i v : ℕ) → length p ≡ i → i < length t
+    → set (p ++ drop i t) i v ≡ (p ++ v ∷ []) ++ drop (i + 1) t
 put-next p t i v e h =
     ap (λ (l : List ℕ). set (p ++ l) i v) (drop-cons t i 0 h)
     ∙ set-at p (getD t i 0) (drop (suc i) t) v i e
@@ -25,7 +26,8 @@ put-next p t i v e h =
 pub unpack-step : (b t₀ t : List ℕ) (i v : ℕ) → t ≡ tabulate i (pairAt b) ++ drop i t₀ → i < length t₀ → v ≡ pairAt b i
     → set t i v ≡ tabulate (i + 1) (pairAt b) ++ drop (i + 1) t₀
 unpack-step b t₀ t i v e h q =
-    let more : tabulate (i + 1) (pairAt b) ≡ tabulate i (pairAt b) ++ v ∷ [] = rw (q, add-one) (tabulate-more (pairAt b) i) in
+    let more : tabulate (i + 1) (pairAt b) ≡ tabulate i (pairAt b) ++ v ∷ [] =
+    rw (q, add-one) (tabulate-more (pairAt b) i) in
     ap (λ (l : List ℕ). set l i v) e
     ∙ put-next (tabulate i (pairAt b)) t₀ i v (length-tabulate (pairAt b) i) h
     ∙ rw more
@@ -63,18 +65,23 @@ bytesOf-more : (t : List ℕ) (i : ℕ) → i < length t
     → bytesOf (take (i + 1) t) ≡ bytesOf (take i t) ++ getD t i 0 % 256 ∷ getD t i 0 / 256 ∷ []
 bytesOf-more t i h = rw (add-one, take-suc t i 0) (bytesOf-append (take i t) (getD t i 0 ∷ []))
 
-pub pack-step : (t b₀ b : List ℕ) (i m : ℕ) → b ≡ bytesOf (take i t) ++ drop (2 * i) b₀ → i < length t → length t * 2 ≤ length b₀
-    → m ≡ getD t i 0 → set (set b (2 * i) (m % 256)) (2 * i + 1) (m / 256) ≡ bytesOf (take (i + 1) t) ++ drop (2 * (i + 1)) b₀
+pub pack-step : (t b₀ b : List ℕ) (i m : ℕ) → b ≡ bytesOf (take i t) ++ drop (2 * i) b₀ → i < length t
+    → length t * 2 ≤ length b₀
+    → m ≡ getD t i 0
+    → set (set b (2 * i) (m % 256)) (2 * i + 1) (m / 256) ≡ bytesOf (take (i + 1) t) ++ drop (2 * (i + 1)) b₀
 pack-step t b₀ b i m e h r q =
     let p = bytesOf (take i t) in
-    let p-length : length p ≡ 2 * i = length-bytesOf (take i t) ∙ ap (λ (k : ℕ). 2 * k) (length-take-le i t (omega arith)) in
+    let p-length : length p ≡ 2 * i =
+    length-bytesOf (take i t) ∙ ap (λ (k : ℕ). 2 * k) (length-take-le i t (omega arith)) in
     let low : set b (2 * i) (m % 256) ≡ (p ++ m % 256 ∷ []) ++ drop (2 * i + 1) b₀ =
     ap (λ (l : List ℕ). set l (2 * i) (m % 256)) e ∙ put-next p b₀ (2 * i) (m % 256) p-length (omega arith) in
     let low-length : length (p ++ m % 256 ∷ []) ≡ 2 * i + 1 = length-append p (m % 256 ∷ []) ∙ omega arith in
-    let both : set (set b (2 * i) (m % 256)) (2 * i + 1) (m / 256) ≡ ((p ++ m % 256 ∷ []) ++ m / 256 ∷ []) ++ drop (2 * i + 1 + 1) b₀ =
+    let both : set (set b (2 * i) (m % 256)) (2 * i + 1) (m / 256)
+    ≡ ((p ++ m % 256 ∷ []) ++ m / 256 ∷ []) ++ drop (2 * i + 1 + 1) b₀ =
     ap (λ (l : List ℕ). set l (2 * i + 1) (m / 256)) low
     ∙ put-next (p ++ m % 256 ∷ []) b₀ (2 * i + 1) (m / 256) low-length (omega arith) in
-    let front : bytesOf (take (i + 1) t) ≡ (p ++ m % 256 ∷ []) ++ m / 256 ∷ [] = rw (q, append-assoc) (bytesOf-more t i h) in
+    let front : bytesOf (take (i + 1) t) ≡ (p ++ m % 256 ∷ []) ++ m / 256 ∷ [] =
+    rw (q, append-assoc) (bytesOf-more t i h) in
     let place : 2 * i + 1 + 1 ≡ 2 * (i + 1) = omega arith in
     both ∙ rw (front, place)
 

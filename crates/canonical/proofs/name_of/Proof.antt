@@ -8,28 +8,10 @@ use Rattle.network.proofs.Names.{part-from, name-short}
 use Rattle.canonical.proofs.name_of.Statement.{statement}
 use Rattle.canonical.proofs.name_of.Tie as tie
 
-mul-start : tie.Need-mul-start
-mul-start c = search needs
-
-element-copy-out-start : tie.Need-element-copy-out-start
-element-copy-out-start c = search needs
-
-mul-end : tie.Need-mul-end
-mul-end c = search needs
-
-element-copy-out-end : tie.Need-element-copy-out-end
-element-copy-out-end c = search needs
-
 add-end : tie.Need-add-end
 add-end c =
     let start = c .before .before in
     omega (arith, start .pre .1 .inside (start .args .u) (omega arith))
-
-sub-result : tie.Need-sub-result
-sub-result c = search needs
-
-part-result-start : tie.Need-part-result-start
-part-result-start c = search needs
 
 part-result-end : tie.Need-part-result-end
 part-result-end c =
@@ -39,18 +21,11 @@ part-result-end c =
 returns : tie.Need-returns
 returns c =
     let start = c .before .before .before in
-    rw part-from (refl, name-short (start .args .t2) (now (start .args .sheet)) (start .args .u) (start .pre .1) (start .pre .2))
+    rw part-from
+    (refl, name-short (start .args .t2) (now (start .args .sheet)) (start .args .u) (start .pre .1) (start .pre .2))
 
 pub name-of-spec : {M : Type 1} → statement M
 name-of-spec =
     tie.close
-    (tie.spec
-    mul-start
-    element-copy-out-start
-    mul-end
-    element-copy-out-end
-    add-end
-    sub-result
-    part-result-start
-    part-result-end
-    returns)
+    (tie.spec (λ c. search needs) (λ c. search needs) (λ c. search needs) (λ c. search needs) add-end
+    (λ c. search needs) (λ c. search needs) part-result-end returns)

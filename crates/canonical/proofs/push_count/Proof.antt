@@ -6,21 +6,6 @@ use Rattle.page.proofs.Append.{append-then, append-both}
 use Rattle.canonical.proofs.push_count.Statement.{statement}
 use Rattle.canonical.proofs.push_count.Tie as tie
 
-push-all-requires : tie.Need-push-all-requires
-push-all-requires c κs = search needs
-
-push-requires : tie.Need-push-requires
-push-requires c κs = search needs
-
-push-number-requires : tie.Need-push-number-requires
-push-number-requires c κs = search needs
-
-push-requires-2 : tie.Need-push-requires-2
-push-requires-2 c κs = search needs
-
-same-length : tie.Need-same-length
-same-length c = search needs
-
 returns : tie.Need-returns
 returns c =
     let feed = c .before .before in
@@ -34,10 +19,5 @@ returns c =
 pub push-count-spec : {M : Type 1} → statement M
 push-count-spec =
     tie.close
-    (tie.spec
-    push-all-requires
-    push-requires
-    push-number-requires
-    push-requires-2
-    same-length
-    returns)
+    (tie.spec (λ c κs. search needs) (λ c κs. search needs) (λ c κs. search needs) (λ c κs. search needs)
+    (λ c. search needs) returns)

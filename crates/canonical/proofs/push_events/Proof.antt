@@ -19,37 +19,14 @@ use Rattle.canonical.proofs.push_events.Tie as tie
 
 abbrev Inv-loop : tie.InvT-loop
 Inv-loop page₀ at sheet network next₀ u₀ u-end page next u =
-    Joining 9 (λ i. line (nameOf network sheet i) []) (network .events) page₀ next₀ u page next × (u-end ≡ network .events)
+    Joining 9 (λ i. line (nameOf network sheet i) []) (network .events) page₀ next₀ u page next
+    × (u-end ≡ network .events)
 
 abbrev μ-loop : tie.MeasureT-loop
 μ-loop page₀ at sheet network next₀ u₀ u-end page next u = network .events - u
 
-slice-aggregate-push-count : tie.Need-slice-aggregate-push-count Inv-loop μ-loop
-slice-aggregate-push-count c = search needs
-
-cast-push-count : tie.Need-cast-push-count Inv-loop μ-loop
-cast-push-count c = search needs
-
-push-count-requires : tie.Need-push-count-requires Inv-loop μ-loop
-push-count-requires c κs = search needs
-
 loop-holds : tie.Need-loop-holds Inv-loop μ-loop
 loop-holds c = (join-none (omega arith), refl)
-
-name-of-requires : tie.Need-name-of-requires Inv-loop μ-loop
-name-of-requires c κs = search needs
-
-push-all-requires : tie.Need-push-all-requires Inv-loop μ-loop
-push-all-requires c κs = search needs
-
-push-requires : tie.Need-push-requires Inv-loop μ-loop
-push-requires c κs = search needs
-
-add-u : tie.Need-add-u Inv-loop μ-loop
-add-u c = search needs
-
-loop-less : tie.Need-loop-less Inv-loop μ-loop
-loop-less c = search needs
 
 loop-again : tie.Need-loop-again Inv-loop μ-loop
 loop-again c =
@@ -66,9 +43,6 @@ loop-again c =
       loop .inv .1,
     )
 
-same-length : tie.Need-same-length Inv-loop μ-loop
-same-length c = search needs
-
 returns : tie.Need-returns Inv-loop μ-loop
 returns c =
     let loop = c .before .loop in
@@ -83,18 +57,6 @@ returns c =
 pub push-events-spec : {M : Type 1} → statement M
 push-events-spec =
     tie.close
-    (tie.spec
-    Inv-loop
-    μ-loop
-    slice-aggregate-push-count
-    cast-push-count
-    push-count-requires
-    loop-holds
-    name-of-requires
-    push-all-requires
-    push-requires
-    add-u
-    loop-less
-    loop-again
-    same-length
-    returns)
+    (tie.spec Inv-loop μ-loop (λ c. search needs) (λ c. search needs) (λ c κs. search needs) loop-holds
+    (λ c κs. search needs) (λ c κs. search needs) (λ c κs. search needs) (λ c. search needs) (λ c. search needs)
+    loop-again (λ c. search needs) returns)

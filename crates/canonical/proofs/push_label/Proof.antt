@@ -16,7 +16,8 @@ use Rattle.canonical.proofs.push_label.Tie as tie
 
 abbrev Inv-loop : tie.InvT-loop
 Inv-loop page₀ at network next₀ positive₀ negative₀ p₀ p-end page next positive negative p =
-    Joining 2 (literalTextAt network (record { positive = positive₀; negative = negative₀ })) (network .signals) page₀ at p page next
+    Joining 2 (literalTextAt network (record { positive = positive₀; negative = negative₀ }))
+    (network .signals) page₀ at p page next
     × (positive ≡ positive₀ / 2 ^ p)
     × (negative ≡ negative₀ / 2 ^ p)
     × (p-end ≡ network .signals)
@@ -28,18 +29,6 @@ loop-holds : tie.Need-loop-holds Inv-loop μ-loop
 loop-holds c =
     let label = c .before .args .label in
     (join-none (omega arith), halved-none (label .positive), halved-none (label .negative), refl)
-
-element-copy-out-push-literal : tie.Need-element-copy-out-push-literal Inv-loop μ-loop
-element-copy-out-push-literal c = search needs
-
-push-literal-requires : tie.Need-push-literal-requires Inv-loop μ-loop
-push-literal-requires c κs = search needs
-
-add-p : tie.Need-add-p Inv-loop μ-loop
-add-p c = search needs
-
-loop-less : tie.Need-loop-less Inv-loop μ-loop
-loop-less c = search needs
 
 loop-again : tie.Need-loop-again Inv-loop μ-loop
 loop-again c =
@@ -53,12 +42,6 @@ loop-again c =
       inv .3,
     )
 
-push-requires : tie.Need-push-requires Inv-loop μ-loop
-push-requires c κs = search needs
-
-same-length : tie.Need-same-length Inv-loop μ-loop
-same-length c = search needs
-
 returns : tie.Need-returns Inv-loop μ-loop
 returns c =
     let dash = c .before .before in
@@ -66,13 +49,11 @@ returns c =
     let loop = branch .before .before .loop in
     let args = branch .before .before .before .before .args in
     let all = join-all (loop .inv .0) (omega arith) in
-    let none : length (joinFrom 0 (args .t3 .signals) (literalTextAt (args .t3) (args .label))) ≡ 0 = omega (arith, all .ends) in
+    let none : length (joinFrom 0 (args .t3 .signals) (literalTextAt (args .t3) (args .label))) ≡ 0 =
+    omega (arith, all .ends) in
     append-as (label-none (args .t3) (args .label) none)
     (append-both (append-within {l = 0} (rw (branch .if1 .taken) at all) (omega arith)) (dash .push .ensures))
     (omega arith)
-
-same-length-2 : tie.Need-same-length-2 Inv-loop μ-loop
-same-length-2 c = search needs
 
 returns-2 : tie.Need-returns-2 Inv-loop μ-loop
 returns-2 c =
@@ -84,17 +65,6 @@ returns-2 c =
 pub push-label-spec : {M : Type 1} → statement M
 push-label-spec =
     tie.close
-    (tie.spec
-    Inv-loop
-    μ-loop
-    loop-holds
-    element-copy-out-push-literal
-    push-literal-requires
-    add-p
-    loop-less
-    loop-again
-    push-requires
-    same-length
-    returns
-    same-length-2
+    (tie.spec Inv-loop μ-loop loop-holds (λ c. search needs) (λ c κs. search needs) (λ c. search needs)
+    (λ c. search needs) loop-again (λ c κs. search needs) (λ c. search needs) returns (λ c. search needs)
     returns-2)

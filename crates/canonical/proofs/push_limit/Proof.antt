@@ -11,12 +11,6 @@ use Rattle.canonical.proofs.Limit.{negated-fits, negated-cast, negated-
 use Rattle.canonical.proofs.push_limit.Statement.{statement}
 use Rattle.canonical.proofs.push_limit.Tie as tie
 
-push-requires : tie.Need-push-requires
-push-requires c κs = search needs
-
-push-requires-2 : tie.Need-push-requires-2
-push-requires-2 c κs = search needs
-
 sub-push-number : tie.Need-sub-push-number
 sub-push-number c =
     let start = c .before .before .before .before .before .before .before .before .before .before .before in
@@ -27,12 +21,6 @@ cast-push-number c =
     let branch = c .before .before .before .before .before in
     let start = branch .before .before .before .before .before .before in
     negated-cast (start .args .bound) (start .pre .0) (branch .if1 .taken)
-
-push-number-requires : tie.Need-push-number-requires
-push-number-requires c κs = search needs
-
-same-length : tie.Need-same-length
-same-length c = search needs
 
 returns : tie.Need-returns
 returns c =
@@ -52,12 +40,6 @@ cast-push-number-2 c =
     let start = branch .before .before .before .before .before .before in
     held-cast (start .args .bound) (start .pre .0) (branch .if1 .left)
 
-push-number-requires-2 : tie.Need-push-number-requires-2
-push-number-requires-2 c κs = search needs
-
-same-length-2 : tie.Need-same-length-2
-same-length-2 c = search needs
-
 returns-2 : tie.Need-returns-2
 returns-2 c =
     let digits = c .before .before in
@@ -72,15 +54,6 @@ returns-2 c =
 pub push-limit-spec : {M : Type 1} → statement M
 push-limit-spec =
     tie.close
-    (tie.spec
-    push-requires
-    push-requires-2
-    sub-push-number
-    cast-push-number
-    push-number-requires
-    same-length
-    returns
-    cast-push-number-2
-    push-number-requires-2
-    same-length-2
-    returns-2)
+    (tie.spec (λ c κs. search needs) (λ c κs. search needs) sub-push-number cast-push-number
+    (λ c κs. search needs) (λ c. search needs) returns cast-push-number-2 (λ c κs. search needs)
+    (λ c. search needs) returns-2)

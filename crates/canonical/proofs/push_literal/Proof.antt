@@ -8,25 +8,10 @@ use Rattle.page.proofs.Append.{append-nothing, append-then, append-as}
 use Rattle.canonical.proofs.push_literal.Statement.{statement}
 use Rattle.canonical.proofs.push_literal.Tie as tie
 
-push-requires : tie.Need-push-requires
-push-requires c κs = search needs
-
-same-length : tie.Need-same-length
-same-length c = search needs
-
 returns : tie.Need-returns
 returns c =
     let letter = c .before .before in
     rw (letter .before .before .if1 .taken) (append-as refl (letter .push .ensures) (omega arith))
-
-push-requires-2 : tie.Need-push-requires-2
-push-requires-2 c κs = search needs
-
-push-requires-3 : tie.Need-push-requires-3
-push-requires-3 c κs = search needs
-
-same-length-2 : tie.Need-same-length-2
-same-length-2 c = search needs
 
 returns-2 : tie.Need-returns-2
 returns-2 c =
@@ -45,12 +30,5 @@ returns-3 c =
 pub push-literal-spec : {M : Type 1} → statement M
 push-literal-spec =
     tie.close
-    (tie.spec
-    push-requires
-    same-length
-    returns
-    push-requires-2
-    push-requires-3
-    same-length-2
-    returns-2
-    returns-3)
+    (tie.spec (λ c κs. search needs) (λ c. search needs) returns (λ c κs. search needs) (λ c κs. search needs)
+    (λ c. search needs) returns-2 returns-3)

@@ -87,30 +87,13 @@ label-written c =
     (append-both (mark .push .ensures) (c .push-label .ensures))
     (omega arith)
 
-slice-aggregate-push-all : tie.Need-slice-aggregate-push-all
-slice-aggregate-push-all c = search needs
-
-push-all-requires : tie.Need-push-all-requires
-push-all-requires c κs = search needs
-
-name-of-requires : tie.Need-name-of-requires
-name-of-requires c κs = search needs
-
-push-field-requires : tie.Need-push-field-requires
-push-field-requires c κs = search needs
-
-name-of-requires-2 : tie.Need-name-of-requires-2
-name-of-requires-2 c κs = search needs
-
-push-field-requires-2 : tie.Need-push-field-requires-2
-push-field-requires-2 c κs = search needs
-
 push-limit-requires : tie.Need-push-limit-requires
 push-limit-requires c κs =
     let last = c .before .before .before .before in
     let written = ends-written last in
     let start = before-ends last in
-    (rw (read-back (start .args .upper .bound) (start .pre .2 .bound)) (start .pre .2 .bound), omega (arith, start .pre .3))
+    let proper = start .pre .2 in
+    (rw (read-back (start .args .upper .bound) (proper .bound)) (proper .bound), omega (arith, start .pre .3))
 
 push-requires : tie.Need-push-requires
 push-requires c κs =
@@ -147,16 +130,6 @@ returns c =
 pub push-rule-spec : {M : Type 1} → statement M
 push-rule-spec =
     tie.close
-    (tie.spec
-    slice-aggregate-push-all
-    push-all-requires
-    name-of-requires
-    push-field-requires
-    name-of-requires-2
-    push-field-requires-2
-    push-limit-requires
-    push-requires
-    push-label-requires
-    push-requires-2
-    same-length
-    returns)
+    (tie.spec (λ c. search needs) (λ c κs. search needs) (λ c κs. search needs) (λ c κs. search needs)
+    (λ c κs. search needs) (λ c κs. search needs) push-limit-requires push-requires push-label-requires
+    push-requires-2 same-length returns)

@@ -20,7 +20,8 @@ use Rattle.canonical.proofs.push_rules.Tie as tie
 
 abbrev Inv-loop : tie.InvT-loop
 Inv-loop page₀ at sheet network remaining next₀ i₀ i-end page next i =
-    Joining mostRule (λ k. ruleLine (asRule sheet network (getD (remaining .uppers) k noConstraint))) (remaining .count) page₀ next₀ i page next
+    Joining mostRule (λ k. ruleLine (asRule sheet network (getD (remaining .uppers) k noConstraint)))
+    (remaining .count) page₀ next₀ i page next
     × (i-end ≡ remaining .count)
 
 abbrev μ-loop : tie.MeasureT-loop
@@ -30,14 +31,8 @@ abbrev μ-loop : tie.MeasureT-loop
 few : (start : tie.Start Inv-loop μ-loop) → start .args .t5 .count ≤ L.rules
 few start = remaining-few (start .args .network) (start .pre .2) (start .pre .3)
 
-slice-aggregate-push-count : tie.Need-slice-aggregate-push-count Inv-loop μ-loop
-slice-aggregate-push-count c = search needs
-
 cast-push-count : tie.Need-cast-push-count Inv-loop μ-loop
 cast-push-count c = omega (arith, few (c .before .before .before .before))
-
-push-count-requires : tie.Need-push-count-requires Inv-loop μ-loop
-push-count-requires c κs = search needs
 
 loop-holds : tie.Need-loop-holds Inv-loop μ-loop
 loop-holds c = (join-none (omega arith), refl)
@@ -46,7 +41,8 @@ mul-push-rule : tie.Need-mul-push-rule Inv-loop μ-loop
 mul-push-rule c = omega (arith, few (c .before .before .before .before .before .before .before .before .before .before))
 
 element-copy-out-push-rule : tie.Need-element-copy-out-push-rule Inv-loop μ-loop
-element-copy-out-push-rule c = omega (arith, few (c .before .before .before .before .before .before .before .before .before .before))
+element-copy-out-push-rule c =
+    omega (arith, few (c .before .before .before .before .before .before .before .before .before .before))
 
 push-rule-requires : tie.Need-push-rule-requires Inv-loop μ-loop
 push-rule-requires c κs =
@@ -54,24 +50,16 @@ push-rule-requires c κs =
     let start = in-loop .before .before .before .before .before .before .before .before in (
       start .pre .0,
       start .pre .1,
-      remaining-proper-at (start .args .network) (start .pre .2) (start .pre .3) (start .pre .0) (in-loop .loop .i) (omega arith),
+      remaining-proper-at (start .args .network) (start .pre .2) (start .pre .3) (start .pre .0) (in-loop .loop .i)
+          (omega arith),
       omega (arith, few start),
     )
-
-add-i : tie.Need-add-i Inv-loop μ-loop
-add-i c = search needs
-
-loop-less : tie.Need-loop-less Inv-loop μ-loop
-loop-less c = search needs
 
 loop-again : tie.Need-loop-again Inv-loop μ-loop
 loop-again c =
     let written = c .before .before in
     let loop = written .before .before .before .before .loop in
     (join-next (loop .inv .0) (omega arith) (written .push-rule .ensures) (omega arith), loop .inv .1)
-
-same-length : tie.Need-same-length Inv-loop μ-loop
-same-length c = search needs
 
 returns : tie.Need-returns Inv-loop μ-loop
 returns c =
@@ -89,18 +77,6 @@ returns c =
 pub push-rules-spec : {M : Type 1} → statement M
 push-rules-spec =
     tie.close
-    (tie.spec
-    Inv-loop
-    μ-loop
-    slice-aggregate-push-count
-    cast-push-count
-    push-count-requires
-    loop-holds
-    mul-push-rule
-    element-copy-out-push-rule
-    push-rule-requires
-    add-i
-    loop-less
-    loop-again
-    same-length
-    returns)
+    (tie.spec Inv-loop μ-loop (λ c. search needs) cast-push-count (λ c κs. search needs) loop-holds
+    mul-push-rule element-copy-out-push-rule push-rule-requires (λ c. search needs) (λ c. search needs)
+    loop-again (λ c. search needs) returns)

@@ -20,52 +20,20 @@ use Rattle.canonical.proofs.push_signals.Tie as tie
 
 abbrev Inv-loop : tie.InvT-loop
 Inv-loop page₀ at sheet network next₀ p₀ p-end page next p =
-    Joining 11 (λ i. signalLine (signalAt sheet network i)) (network .signals) page₀ next₀ p page next × (p-end ≡ network .signals)
+    Joining 11 (λ i. signalLine (signalAt sheet network i)) (network .signals) page₀ next₀ p page next
+    × (p-end ≡ network .signals)
 
 abbrev μ-loop : tie.MeasureT-loop
 μ-loop page₀ at sheet network next₀ p₀ p-end page next p = network .signals - p
 
-slice-aggregate-push-count : tie.Need-slice-aggregate-push-count Inv-loop μ-loop
-slice-aggregate-push-count c = search needs
-
-cast-push-count : tie.Need-cast-push-count Inv-loop μ-loop
-cast-push-count c = search needs
-
-push-count-requires : tie.Need-push-count-requires Inv-loop μ-loop
-push-count-requires c κs = search needs
-
 loop-holds : tie.Need-loop-holds Inv-loop μ-loop
 loop-holds c = (join-none (omega arith), refl)
-
-element-copy-out-push : tie.Need-element-copy-out-push Inv-loop μ-loop
-element-copy-out-push c = search needs
-
-push-requires : tie.Need-push-requires Inv-loop μ-loop
-push-requires c κs = search needs
-
-mul-name-of : tie.Need-mul-name-of Inv-loop μ-loop
-mul-name-of c = search needs
-
-element-copy-out-name-of : tie.Need-element-copy-out-name-of Inv-loop μ-loop
-element-copy-out-name-of c = search needs
 
 name-of-requires : tie.Need-name-of-requires Inv-loop μ-loop
 name-of-requires c κs =
     let in-loop = c .before .before .before .before .before .before .before .before in
     let start = in-loop .before .before .before .before .before .before .before .before in
     (start .pre .0, start .pre .1, start .pre .0 .observed (in-loop .loop .p) (omega arith))
-
-push-field-requires : tie.Need-push-field-requires Inv-loop μ-loop
-push-field-requires c κs = omega arith
-
-push-requires-2 : tie.Need-push-requires-2 Inv-loop μ-loop
-push-requires-2 c κs = omega arith
-
-add-p : tie.Need-add-p Inv-loop μ-loop
-add-p c = search needs
-
-loop-less : tie.Need-loop-less Inv-loop μ-loop
-loop-less c = search needs
 
 loop-again : tie.Need-loop-again Inv-loop μ-loop
 loop-again c =
@@ -85,9 +53,6 @@ loop-again c =
       loop .inv .1,
     )
 
-same-length : tie.Need-same-length Inv-loop μ-loop
-same-length c = search needs
-
 returns : tie.Need-returns Inv-loop μ-loop
 returns c =
     let loop = c .before .loop in
@@ -102,22 +67,7 @@ returns c =
 pub push-signals-spec : {M : Type 1} → statement M
 push-signals-spec =
     tie.close
-    (tie.spec
-    Inv-loop
-    μ-loop
-    slice-aggregate-push-count
-    cast-push-count
-    push-count-requires
-    loop-holds
-    element-copy-out-push
-    push-requires
-    mul-name-of
-    element-copy-out-name-of
-    name-of-requires
-    push-field-requires
-    push-requires-2
-    add-p
-    loop-less
-    loop-again
-    same-length
-    returns)
+    (tie.spec Inv-loop μ-loop (λ c. search needs) (λ c. search needs) (λ c κs. search needs) loop-holds
+    (λ c. search needs) (λ c κs. search needs) (λ c. search needs) (λ c. search needs) name-of-requires
+    (λ c κs. omega arith) (λ c κs. omega arith) (λ c. search needs) (λ c. search needs) loop-again
+    (λ c. search needs) returns)

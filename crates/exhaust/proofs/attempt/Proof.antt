@@ -6,12 +6,6 @@ use lib.Seq.{length-take-le}
 use mathlib.Core.Path.{sym, _∙_}
 use native.Mathlib.Omega.{arith}
 
-fill-requires : tie.Need-fill-requires
-fill-requires c κs = search needs
-
-array-share-prefix-table : tie.Need-array-share-prefix-table
-array-share-prefix-table c = search needs
-
 slice-aggregate-passes : tie.Need-slice-aggregate-passes
 slice-aggregate-passes c = sym (length-take-le _ _ (omega (arith, c .before .fill .ensures)))
 
@@ -20,23 +14,8 @@ passes-requires c κs =
     let start = c .before .before .before in
     (start .pre .0, length-take-le _ _ (omega (arith, c .before .fill .ensures)) ∙ start .pre .4)
 
-returns : tie.Need-returns
-returns c = search needs
-
-lower-requires : tie.Need-lower-requires
-lower-requires c κs = search needs
-
-returns-2 : tie.Need-returns-2
-returns-2 c = search needs
-
 pub attempt-spec : {M : Type 1} → statement M
 attempt-spec =
     tie.close
-    (tie.spec
-    fill-requires
-    array-share-prefix-table
-    slice-aggregate-passes
-    passes-requires
-    returns
-    lower-requires
-    returns-2)
+    (tie.spec (λ c κs. search needs) (λ c. search needs) slice-aggregate-passes passes-requires
+    (λ c. search needs) (λ c κs. search needs) (λ c. search needs))

@@ -10,25 +10,8 @@ Inv-loop times cells count₀ i₀ count i = count ≤ 1120000
 abbrev μ-loop : tie.MeasureT-loop
 μ-loop times cells count₀ i₀ count i = cells - i
 
-loop-holds : tie.Need-loop-holds Inv-loop μ-loop
-loop-holds c = search needs
-
-with-cell-requires : tie.Need-with-cell-requires Inv-loop μ-loop
-with-cell-requires c κs = search needs
-
-add-i : tie.Need-add-i Inv-loop μ-loop
-add-i c = search needs
-
-loop-less : tie.Need-loop-less Inv-loop μ-loop
-loop-less c = search needs
-
-loop-again : tie.Need-loop-again Inv-loop μ-loop
-loop-again c = search needs
-
-returns : tie.Need-returns Inv-loop μ-loop
-returns c = search needs
-
 pub table-count-spec : {M : Type 1} → statement M
 table-count-spec =
     tie.close
-    (tie.spec Inv-loop μ-loop loop-holds with-cell-requires add-i loop-less loop-again returns)
+    (tie.spec Inv-loop μ-loop (λ c. search needs) (λ c κs. search needs) (λ c. search needs) (λ c. search needs)
+    (λ c. search needs) (λ c. search needs))

@@ -6,17 +6,10 @@ use borrow.Author.Needs.{needs}
 use native.Mathlib.Nat.{mod-lt}
 use native.Mathlib.Omega.{arith}
 
-returns : tie.Need-returns
-returns c = search needs
-
-rem-result : tie.Need-rem-result
-rem-result c = search needs
-
 cast-result : tie.Need-cast-result
 cast-result c = omega (arith, mod-lt (c .before .args .rest) {m = c .before .args .times} (omega arith))
 
-returns-2 : tie.Need-returns-2
-returns-2 c = search needs
-
 pub time-of-spec : {M : Type 1} → statement M
-time-of-spec = tie.close (tie.spec returns rem-result cast-result returns-2)
+time-of-spec =
+    tie.close
+    (tie.spec (λ c. search needs) (λ c. search needs) cast-result (λ c. search needs))

@@ -11,25 +11,8 @@ Inv-loop t cells r₀ i₀ r i = (i ≤ cells) × (r < 256)
 abbrev μ-loop : tie.MeasureT-loop
 μ-loop t cells r₀ i₀ r i = cells - i
 
-loop-holds : tie.Need-loop-holds Inv-loop μ-loop
-loop-holds c = search needs
-
-later-of-requires : tie.Need-later-of-requires Inv-loop μ-loop
-later-of-requires c κs = search needs
-
-add-i : tie.Need-add-i Inv-loop μ-loop
-add-i c = search needs
-
-loop-less : tie.Need-loop-less Inv-loop μ-loop
-loop-less c = search needs
-
-loop-again : tie.Need-loop-again Inv-loop μ-loop
-loop-again c = search needs
-
-returns : tie.Need-returns Inv-loop μ-loop
-returns c = search needs
-
 pub latest-spec : {M : Type 1} → statement M
 latest-spec =
     tie.close
-    (tie.spec Inv-loop μ-loop loop-holds later-of-requires add-i loop-less loop-again returns)
+    (tie.spec Inv-loop μ-loop (λ c. search needs) (λ c κs. search needs) (λ c. search needs) (λ c. search needs)
+    (λ c. search needs) (λ c. search needs))

@@ -5,15 +5,6 @@ use borrow.Author.Needs.{needs}
 use Rattle.listing.proofs.push_line.Statement.{statement}
 use Rattle.listing.proofs.push_line.Tie as tie
 
-push-truths-requires : tie.Need-push-truths-requires
-push-truths-requires c κs = search needs
-
-push-times-requires : tie.Need-push-times-requires
-push-times-requires c κs = search needs
-
-same-length : tie.Need-same-length
-same-length c = search needs
-
 returns : tie.Need-returns
 returns c =
     let second = c .before .before in
@@ -21,4 +12,6 @@ returns c =
     append-then (first .push-truths .ensures) (second .push-times .ensures) (omega arith)
 
 pub push-line-spec : {M : Type 1} → statement M
-push-line-spec = tie.close (tie.spec push-truths-requires push-times-requires same-length returns)
+push-line-spec =
+    tie.close
+    (tie.spec (λ c κs. search needs) (λ c κs. search needs) (λ c. search needs) returns)

@@ -21,9 +21,6 @@ Inv-loop page₀ at table signals events count next₀ s₀ page next s =
 abbrev μ-loop : tie.MeasureT-loop
 μ-loop page₀ at table signals events count next₀ s₀ page next s = 2 ^ signals - s
 
-scenario-count-requires : tie.Need-scenario-count-requires Inv-loop μ-loop
-scenario-count-requires c κs = search needs
-
 loop-holds : tie.Need-loop-holds Inv-loop μ-loop
 loop-holds c = join-none (omega arith)
 
@@ -37,20 +34,11 @@ push-line-requires c κs =
       omega (arith, mul-le-mul-right (args .events) before),
     )
 
-add-s : tie.Need-add-s Inv-loop μ-loop
-add-s c = omega arith
-
-loop-less : tie.Need-loop-less Inv-loop μ-loop
-loop-less c = omega arith
-
 loop-again : tie.Need-loop-again Inv-loop μ-loop
 loop-again c =
     let line = c .before .before in
     let loop = line .before .before .before .loop in
     join-next (loop .inv) (omega arith) (line .push-line .ensures) (omega arith)
-
-same-length : tie.Need-same-length Inv-loop μ-loop
-same-length c = omega arith
 
 returns : tie.Need-returns Inv-loop μ-loop
 returns c =
@@ -60,14 +48,5 @@ returns c =
 pub push-lines-spec : {M : Type 1} → statement M
 push-lines-spec =
     tie.close
-    (tie.spec
-    Inv-loop
-    μ-loop
-    scenario-count-requires
-    loop-holds
-    push-line-requires
-    add-s
-    loop-less
-    loop-again
-    same-length
-    returns)
+    (tie.spec Inv-loop μ-loop (λ c κs. search needs) loop-holds push-line-requires (λ c. omega arith)
+    (λ c. omega arith) loop-again (λ c. omega arith) returns)

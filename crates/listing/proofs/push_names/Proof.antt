@@ -25,28 +25,10 @@ abbrev μ-loop : tie.MeasureT-loop
 loop-holds : tie.Need-loop-holds Inv-loop μ-loop
 loop-holds c = (join-none (omega arith), refl)
 
-mul-start : tie.Need-mul-start Inv-loop μ-loop
-mul-start c = omega arith
-
-element-copy-out-start : tie.Need-element-copy-out-start Inv-loop μ-loop
-element-copy-out-start c = omega arith
-
-mul-end : tie.Need-mul-end Inv-loop μ-loop
-mul-end c = omega arith
-
-element-copy-out-end : tie.Need-element-copy-out-end Inv-loop μ-loop
-element-copy-out-end c = omega arith
-
 add-end : tie.Need-add-end Inv-loop μ-loop
 add-end c =
     let in-loop = c .before .before .before in
     omega (arith, in-loop .before .before .before .pre .1 .inside (in-loop .loop .u) (omega arith))
-
-sub-push-field : tie.Need-sub-push-field Inv-loop μ-loop
-sub-push-field c = omega arith
-
-part-push-field-start : tie.Need-part-push-field-start Inv-loop μ-loop
-part-push-field-start c = omega arith
 
 part-push-field-end : tie.Need-part-push-field-end Inv-loop μ-loop
 part-push-field-end c =
@@ -61,12 +43,6 @@ push-field-requires c κs =
     name-short (start .args .t4) (now (start .args .sheet)) (in-loop .loop .u) (start .pre .1) (omega arith) in
     rw part-from (omega arith)
 
-add-u : tie.Need-add-u Inv-loop μ-loop
-add-u c = search needs
-
-loop-less : tie.Need-loop-less Inv-loop μ-loop
-loop-less c = search needs
-
 loop-again : tie.Need-loop-again Inv-loop μ-loop
 loop-again c =
     let field = c .before .before in
@@ -77,12 +53,6 @@ loop-again c =
     name-short (start .args .t4) (now (start .args .sheet)) (in-loop .loop .u) (start .pre .1) (omega arith) in
     (join-next (inv .0) (omega arith) (rw part-from at (field .push-field .ensures)) (omega arith), inv .1)
 
-push-requires : tie.Need-push-requires Inv-loop μ-loop
-push-requires c κs = search needs
-
-same-length : tie.Need-same-length Inv-loop μ-loop
-same-length c = search needs
-
 returns : tie.Need-returns Inv-loop μ-loop
 returns c =
     let last = c .before .before in
@@ -92,22 +62,6 @@ returns c =
 pub push-names-spec : {M : Type 1} → statement M
 push-names-spec =
     tie.close
-    (tie.spec
-    Inv-loop
-    μ-loop
-    loop-holds
-    mul-start
-    element-copy-out-start
-    mul-end
-    element-copy-out-end
-    add-end
-    sub-push-field
-    part-push-field-start
-    part-push-field-end
-    push-field-requires
-    add-u
-    loop-less
-    loop-again
-    push-requires
-    same-length
-    returns)
+    (tie.spec Inv-loop μ-loop loop-holds (λ c. omega arith) (λ c. omega arith) (λ c. omega arith)
+    (λ c. omega arith) add-end (λ c. omega arith) (λ c. omega arith) part-push-field-end push-field-requires
+    (λ c. search needs) (λ c. search needs) loop-again (λ c κs. search needs) (λ c. search needs) returns)

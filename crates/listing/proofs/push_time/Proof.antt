@@ -5,15 +5,6 @@ use borrow.Author.Needs.{needs}
 use Rattle.listing.proofs.push_time.Statement.{statement}
 use Rattle.listing.proofs.push_time.Tie as tie
 
-push-requires : tie.Need-push-requires
-push-requires c κs = search needs
-
-push-number-requires : tie.Need-push-number-requires
-push-number-requires c κs = search needs
-
-same-length : tie.Need-same-length
-same-length c = search needs
-
 returns : tie.Need-returns
 returns c =
     let push = c .before .before .before .before .before .before .push in
@@ -21,4 +12,6 @@ returns c =
     append-then (push .ensures) (push-number .ensures) (omega arith)
 
 pub push-time-spec : {M : Type 1} → statement M
-push-time-spec = tie.close (tie.spec push-requires push-number-requires same-length returns)
+push-time-spec =
+    tie.close
+    (tie.spec (λ c κs. search needs) (λ c κs. search needs) (λ c. search needs) returns)

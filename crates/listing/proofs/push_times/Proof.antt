@@ -19,41 +19,14 @@ Inv-loop page₀ at table s events first next₀ u₀ page next u =
 abbrev μ-loop : tie.MeasureT-loop
 μ-loop page₀ at table s events first next₀ u₀ page next u = events - u
 
-mul-first : tie.Need-mul-first Inv-loop μ-loop
-mul-first c = omega arith
-
 loop-holds : tie.Need-loop-holds Inv-loop μ-loop
 loop-holds c = join-none (omega arith)
-
-add-push-time : tie.Need-add-push-time Inv-loop μ-loop
-add-push-time c = omega arith
-
-mul-push-time : tie.Need-mul-push-time Inv-loop μ-loop
-mul-push-time c = omega arith
-
-shared-slice-read-push-time : tie.Need-shared-slice-read-push-time Inv-loop μ-loop
-shared-slice-read-push-time c = omega arith
-
-push-time-requires : tie.Need-push-time-requires Inv-loop μ-loop
-push-time-requires c κs = search needs
-
-add-u : tie.Need-add-u Inv-loop μ-loop
-add-u c = search needs
-
-loop-less : tie.Need-loop-less Inv-loop μ-loop
-loop-less c = search needs
 
 loop-again : tie.Need-loop-again Inv-loop μ-loop
 loop-again c =
     let time = c .before .before in
     let loop = time .before .before .before .before .loop in
     join-next (loop .inv) (omega arith) (time .push-time .ensures) (omega arith)
-
-push-requires : tie.Need-push-requires Inv-loop μ-loop
-push-requires c κs = search needs
-
-same-length : tie.Need-same-length Inv-loop μ-loop
-same-length c = search needs
 
 returns : tie.Need-returns Inv-loop μ-loop
 returns c =
@@ -64,18 +37,6 @@ returns c =
 pub push-times-spec : {M : Type 1} → statement M
 push-times-spec =
     tie.close
-    (tie.spec
-    Inv-loop
-    μ-loop
-    mul-first
-    loop-holds
-    add-push-time
-    mul-push-time
-    shared-slice-read-push-time
-    push-time-requires
-    add-u
-    loop-less
-    loop-again
-    push-requires
-    same-length
-    returns)
+    (tie.spec Inv-loop μ-loop (λ c. omega arith) loop-holds (λ c. omega arith) (λ c. omega arith)
+    (λ c. omega arith) (λ c κs. search needs) (λ c. search needs) (λ c. search needs) loop-again
+    (λ c κs. search needs) (λ c. search needs) returns)

@@ -20,12 +20,6 @@ Inv-loop page₀ at s signals next₀ rest₀ p₀ page next rest p =
 abbrev μ-loop : tie.MeasureT-loop
 μ-loop page₀ at s signals next₀ rest₀ p₀ page next rest p = signals - p
 
-push-requires : tie.Need-push-requires Inv-loop μ-loop
-push-requires c κs = search needs
-
-same-length : tie.Need-same-length Inv-loop μ-loop
-same-length c = search needs
-
 returns : tie.Need-returns Inv-loop μ-loop
 returns c =
     let dash = c .before .before in
@@ -35,18 +29,6 @@ returns c =
 
 loop-holds : tie.Need-loop-holds Inv-loop μ-loop
 loop-holds c = (join-none (omega arith), halved-none (c .before .before .args .s))
-
-mark-of-requires : tie.Need-mark-of-requires Inv-loop μ-loop
-mark-of-requires c κs = search needs
-
-push-requires-2 : tie.Need-push-requires-2 Inv-loop μ-loop
-push-requires-2 c κs = search needs
-
-add-p : tie.Need-add-p Inv-loop μ-loop
-add-p c = search needs
-
-loop-less : tie.Need-loop-less Inv-loop μ-loop
-loop-less c = search needs
 
 loop-again : tie.Need-loop-again Inv-loop μ-loop
 loop-again c =
@@ -60,9 +42,6 @@ loop-again c =
       rw (loop .inv .1) (halved-more s (loop .p)),
     )
 
-same-length-2 : tie.Need-same-length-2 Inv-loop μ-loop
-same-length-2 c = search needs
-
 returns-2 : tie.Need-returns-2 Inv-loop μ-loop
 returns-2 c =
     let loop = c .before .loop in
@@ -74,17 +53,6 @@ returns-2 c =
 pub push-truths-spec : {M : Type 1} → statement M
 push-truths-spec =
     tie.close
-    (tie.spec
-    Inv-loop
-    μ-loop
-    push-requires
-    same-length
-    returns
-    loop-holds
-    mark-of-requires
-    push-requires-2
-    add-p
-    loop-less
-    loop-again
-    same-length-2
-    returns-2)
+    (tie.spec Inv-loop μ-loop (λ c κs. search needs) (λ c. search needs) returns loop-holds
+    (λ c κs. search needs) (λ c κs. search needs) (λ c. search needs) (λ c. search needs) loop-again
+    (λ c. search needs) returns-2)

@@ -21,35 +21,8 @@ abbrev μ-loop : tie.MeasureT-loop
 loop-holds : tie.Need-loop-holds Inv-loop μ-loop
 loop-holds c = (omega arith, between-none _ _ _ _ _ _)
 
-mul-is-between : tie.Need-mul-is-between Inv-loop μ-loop
-mul-is-between c = search needs
-
-element-copy-out-is-between : tie.Need-element-copy-out-is-between Inv-loop μ-loop
-element-copy-out-is-between c = search needs
-
-mul-is-between-2 : tie.Need-mul-is-between-2 Inv-loop μ-loop
-mul-is-between-2 c = search needs
-
-element-copy-out-is-between-2 : tie.Need-element-copy-out-is-between-2 Inv-loop μ-loop
-element-copy-out-is-between-2 c = search needs
-
-mul-is-between-3 : tie.Need-mul-is-between-3 Inv-loop μ-loop
-mul-is-between-3 c = search needs
-
-element-copy-out-is-between-3 : tie.Need-element-copy-out-is-between-3 Inv-loop μ-loop
-element-copy-out-is-between-3 c = search needs
-
-is-between-requires : tie.Need-is-between-requires Inv-loop μ-loop
-is-between-requires c κs = search needs
-
 returns : tie.Need-returns Inv-loop μ-loop
 returns c = λ e. clash false e refl
-
-add-i : tie.Need-add-i Inv-loop μ-loop
-add-i c = search needs
-
-loop-less : tie.Need-loop-less Inv-loop μ-loop
-loop-less c = search needs
 
 loop-again : tie.Need-loop-again Inv-loop μ-loop
 loop-again c =
@@ -65,19 +38,6 @@ returns-2 c =
 pub between-spec : {M : Type 1} → statement M
 between-spec =
     tie.close
-    (tie.spec
-    Inv-loop
-    μ-loop
-    loop-holds
-    mul-is-between
-    element-copy-out-is-between
-    mul-is-between-2
-    element-copy-out-is-between-2
-    mul-is-between-3
-    element-copy-out-is-between-3
-    is-between-requires
-    returns
-    add-i
-    loop-less
-    loop-again
-    returns-2)
+    (tie.spec Inv-loop μ-loop loop-holds (λ c. search needs) (λ c. search needs) (λ c. search needs)
+    (λ c. search needs) (λ c. search needs) (λ c. search needs) (λ c κs. search needs) returns
+    (λ c. search needs) (λ c. search needs) loop-again returns-2)

@@ -18,28 +18,10 @@ abbrev μ-loop : tie.MeasureT-loop
 loop-holds : tie.Need-loop-holds Inv-loop μ-loop
 loop-holds c = (omega arith, clipped-none _ (c .pre .1))
 
-mul-clip-one : tie.Need-mul-clip-one Inv-loop μ-loop
-mul-clip-one c = search needs
-
-element-copy-out-clip-one : tie.Need-element-copy-out-clip-one Inv-loop μ-loop
-element-copy-out-clip-one c = search needs
-
-clip-one-requires : tie.Need-clip-one-requires Inv-loop μ-loop
-clip-one-requires c κs = search needs
-
-mul-o : tie.Need-mul-o Inv-loop μ-loop
-mul-o c = search needs
-
 element-write-o : tie.Need-element-write-o Inv-loop μ-loop
 element-write-o c =
     let loop = c .before .before .before .loop in
     omega (arith, loop .inv .1 .sized)
-
-add-i : tie.Need-add-i Inv-loop μ-loop
-add-i c = search needs
-
-loop-less : tie.Need-loop-less Inv-loop μ-loop
-loop-less c = search needs
 
 loop-again : tie.Need-loop-again Inv-loop μ-loop
 loop-again c =
@@ -56,16 +38,5 @@ returns c =
 pub clip-spec : {M : Type 1} → statement M
 clip-spec =
     tie.close
-    (tie.spec
-    Inv-loop
-    μ-loop
-    loop-holds
-    mul-clip-one
-    element-copy-out-clip-one
-    clip-one-requires
-    mul-o
-    element-write-o
-    add-i
-    loop-less
-    loop-again
-    returns)
+    (tie.spec Inv-loop μ-loop loop-holds (λ c. search needs) (λ c. search needs) (λ c κs. search needs)
+    (λ c. search needs) element-write-o (λ c. search needs) (λ c. search needs) loop-again returns)

@@ -14,8 +14,7 @@ returns c = λ e. clash false e refl
 returns-2 : tie.Need-returns-2
 returns-2 c = λ e. (omega arith, λ _. eqb-true _ _ e)
 
-returns-3 : tie.Need-returns-3
-returns-3 c = search needs
-
 pub fits-spec : {M : Type 1} → statement M
-fits-spec = tie.close (tie.spec returns returns-2 returns-3)
+fits-spec =
+    tie.close
+    (tie.spec returns returns-2 (λ c. search needs))

@@ -18,21 +18,6 @@ abbrev μ-loop : tie.MeasureT-loop
 loop-holds : tie.Need-loop-holds Inv-loop μ-loop
 loop-holds c = (omega arith, level-none _ _)
 
-mul-nearer : tie.Need-mul-nearer Inv-loop μ-loop
-mul-nearer c = search needs
-
-element-copy-out-nearer : tie.Need-element-copy-out-nearer Inv-loop μ-loop
-element-copy-out-nearer c = search needs
-
-nearer-requires : tie.Need-nearer-requires Inv-loop μ-loop
-nearer-requires c κs = search needs
-
-add-i : tie.Need-add-i Inv-loop μ-loop
-add-i c = search needs
-
-loop-less : tie.Need-loop-less Inv-loop μ-loop
-loop-less c = search needs
-
 loop-again : tie.Need-loop-again Inv-loop μ-loop
 loop-again c =
     let loop = c .before .before .before .loop in
@@ -48,14 +33,5 @@ returns c =
 pub next-level-spec : {M : Type 1} → statement M
 next-level-spec =
     tie.close
-    (tie.spec
-    Inv-loop
-    μ-loop
-    loop-holds
-    mul-nearer
-    element-copy-out-nearer
-    nearer-requires
-    add-i
-    loop-less
-    loop-again
-    returns)
+    (tie.spec Inv-loop μ-loop loop-holds (λ c. search needs) (λ c. search needs) (λ c κs. search needs)
+    (λ c. search needs) (λ c. search needs) loop-again returns)

@@ -22,28 +22,10 @@ abbrev μ-loop : tie.MeasureT-loop
 loop-holds : tie.Need-loop-holds Inv-loop μ-loop
 loop-holds c = (omega arith, c .pre .1, placed-none _ _ _ _ _ _ _)
 
-mul-part : tie.Need-mul-part Inv-loop μ-loop
-mul-part c = search needs
-
-element-copy-out-part : tie.Need-element-copy-out-part Inv-loop μ-loop
-element-copy-out-part c = search needs
-
-part-requires : tie.Need-part-requires Inv-loop μ-loop
-part-requires c κs = search needs
-
-mul-reached : tie.Need-mul-reached Inv-loop μ-loop
-mul-reached c = search needs
-
-element-copy-out-reached : tie.Need-element-copy-out-reached Inv-loop μ-loop
-element-copy-out-reached c = search needs
-
 reached-requires : tie.Need-reached-requires Inv-loop μ-loop
 reached-requires c κs =
     let pre = c .before .before .before .before .before .pre in
     (omega (arith, c .before .part .ensures, pre .3), pre .2)
-
-fits-requires : tie.Need-fits-requires Inv-loop μ-loop
-fits-requires c κs = search needs
 
 returns : tie.Need-returns Inv-loop μ-loop
 returns c =
@@ -52,18 +34,6 @@ returns c =
 
 cast-o : tie.Need-cast-o Inv-loop μ-loop
 cast-o c = omega (arith, c .before .fits2 .ensures (not-false _ (c .if1 .left)) .0)
-
-mul-o : tie.Need-mul-o Inv-loop μ-loop
-mul-o c = search needs
-
-element-write-o : tie.Need-element-write-o Inv-loop μ-loop
-element-write-o c = search needs
-
-add-i : tie.Need-add-i Inv-loop μ-loop
-add-i c = search needs
-
-loop-less : tie.Need-loop-less Inv-loop μ-loop
-loop-less c = search needs
 
 loop-again : tie.Need-loop-again Inv-loop μ-loop
 loop-again c =
@@ -83,22 +53,6 @@ returns-2 c =
 pub place-spec : {M : Type 1} → statement M
 place-spec =
     tie.close
-    (tie.spec
-    Inv-loop
-    μ-loop
-    loop-holds
-    mul-part
-    element-copy-out-part
-    part-requires
-    mul-reached
-    element-copy-out-reached
-    reached-requires
-    fits-requires
-    returns
-    cast-o
-    mul-o
-    element-write-o
-    add-i
-    loop-less
-    loop-again
-    returns-2)
+    (tie.spec Inv-loop μ-loop loop-holds (λ c. search needs) (λ c. search needs) (λ c κs. search needs)
+    (λ c. search needs) (λ c. search needs) reached-requires (λ c κs. search needs) returns cast-o
+    (λ c. search needs) (λ c. search needs) (λ c. search needs) (λ c. search needs) loop-again returns-2)

@@ -15,8 +15,7 @@ add-result : tie.Need-add-result
 add-result c =
     let h : c .args .j * c .args .e ≤ 10080 * 10080 = mul-le-mul (c .pre .1) (c .pre .0) in omega arith
 
-returns : tie.Need-returns
-returns c = search needs
-
 pub reached-spec : {M : Type 1} → statement M
-reached-spec = tie.close (tie.spec mul-result add-result returns)
+reached-spec =
+    tie.close
+    (tie.spec mul-result add-result (λ c. search needs))

@@ -19,33 +19,6 @@ abbrev μ-loop : tie.MeasureT-loop
 loop-holds : tie.Need-loop-holds Inv-loop μ-loop
 loop-holds c = (omega arith, wrote-none _ _ _)
 
-mul-above : tie.Need-mul-above Inv-loop μ-loop
-mul-above c = search needs
-
-element-copy-out-above : tie.Need-element-copy-out-above Inv-loop μ-loop
-element-copy-out-above c = search needs
-
-mul-above-2 : tie.Need-mul-above-2 Inv-loop μ-loop
-mul-above-2 c = search needs
-
-element-copy-out-above-2 : tie.Need-element-copy-out-above-2 Inv-loop μ-loop
-element-copy-out-above-2 c = search needs
-
-above-requires : tie.Need-above-requires Inv-loop μ-loop
-above-requires c κs = search needs
-
-mul-d : tie.Need-mul-d Inv-loop μ-loop
-mul-d c = search needs
-
-element-write-d : tie.Need-element-write-d Inv-loop μ-loop
-element-write-d c = search needs
-
-add-i : tie.Need-add-i Inv-loop μ-loop
-add-i c = search needs
-
-loop-less : tie.Need-loop-less Inv-loop μ-loop
-loop-less c = search needs
-
 loop-again : tie.Need-loop-again Inv-loop μ-loop
 loop-again c =
     let loop = c .before .before .before .before .loop in
@@ -60,18 +33,6 @@ returns c =
 pub rise-spec : {M : Type 1} → statement M
 rise-spec =
     tie.close
-    (tie.spec
-    Inv-loop
-    μ-loop
-    loop-holds
-    mul-above
-    element-copy-out-above
-    mul-above-2
-    element-copy-out-above-2
-    above-requires
-    mul-d
-    element-write-d
-    add-i
-    loop-less
-    loop-again
-    returns)
+    (tie.spec Inv-loop μ-loop loop-holds (λ c. search needs) (λ c. search needs) (λ c. search needs)
+    (λ c. search needs) (λ c κs. search needs) (λ c. search needs) (λ c. search needs) (λ c. search needs)
+    (λ c. search needs) loop-again returns)

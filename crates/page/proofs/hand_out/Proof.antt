@@ -11,14 +11,10 @@ returns c =
     let args = c .before .before .before .args in
     written-nothing (now (args .text)) (now (args .out)) (omega arith)
 
-push-all-requires : tie.Need-push-all-requires
-push-all-requires c κs = search needs
-
-same-length : tie.Need-same-length
-same-length c = search needs
-
 returns-2 : tie.Need-returns-2
 returns-2 c = written-all _ _ (c .before .before .push-all .ensures)
 
 pub hand-out-spec : {M : Type 1} → statement M
-hand-out-spec = tie.close (tie.spec returns push-all-requires same-length returns-2)
+hand-out-spec =
+    tie.close
+    (tie.spec returns (λ c κs. search needs) (λ c. search needs) returns-2)

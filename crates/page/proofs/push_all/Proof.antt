@@ -22,21 +22,6 @@ abbrev μ-loop : tie.MeasureT-loop
 loop-holds : tie.Need-loop-holds Inv-loop μ-loop
 loop-holds c = (paste-zero (now (c .args .page)) (c .args .at) (now (c .args .s)), refl, omega arith, refl)
 
-shared-slice-read-page : tie.Need-shared-slice-read-page Inv-loop μ-loop
-shared-slice-read-page c = omega arith
-
-add-page : tie.Need-add-page Inv-loop μ-loop
-add-page c = omega arith
-
-slice-write-page : tie.Need-slice-write-page Inv-loop μ-loop
-slice-write-page c = omega arith
-
-add-i : tie.Need-add-i Inv-loop μ-loop
-add-i c = search needs
-
-loop-less : tie.Need-loop-less Inv-loop μ-loop
-loop-less c = search needs
-
 loop-again : tie.Need-loop-again Inv-loop μ-loop
 loop-again c =
     let args = c .before .before .before .args in
@@ -49,12 +34,6 @@ loop-again c =
       inv .3,
     )
 
-add-result : tie.Need-add-result Inv-loop μ-loop
-add-result c = search needs
-
-same-length : tie.Need-same-length Inv-loop μ-loop
-same-length c = search needs
-
 returns : tie.Need-returns Inv-loop μ-loop
 returns c =
     let start = c .before .before in
@@ -65,16 +44,5 @@ returns c =
 pub push-all-spec : {M : Type 1} → statement M
 push-all-spec =
     tie.close
-    (tie.spec
-    Inv-loop
-    μ-loop
-    loop-holds
-    shared-slice-read-page
-    add-page
-    slice-write-page
-    add-i
-    loop-less
-    loop-again
-    add-result
-    same-length
-    returns)
+    (tie.spec Inv-loop μ-loop loop-holds (λ c. omega arith) (λ c. omega arith) (λ c. omega arith)
+    (λ c. search needs) (λ c. search needs) loop-again (λ c. search needs) (λ c. search needs) returns)

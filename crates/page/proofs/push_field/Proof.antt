@@ -5,15 +5,6 @@ use Rattle.page.proofs.Append.{append-then}
 use Rattle.page.proofs.push_field.Statement.{statement}
 use Rattle.page.proofs.push_field.Tie as tie
 
-push-requires : tie.Need-push-requires
-push-requires c κs = search needs
-
-push-all-requires : tie.Need-push-all-requires
-push-all-requires c κs = search needs
-
-same-length : tie.Need-same-length
-same-length c = search needs
-
 returns : tie.Need-returns
 returns c =
     let second = c .before .before in
@@ -21,4 +12,6 @@ returns c =
     append-then (first .push .ensures) (second .push-all .ensures) (omega arith)
 
 pub push-field-spec : {M : Type 1} → statement M
-push-field-spec = tie.close (tie.spec push-requires push-all-requires same-length returns)
+push-field-spec =
+    tie.close
+    (tie.spec (λ c κs. search needs) (λ c κs. search needs) (λ c. search needs) returns)

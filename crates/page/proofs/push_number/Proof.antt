@@ -8,12 +8,6 @@ use Rattle.page.proofs.Append.{append-as}
 use Rattle.page.proofs.push_number.Statement.{statement}
 use Rattle.page.proofs.push_number.Tie as tie
 
-spell-requires : tie.Need-spell-requires
-spell-requires c κs = search needs
-
-array-share-prefix-bytes : tie.Need-array-share-prefix-bytes
-array-share-prefix-bytes c = search needs
-
 slice-aggregate-push-all : tie.Need-slice-aggregate-push-all
 slice-aggregate-push-all c =
     let digits = c .before .before .before .spell in
@@ -28,9 +22,6 @@ push-all-requires c κs =
       length-take-le (digits .result .count) (digits .result .bytes) (omega arith),
     )
 
-same-length : tie.Need-same-length
-same-length c = search needs
-
 returns : tie.Need-returns
 returns c =
     let pushed = c .before .before in
@@ -41,10 +32,5 @@ returns c =
 pub push-number-spec : {M : Type 1} → statement M
 push-number-spec =
     tie.close
-    (tie.spec
-    spell-requires
-    array-share-prefix-bytes
-    slice-aggregate-push-all
-    push-all-requires
-    same-length
-    returns)
+    (tie.spec (λ c κs. search needs) (λ c. search needs) slice-aggregate-push-all push-all-requires
+    (λ c. search needs) returns)

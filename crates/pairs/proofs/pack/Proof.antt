@@ -13,7 +13,8 @@ use Rattle.pairs.proofs.pack.Statement.{statement}
 use Rattle.pairs.proofs.pack.Tie as tie
 
 abbrev Inv-loop : tie.InvT-loop
-Inv-loop table bytes₀ i₀ bytes i = (i ≤ length table) × (length bytes ≡ length bytes₀) × (bytes ≡ bytesOf (take i table) ++ drop (2 * i) bytes₀)
+Inv-loop table bytes₀ i₀ bytes i =
+    (i ≤ length table) × (length bytes ≡ length bytes₀) × (bytes ≡ bytesOf (take i table) ++ drop (2 * i) bytes₀)
 
 abbrev μ-loop : tie.MeasureT-loop
 μ-loop table bytes₀ i₀ bytes i = length table - i
@@ -21,46 +22,18 @@ abbrev μ-loop : tie.MeasureT-loop
 loop-holds : tie.Need-loop-holds Inv-loop μ-loop
 loop-holds c = (search needs, refl, refl)
 
-mul-m : tie.Need-mul-m Inv-loop μ-loop
-mul-m c = search needs
-
-shared-slice-read-m : tie.Need-shared-slice-read-m Inv-loop μ-loop
-shared-slice-read-m c = search needs
-
-cast-bytes : tie.Need-cast-bytes Inv-loop μ-loop
-cast-bytes c = search needs
-
-mul-bytes : tie.Need-mul-bytes Inv-loop μ-loop
-mul-bytes c = omega arith
-
-slice-write-bytes : tie.Need-slice-write-bytes Inv-loop μ-loop
-slice-write-bytes c = omega arith
-
 cast-bytes-2 : tie.Need-cast-bytes-2 Inv-loop μ-loop
 cast-bytes-2 c = omega (arith, c .shared-slice-known .given (c .before .before .loop .i))
-
-mul-bytes-2 : tie.Need-mul-bytes-2 Inv-loop μ-loop
-mul-bytes-2 c = omega arith
-
-add-bytes : tie.Need-add-bytes Inv-loop μ-loop
-add-bytes c = omega arith
 
 slice-write-bytes-2 : tie.Need-slice-write-bytes-2 Inv-loop μ-loop
 slice-write-bytes-2 c = simp length-set (omega arith)
 
-add-i : tie.Need-add-i Inv-loop μ-loop
-add-i c = omega arith
-
-loop-less : tie.Need-loop-less Inv-loop μ-loop
-loop-less c = omega arith
-
 loop-again : tie.Need-loop-again Inv-loop μ-loop
 loop-again c =
     let l = c .before .before in
-    (omega arith, simp length-set (l .loop .inv .1), pack-step _ _ _ _ _ (l .loop .inv .2) (c .before .loop-test .taken) (l .before .pre) refl)
-
-same-length : tie.Need-same-length Inv-loop μ-loop
-same-length c = omega arith
+    let in-table = c .before .loop-test .taken in
+    let step = pack-step _ _ _ _ _ (l .loop .inv .2) in-table (l .before .pre) refl in
+    (omega arith, simp length-set (l .loop .inv .1), step)
 
 returns : tie.Need-returns Inv-loop μ-loop
 returns c =
@@ -70,21 +43,6 @@ returns c =
 pub pack-spec : {M : Type 1} → statement M
 pack-spec =
     tie.close
-    (tie.spec
-    Inv-loop
-    μ-loop
-    loop-holds
-    mul-m
-    shared-slice-read-m
-    cast-bytes
-    mul-bytes
-    slice-write-bytes
-    cast-bytes-2
-    mul-bytes-2
-    add-bytes
-    slice-write-bytes-2
-    add-i
-    loop-less
-    loop-again
-    same-length
-    returns)
+    (tie.spec Inv-loop μ-loop loop-holds (λ c. search needs) (λ c. search needs) (λ c. search needs)
+    (λ c. omega arith) (λ c. omega arith) cast-bytes-2 (λ c. omega arith) (λ c. omega arith) slice-write-bytes-2
+    (λ c. omega arith) (λ c. omega arith) loop-again (λ c. omega arith) returns)

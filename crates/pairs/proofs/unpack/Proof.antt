@@ -24,50 +24,18 @@ abbrev μ-loop : tie.MeasureT-loop
 loop-holds : tie.Need-loop-holds Inv-loop μ-loop
 loop-holds c = (search needs, refl, refl, short-none)
 
-mul-minute : tie.Need-mul-minute Inv-loop μ-loop
-mul-minute c = omega arith
-
-shared-slice-read-minute : tie.Need-shared-slice-read-minute Inv-loop μ-loop
-shared-slice-read-minute c = omega arith
-
-mul-minute-2 : tie.Need-mul-minute-2 Inv-loop μ-loop
-mul-minute-2 c = omega arith
-
-add-minute : tie.Need-add-minute Inv-loop μ-loop
-add-minute c = omega arith
-
-shared-slice-read-minute-2 : tie.Need-shared-slice-read-minute-2 Inv-loop μ-loop
-shared-slice-read-minute-2 c = omega arith
-
-minute-requires : tie.Need-minute-requires Inv-loop μ-loop
-minute-requires c κs = search needs
-
-mul-table : tie.Need-mul-table Inv-loop μ-loop
-mul-table c = omega arith
-
-slice-write-table : tie.Need-slice-write-table Inv-loop μ-loop
-slice-write-table c = omega arith
-
-add-i : tie.Need-add-i Inv-loop μ-loop
-add-i c = omega arith
-
-loop-less : tie.Need-loop-less Inv-loop μ-loop
-loop-less c = omega arith
-
 loop-again : tie.Need-loop-again Inv-loop μ-loop
 loop-again c =
     let l = c .before .before .before .before in
     let args = l .before .before .before .args in (
       omega arith,
       simp length-set (l .loop .inv .1),
-      unpack-step (now (args .bytes)) (now (args .table)) (l .loop .table) (l .loop .i) (c .minute .result) (l .loop .inv .2)
+      unpack-step (now (args .bytes)) (now (args .table)) (l .loop .table) (l .loop .i) (c .minute .result)
+          (l .loop .inv .2)
           (omega arith) (c .minute .ensures),
       short-more (now (args .bytes)) (l .loop .i) (c .minute .result) (l .loop .inv .3) (c .minute .ensures)
           (omega arith),
     )
-
-same-length : tie.Need-same-length Inv-loop μ-loop
-same-length c = omega arith
 
 returns : tie.Need-returns Inv-loop μ-loop
 returns c =
@@ -77,20 +45,6 @@ returns c =
 pub unpack-spec : {M : Type 1} → statement M
 unpack-spec =
     tie.close
-    (tie.spec
-    Inv-loop
-    μ-loop
-    loop-holds
-    mul-minute
-    shared-slice-read-minute
-    mul-minute-2
-    add-minute
-    shared-slice-read-minute-2
-    minute-requires
-    mul-table
-    slice-write-table
-    add-i
-    loop-less
-    loop-again
-    same-length
-    returns)
+    (tie.spec Inv-loop μ-loop loop-holds (λ c. omega arith) (λ c. omega arith) (λ c. omega arith)
+    (λ c. omega arith) (λ c. omega arith) (λ c κs. search needs) (λ c. omega arith) (λ c. omega arith)
+    (λ c. omega arith) (λ c. omega arith) loop-again (λ c. omega arith) returns)

@@ -26,41 +26,17 @@ mul-cells c = omega (arith, scenarios-in (c .before .pre))
 loop-holds : tie.Need-loop-holds Inv-loop μ-loop
 loop-holds c = (omega arith, refl, zero-times _ _)
 
-add-rounds : tie.Need-add-rounds Inv-loop μ-loop
-add-rounds c = search needs
-
 round-requires : tie.Need-round-requires Inv-loop μ-loop
 round-requires c κs =
     let loop = c .before .before .before .loop in
     let pre = c .before .before .before .before .before .pre in
     (pre, loop .inv .2, loop .inv .1)
 
-enum-told : tie.Need-enum-told Inv-loop μ-loop
-enum-told c = search needs
-
-returns : tie.Need-returns Inv-loop μ-loop
-returns c = search needs
-
-enum-told-2 : tie.Need-enum-told-2 Inv-loop μ-loop
-enum-told-2 c = search needs
-
-sum-of-requires : tie.Need-sum-of-requires Inv-loop μ-loop
-sum-of-requires c κs = search needs
-
-returns-2 : tie.Need-returns-2 Inv-loop μ-loop
-returns-2 c = search needs
-
-enum-told-3 : tie.Need-enum-told-3 Inv-loop μ-loop
-enum-told-3 c = search needs
-
 copy-requires : tie.Need-copy-requires Inv-loop μ-loop
 copy-requires c κs =
     let loop = c .before .before .before .before .before .before .before .before .loop in
     let pre = c .before .before .before .before .before .before .before .before .before .before .pre in
     (omega (arith, scenarios-in pre), loop .inv .2 .sized)
-
-loop-less : tie.Need-loop-less Inv-loop μ-loop
-loop-less c = search needs
 
 loop-again : tie.Need-loop-again Inv-loop μ-loop
 loop-again c =
@@ -77,26 +53,9 @@ loop-again c =
       wrote-times _ times (loop .inv .2 .sized) (c .copy .ensures) (λ i. omega arith),
     )
 
-returns-3 : tie.Need-returns-3 Inv-loop μ-loop
-returns-3 c = search needs
-
 pub by-rounds-spec : {M : Type 1} → statement M
 by-rounds-spec =
     tie.close
-    (tie.spec
-    Inv-loop
-    μ-loop
-    mul-cells
-    loop-holds
-    add-rounds
-    round-requires
-    enum-told
-    returns
-    enum-told-2
-    sum-of-requires
-    returns-2
-    enum-told-3
-    copy-requires
-    loop-less
-    loop-again
-    returns-3)
+    (tie.spec Inv-loop μ-loop mul-cells loop-holds (λ c. search needs) round-requires (λ c. search needs)
+    (λ c. search needs) (λ c. search needs) (λ c κs. search needs) (λ c. search needs) (λ c. search needs)
+    copy-requires (λ c. search needs) loop-again (λ c. search needs))

@@ -17,15 +17,6 @@ use Rattle.tally.proofs.tally.Tie as tie
 formed : (sheet : List ℕ) (g : Reading) → g ≡ read sheet → g .outcome ≡ Accepted → WellFormed (g .network)
 formed sheet g e a = rw e (accepted-well-formed sheet (sym (ap (λ (x : Reading). x .outcome) e) ∙ a) .0)
 
-read-requires : tie.Need-read-requires
-read-requires c κs = search needs
-
-enum-told : tie.Need-enum-told
-enum-told c = search needs
-
-enum-told-2 : tie.Need-enum-told-2
-enum-told-2 c = search needs
-
 frame-of-requires : tie.Need-frame-of-requires
 frame-of-requires c κs =
     let read = c .before .before .before .read in
@@ -44,31 +35,14 @@ by-rounds-requires c κs =
     let list-constraints = c .before .before .before .list-constraints in
     record { network = _; compiled = list-constraints .ensures }
 
-returns : tie.Need-returns
-returns c = search needs
-
 by-leaps-requires : tie.Need-by-leaps-requires
 by-leaps-requires c κs =
     let list-constraints = c .before .before .before .list-constraints in
     record { network = _; compiled = list-constraints .ensures }
 
-returns-2 : tie.Need-returns-2
-returns-2 c = search needs
-
-returns-3 : tie.Need-returns-3
-returns-3 c = search needs
-
 pub tally-spec : {M : Type 1} → statement M
 tally-spec =
     tie.close
-    (tie.spec
-    read-requires
-    enum-told
-    enum-told-2
-    frame-of-requires
-    list-constraints-requires
-    by-rounds-requires
-    returns
-    by-leaps-requires
-    returns-2
-    returns-3)
+    (tie.spec (λ c κs. search needs) (λ c. search needs) (λ c. search needs) frame-of-requires
+    list-constraints-requires by-rounds-requires (λ c. search needs) by-leaps-requires (λ c. search needs)
+    (λ c. search needs))

@@ -19,20 +19,8 @@ abbrev μ-loop : tie.MeasureT-loop
 loop-holds : tie.Need-loop-holds Inv-loop μ-loop
 loop-holds c = cutting-start _ _ refl
 
-shared-slice-read-if1 : tie.Need-shared-slice-read-if1 Inv-loop μ-loop
-shared-slice-read-if1 c = search needs
-
 put-end-requires : tie.Need-put-end-requires Inv-loop μ-loop
 put-end-requires c κs = c .before .before .before .before .loop .inv .sized
-
-add-count : tie.Need-add-count Inv-loop μ-loop
-add-count c = search needs
-
-add-i : tie.Need-add-i Inv-loop μ-loop
-add-i c = search needs
-
-loop-less : tie.Need-loop-less Inv-loop μ-loop
-loop-less c = search needs
 
 loop-again : tie.Need-loop-again Inv-loop μ-loop
 loop-again c =
@@ -46,9 +34,6 @@ loop-again c =
 put-end-requires-2 : tie.Need-put-end-requires-2 Inv-loop μ-loop
 put-end-requires-2 c κs = c .before .before .loop .inv .sized
 
-add-t13 : tie.Need-add-t13 Inv-loop μ-loop
-add-t13 c = search needs
-
 returns : tie.Need-returns Inv-loop μ-loop
 returns c =
     let after-loop = c .before .before in
@@ -57,16 +42,5 @@ returns c =
 pub cut-spec : {M : Type 1} → statement M
 cut-spec =
     tie.close
-    (tie.spec
-    Inv-loop
-    μ-loop
-    loop-holds
-    shared-slice-read-if1
-    put-end-requires
-    add-count
-    add-i
-    loop-less
-    loop-again
-    put-end-requires-2
-    add-t13
-    returns)
+    (tie.spec Inv-loop μ-loop loop-holds (λ c. search needs) put-end-requires (λ c. search needs)
+    (λ c. search needs) (λ c. search needs) loop-again put-end-requires-2 (λ c. search needs) returns)

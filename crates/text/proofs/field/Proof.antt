@@ -11,12 +11,6 @@ use Rattle.text.proofs.Cutting.{end-le, start-le, start-is, field-is}
 use Rattle.text.proofs.field.Statement.{statement}
 use Rattle.text.proofs.field.Tie as tie
 
-mul-end : tie.Need-mul-end
-mul-end c = search needs
-
-array-read-end : tie.Need-array-read-end
-array-read-end c = search needs
-
 slice-aggregate-result : tie.Need-slice-aggregate-result
 slice-aggregate-result c = sym (length-take-le _ _ (end-le (c .before .before .before .pre)))
 
@@ -27,15 +21,6 @@ returns c =
     field-is (start .pre) 0
     (sym (ap (λ (k : ℕ). startOf k (fields (start .args .line .now))) (c .before .if1 .taken))) in
     rw sub-zero at whole
-
-sub-start : tie.Need-sub-start
-sub-start c = search needs
-
-mul-start : tie.Need-mul-start
-mul-start c = search needs
-
-array-read-start : tie.Need-array-read-start
-array-read-start c = search needs
 
 add-start : tie.Need-add-start
 add-start c =
@@ -57,16 +42,5 @@ returns-2 c = let pre = c .before .before .before .pre in field-is pre _ (start-
 pub field-spec : {M : Type 1} → statement M
 field-spec =
     tie.close
-    (tie.spec
-    mul-end
-    array-read-end
-    slice-aggregate-result
-    returns
-    sub-start
-    mul-start
-    array-read-start
-    add-start
-    sub-result
-    part-result-start
-    part-result-end
-    returns-2)
+    (tie.spec (λ c. search needs) (λ c. search needs) slice-aggregate-result returns (λ c. search needs)
+    (λ c. search needs) (λ c. search needs) add-start sub-result part-result-start part-result-end returns-2)

@@ -6,17 +6,10 @@ use lib.Seq.{set-out}
 use Rattle.text.proofs.put_end.Statement.{statement}
 use Rattle.text.proofs.put_end.Tie as tie
 
-mul-ends : tie.Need-mul-ends
-mul-ends c = search needs
-
-element-write-ends : tie.Need-element-write-ends
-element-write-ends c = search needs
-
-returns : tie.Need-returns
-returns c = search needs
-
 returns-2 : tie.Need-returns-2
 returns-2 c = sym (set-out _ _ _ (omega arith))
 
 pub put-end-spec : {M : Type 1} → statement M
-put-end-spec = tie.close (tie.spec mul-ends element-write-ends returns returns-2)
+put-end-spec =
+    tie.close
+    (tie.spec (λ c. search needs) (λ c. search needs) (λ c. search needs) returns-2)

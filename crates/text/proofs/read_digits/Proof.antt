@@ -20,9 +20,6 @@ abbrev μ-loop : tie.MeasureT-loop
 loop-holds : tie.Need-loop-holds Inv-loop μ-loop
 loop-holds c = (search needs, search needs, refl)
 
-shared-slice-read-b : tie.Need-shared-slice-read-b Inv-loop μ-loop
-shared-slice-read-b c = search needs
-
 returns : tie.Need-returns Inv-loop μ-loop
 returns c =
     let here = c .before .before .before .loop in
@@ -32,15 +29,6 @@ returns-2 : tie.Need-returns-2 Inv-loop μ-loop
 returns-2 c =
     let here = c .before .before .before .before .loop in
     sym (here .inv .2 ∙ digits-miss _ (here .v) _ (here .i) (search needs) (isDigit-high _ (c .if2 .taken)))
-
-next-size-requires : tie.Need-next-size-requires Inv-loop μ-loop
-next-size-requires c κs = search needs
-
-add-i : tie.Need-add-i Inv-loop μ-loop
-add-i c = search needs
-
-loop-less : tie.Need-loop-less Inv-loop μ-loop
-loop-less c = search needs
 
 loop-again : tie.Need-loop-again Inv-loop μ-loop
 loop-again c =
@@ -59,15 +47,5 @@ returns-3 c =
 pub read-digits-spec : {M : Type 1} → statement M
 read-digits-spec =
     tie.close
-    (tie.spec
-    Inv-loop
-    μ-loop
-    loop-holds
-    shared-slice-read-b
-    returns
-    returns-2
-    next-size-requires
-    add-i
-    loop-less
-    loop-again
-    returns-3)
+    (tie.spec Inv-loop μ-loop loop-holds (λ c. search needs) returns returns-2 (λ c κs. search needs)
+    (λ c. search needs) (λ c. search needs) loop-again returns-3)

@@ -10,24 +10,15 @@ use Rattle.text.proofs.read_natural.Tie as tie
 returns : tie.Need-returns
 returns c = sym (natural-empty _ (c .before .before .args .f .now) (c .if1 .taken))
 
-read-digits-requires : tie.Need-read-digits-requires
-read-digits-requires c κs = search needs
-
 returns-2 : tie.Need-returns-2
 returns-2 c =
     let start = c .before .before .before .before in
     c .read-digits .ensures ∙ sym (natural-one _ (start .args .f .now) (c .before .if2 .taken))
 
-shared-slice-read-if3 : tie.Need-shared-slice-read-if3
-shared-slice-read-if3 c = search needs
-
 returns-3 : tie.Need-returns-3
 returns-3 c =
     let start = c .before .before .before .before .before in
     sym (natural-zero _ (start .args .f .now) (c .before .before .if2 .left) (c .if3 .taken))
-
-read-digits-requires-2 : tie.Need-read-digits-requires-2
-read-digits-requires-2 c κs = search needs
 
 returns-4 : tie.Need-returns-4
 returns-4 c =
@@ -37,11 +28,5 @@ returns-4 c =
 pub read-natural-spec : {M : Type 1} → statement M
 read-natural-spec =
     tie.close
-    (tie.spec
-    returns
-    read-digits-requires
-    returns-2
-    shared-slice-read-if3
-    returns-3
-    read-digits-requires-2
+    (tie.spec returns (λ c κs. search needs) returns-2 (λ c. search needs) returns-3 (λ c κs. search needs)
     returns-4)

@@ -14,18 +14,6 @@ use Rattle.text.proofs.read_number.Tie as tie
 returns : tie.Need-returns
 returns c = sym (number-empty _ _ (c .if1 .taken))
 
-shared-slice-read-if2 : tie.Need-shared-slice-read-if2
-shared-slice-read-if2 c = search needs
-
-read-natural-requires : tie.Need-read-natural-requires
-read-natural-requires c κs = search needs
-
-enum-told : tie.Need-enum-told
-enum-told c = search needs
-
-enum-known-n : tie.Need-enum-known-n
-enum-known-n c = search needs
-
 returns-2 : tie.Need-returns-2
 returns-2 c =
     let read = c .before .before in
@@ -37,24 +25,6 @@ returns-3 c =
     let read = c .before .before .before in
     let natural = sym (read .read-natural .ensures) ∙ c .before .n .given .1 in
     sym (number-plus _ _ (read .before .if2 .taken) ∙ ap plus natural)
-
-sub-read-natural : tie.Need-sub-read-natural
-sub-read-natural c = search needs
-
-part-read-natural-start : tie.Need-part-read-natural-start
-part-read-natural-start c = search needs
-
-part-read-natural-end : tie.Need-part-read-natural-end
-part-read-natural-end c = search needs
-
-read-natural-requires-2 : tie.Need-read-natural-requires-2
-read-natural-requires-2 c κs = search needs
-
-enum-told-2 : tie.Need-enum-told-2
-enum-told-2 c = search needs
-
-enum-known-n-2 : tie.Need-enum-known-n-2
-enum-known-n-2 c = search needs
 
 shared-slice-read-if3 : tie.Need-shared-slice-read-if3
 shared-slice-read-if3 c =
@@ -90,21 +60,6 @@ returns-6 c =
 pub read-number-spec : {M : Type 1} → statement M
 read-number-spec =
     tie.close
-    (tie.spec
-    returns
-    shared-slice-read-if2
-    read-natural-requires
-    enum-told
-    enum-known-n
-    returns-2
-    returns-3
-    sub-read-natural
-    part-read-natural-start
-    part-read-natural-end
-    read-natural-requires-2
-    enum-told-2
-    enum-known-n-2
-    shared-slice-read-if3
-    returns-4
-    returns-5
-    returns-6)
+    (tie.spec returns (λ c. search needs) (λ c κs. search needs) (λ c. search needs) (λ c. search needs)
+    returns-2 returns-3 (λ c. search needs) (λ c. search needs) (λ c. search needs) (λ c κs. search needs)
+    (λ c. search needs) (λ c. search needs) shared-slice-read-if3 returns-4 returns-5 returns-6)

@@ -16,24 +16,12 @@ Inv-loop s d i₀ i = (i ≤ length s) × (length (upTo d s) ≡ i + length (upT
 abbrev μ-loop : tie.MeasureT-loop
 μ-loop s d i₀ i = length s - i
 
-loop-holds : tie.Need-loop-holds Inv-loop μ-loop
-loop-holds c = omega arith
-
-shared-slice-read-if1 : tie.Need-shared-slice-read-if1 Inv-loop μ-loop
-shared-slice-read-if1 c = search needs
-
 returns : tie.Need-returns Inv-loop μ-loop
 returns c =
     let in-loop = c .before .before in
     let here = in-loop .before in
     let args = here .before .args in
     omega (arith, upTo-hit (args .d) (args .s .now) (here .loop .i) (in-loop .loop-test .taken) (c .if1 .taken))
-
-add-i : tie.Need-add-i Inv-loop μ-loop
-add-i c = search needs
-
-loop-less : tie.Need-loop-less Inv-loop μ-loop
-loop-less c = search needs
 
 loop-again : tie.Need-loop-again Inv-loop μ-loop
 loop-again c =
@@ -50,13 +38,5 @@ returns-2 c =
 pub until-spec : {M : Type 1} → statement M
 until-spec =
     tie.close
-    (tie.spec
-    Inv-loop
-    μ-loop
-    loop-holds
-    shared-slice-read-if1
-    returns
-    add-i
-    loop-less
-    loop-again
-    returns-2)
+    (tie.spec Inv-loop μ-loop (λ c. omega arith) (λ c. search needs) returns (λ c. search needs)
+    (λ c. search needs) loop-again returns-2)

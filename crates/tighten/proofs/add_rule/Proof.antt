@@ -7,9 +7,6 @@ use borrow.Author.Needs.{needs}
 use Rattle.tighten.proofs.add_rule.Statement.{statement}
 use Rattle.tighten.proofs.add_rule.Tie as tie
 
-encode-requires : tie.Need-encode-requires
-encode-requires c κs = search needs
-
 sub-encode : tie.Need-sub-encode
 sub-encode c =
     let args = c .before .before .before .before .before .args in
@@ -21,24 +18,6 @@ encode-requires-2 c κs =
     let args = c .before .before .before .before .before .args in
     let pre = c .before .before .before .before .before .pre in
     swapped (args .rule) (pre .2)
-
-enum-told : tie.Need-enum-told
-enum-told c = search needs
-
-add-requires : tie.Need-add-requires
-add-requires c κs = search needs
-
-enum-told-2 : tie.Need-enum-told-2
-enum-told-2 c = search needs
-
-add-requires-2 : tie.Need-add-requires-2
-add-requires-2 c κs = search needs
-
-enum-told-3 : tie.Need-enum-told-3
-enum-told-3 c = search needs
-
-add-requires-3 : tie.Need-add-requires-3
-add-requires-3 c κs = search needs
 
 add-requires-4 : tie.Need-add-requires-4
 add-requires-4 c κs =
@@ -81,17 +60,6 @@ returns-3 c =
 pub add-rule-spec : {M : Type 1} → statement M
 add-rule-spec =
     tie.close
-    (tie.spec
-    encode-requires
-    sub-encode
-    encode-requires-2
-    enum-told
-    add-requires
-    enum-told-2
-    add-requires-2
-    enum-told-3
-    add-requires-3
-    add-requires-4
-    returns
-    returns-2
-    returns-3)
+    (tie.spec (λ c κs. search needs) sub-encode encode-requires-2 (λ c. search needs) (λ c κs. search needs)
+    (λ c. search needs) (λ c κs. search needs) (λ c. search needs) (λ c κs. search needs) add-requires-4 returns
+    returns-2 returns-3)

@@ -11,24 +11,6 @@ use Rattle.tighten.specs.Encoding.{perKey}
 use Rattle.tighten.proofs.decode.Statement.{statement}
 use Rattle.tighten.proofs.decode.Tie as tie
 
-cast-t4 : tie.Need-cast-t4
-cast-t4 c = search needs
-
-cast-t7 : tie.Need-cast-t7
-cast-t7 c = search needs
-
-cast-unbiased : tie.Need-cast-unbiased
-cast-unbiased c = search needs
-
-unbiased-requires : tie.Need-unbiased-requires
-unbiased-requires c κs = search needs
-
-cast-t13 : tie.Need-cast-t13
-cast-t13 c = search needs
-
-cast-t16 : tie.Need-cast-t16
-cast-t16 c = search needs
-
 returns : tie.Need-returns
 returns c =
     let e : toZ w32 (ofZ w32 (c .unbiased .result)) ≡ c .unbiased .result = search needs in
@@ -38,4 +20,6 @@ returns c =
 
 pub decode-spec : {M : Type 1} → statement M
 decode-spec =
-    tie.close (tie.spec cast-t4 cast-t7 cast-unbiased unbiased-requires cast-t13 cast-t16 returns)
+    tie.close
+    (tie.spec (λ c. search needs) (λ c. search needs) (λ c. search needs) (λ c κs. search needs)
+    (λ c. search needs) (λ c. search needs) returns)

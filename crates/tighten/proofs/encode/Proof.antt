@@ -11,48 +11,6 @@ use Rattle.tighten.specs.Encoding.{perKey}
 use Rattle.tighten.proofs.encode.Statement.{statement}
 use Rattle.tighten.proofs.encode.Tie as tie
 
-cast-ends : tie.Need-cast-ends
-cast-ends c = search needs
-
-mul-ends : tie.Need-mul-ends
-mul-ends c = search needs
-
-cast-ends-2 : tie.Need-cast-ends-2
-cast-ends-2 c = search needs
-
-add-ends : tie.Need-add-ends
-add-ends c = search needs
-
-mul-key : tie.Need-mul-key
-mul-key c = search needs
-
-cast-key : tie.Need-cast-key
-cast-key c = search needs
-
-add-key : tie.Need-add-key
-add-key c = search needs
-
-mul-key-2 : tie.Need-mul-key-2
-mul-key-2 c = search needs
-
-cast-key-2 : tie.Need-cast-key-2
-cast-key-2 c = search needs
-
-add-key-2 : tie.Need-add-key-2
-add-key-2 c = search needs
-
-mul-result : tie.Need-mul-result
-mul-result c = search needs
-
-biased-requires : tie.Need-biased-requires
-biased-requires c κs = search needs
-
-cast-result : tie.Need-cast-result
-cast-result c = search needs
-
-add-result : tie.Need-add-result
-add-result c = search needs
-
 returns : tie.Need-returns
 returns c =
     let z = c .before .before .before in
@@ -62,19 +20,7 @@ returns c =
 pub encode-spec : {M : Type 1} → statement M
 encode-spec =
     tie.close
-    (tie.spec
-    cast-ends
-    mul-ends
-    cast-ends-2
-    add-ends
-    mul-key
-    cast-key
-    add-key
-    mul-key-2
-    cast-key-2
-    add-key-2
-    mul-result
-    biased-requires
-    cast-result
-    add-result
+    (tie.spec (λ c. search needs) (λ c. search needs) (λ c. search needs) (λ c. search needs)
+    (λ c. search needs) (λ c. search needs) (λ c. search needs) (λ c. search needs) (λ c. search needs)
+    (λ c. search needs) (λ c. search needs) (λ c κs. search needs) (λ c. search needs) (λ c. search needs)
     returns)

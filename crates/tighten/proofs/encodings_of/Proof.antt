@@ -18,12 +18,6 @@ abbrev μ-loop : tie.MeasureT-loop
 loop-holds : tie.Need-loop-holds Inv-loop μ-loop
 loop-holds c = listed-none _ _ refl
 
-mul-add-rule : tie.Need-mul-add-rule Inv-loop μ-loop
-mul-add-rule c = search needs
-
-element-copy-out-add-rule : tie.Need-element-copy-out-add-rule Inv-loop μ-loop
-element-copy-out-add-rule c = search needs
-
 add-rule-requires : tie.Need-add-rule-requires Inv-loop μ-loop
 add-rule-requires c κs =
     let loop = c .before .before .before .loop in
@@ -34,12 +28,6 @@ add-rule-requires c κs =
       omega (arith, z .pre .rules, test .taken),
       proper-encodable (z .args .t1) (z .pre) _ (z .pre .proper (loop .c) (test .taken)),
     )
-
-add-c : tie.Need-add-c Inv-loop μ-loop
-add-c c = search needs
-
-loop-less : tie.Need-loop-less Inv-loop μ-loop
-loop-less c = search needs
 
 loop-again : tie.Need-loop-again Inv-loop μ-loop
 loop-again c =
@@ -54,14 +42,5 @@ returns c = encodings-are (c .before .before .args .t1) _ (c .before .loop .inv)
 pub encodings-of-spec : {M : Type 1} → statement M
 encodings-of-spec =
     tie.close
-    (tie.spec
-    Inv-loop
-    μ-loop
-    loop-holds
-    mul-add-rule
-    element-copy-out-add-rule
-    add-rule-requires
-    add-c
-    loop-less
-    loop-again
-    returns)
+    (tie.spec Inv-loop μ-loop loop-holds (λ c. search needs) (λ c. search needs) add-rule-requires
+    (λ c. search needs) (λ c. search needs) loop-again returns)

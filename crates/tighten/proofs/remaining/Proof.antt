@@ -25,9 +25,6 @@ Inv-loop encodings list uppers₀ count₀ floor₀ uppers count floor =
 abbrev μ-loop : tie.MeasureT-loop
 μ-loop encodings list uppers₀ count₀ floor₀ uppers count floor = L.rules - count
 
-encodings-of-requires : tie.Need-encodings-of-requires Inv-loop μ-loop
-encodings-of-requires c κs = search needs
-
 loop-holds : tie.Need-loop-holds Inv-loop μ-loop
 loop-holds c = (omega arith, λ xs h a. found-nothing xs _ (c .before .before .before .pre .arrays .constraints))
 
@@ -52,18 +49,6 @@ returns-2 c =
     let are = c .before .before .before .before .before .before .before .encodings-of .ensures in
     found-many _ h are (loop .inv .1 _ h are) (least .result) (least .ensures) (c .before .if1 .left) (c .if2 .taken)
 
-decode-requires : tie.Need-decode-requires Inv-loop μ-loop
-decode-requires c κs = search needs
-
-mul-uppers : tie.Need-mul-uppers Inv-loop μ-loop
-mul-uppers c = search needs
-
-array-set-from-uppers : tie.Need-array-set-from-uppers Inv-loop μ-loop
-array-set-from-uppers c = search needs
-
-add-count : tie.Need-add-count Inv-loop μ-loop
-add-count c = search needs
-
 behind-requires : tie.Need-behind-requires Inv-loop μ-loop
 behind-requires c κs =
     let z = c .before .before .before .before .before .before .before .before .before in
@@ -72,9 +57,6 @@ behind-requires c κs =
     let h = uppers-regular (z .args .network) (z .pre) in
     let are = c .before .before .before .before .before .before .before .before .encodings-of .ensures in
     found-lt _ h are (loop .inv .1 _ h are) (least .result) (least .ensures) (c .before .before .if1 .left)
-
-loop-less : tie.Need-loop-less Inv-loop μ-loop
-loop-less c = search needs
 
 loop-again : tie.Need-loop-again Inv-loop μ-loop
 loop-again c =
@@ -91,18 +73,6 @@ loop-again c =
 pub remaining-spec : {M : Type 1} → statement M
 remaining-spec =
     tie.close
-    (tie.spec
-    Inv-loop
-    μ-loop
-    encodings-of-requires
-    loop-holds
-    least-from-requires
-    returns
-    returns-2
-    decode-requires
-    mul-uppers
-    array-set-from-uppers
-    add-count
-    behind-requires
-    loop-less
-    loop-again)
+    (tie.spec Inv-loop μ-loop (λ c κs. search needs) loop-holds least-from-requires returns returns-2
+    (λ c κs. search needs) (λ c. search needs) (λ c. search needs) (λ c. search needs) behind-requires
+    (λ c. search needs) loop-again)
