@@ -1,6 +1,6 @@
 -- `closing` meets its contract. The invariant: q rounds lead from each table at entry to where it is, so none of
 -- these passed a limit. The measure is what is left of `most`. Assumes nothing.
-use mathlib.Core.Path.{_≡_, refl}
+use mathlib.Core.Path.{_≡_, refl, _∙_}
 use Prim.Native.Nat.{_-_, _≤_}
 use native.Mathlib.Omega.{arith}
 use borrow.Author.Needs.{needs}
@@ -26,17 +26,11 @@ mul-cells c = omega (arith, scenarios-in (c .before .pre .0))
 loop-holds : tie.Need-loop-holds Inv-loop μ-loop
 loop-holds c = (omega arith, refl, advanced-none (c .before .pre .1), advanced-none (c .before .pre .2))
 
-add-q : tie.Need-add-q Inv-loop μ-loop
-add-q c = search needs
-
 round-requires : tie.Need-round-requires Inv-loop μ-loop
 round-requires c κs =
     let loop = c .before .before .before .loop in
     let pre = c .before .before .before .before .before .pre in
     (pre .0, loop .inv .2 .times, loop .inv .1)
-
-enum-told : tie.Need-enum-told Inv-loop μ-loop
-enum-told c = search needs
 
 returns : tie.Need-returns Inv-loop μ-loop
 returns c =
@@ -50,16 +44,10 @@ returns c =
       λ _. closing-of low high (λ Γ C. rounded-as (c .enum-told .given .1) (c .before .before .round .ensures Γ C)),
     )
 
-enum-told-2 : tie.Need-enum-told-2 Inv-loop μ-loop
-enum-told-2 c = search needs
-
 returns-2 : tie.Need-returns-2 Inv-loop μ-loop
 returns-2 c =
     let loop = c .before .before .before .before .before .before .loop in
     (omega arith, loop .inv .2 .times .sized, loop .inv .3 .times .sized, λ h. absurd (omega arith))
-
-enum-told-3 : tie.Need-enum-told-3 Inv-loop μ-loop
-enum-told-3 c = search needs
 
 copy-requires : tie.Need-copy-requires Inv-loop μ-loop
 copy-requires c κs =
@@ -76,38 +64,21 @@ round-requires-2 c κs =
     let U = pre .0 in
     (U, loop .inv .3 .times, round .ensures (U .network) (U .compiled) .sized)
 
-enum-told-4 : tie.Need-enum-told-4 Inv-loop μ-loop
-enum-told-4 c = search needs
-
 returns-3 : tie.Need-returns-3 Inv-loop μ-loop
 returns-3 c =
-    let back = c .before .before .before .before .before .before .before .before .before .before in
     let copy = c .before .before .before .before .before .copy in
-    let enum-told3 = c .before .before .before .before .before .before .before .before .enum-told3 in
-    let round = back .round in
+    let back = c .before .before .before .before .before .before .before .before .before .before in
     let loop = back .before .before .before .before .loop in
-    let pre = back .before .before .before .before .before .before .pre in
-    let one = advanced-round (pre .0) (λ Γ C. rounded-as (enum-told3 .given .1) (round .ensures Γ C)) in
-    let low = advanced-copied one (loop .inv .2 .times .sized) (copy .ensures) in
-    (omega arith, low .times .sized, loop .inv .3 .times .sized, λ h. absurd (omega arith))
-
-enum-told-5 : tie.Need-enum-told-5 Inv-loop μ-loop
-enum-told-5 c = search needs
+    let low = copy .ensures .sized ∙ loop .inv .2 .times .sized in
+    (omega arith, low, loop .inv .3 .times .sized, λ h. absurd (omega arith))
 
 returns-4 : tie.Need-returns-4 Inv-loop μ-loop
 returns-4 c =
-    let back = c .before .before .before .before .before .before .before .before .before .before in
     let copy = c .before .before .before .before .before .copy in
-    let enum-told3 = c .before .before .before .before .before .before .before .before .enum-told3 in
-    let round = back .round in
+    let back = c .before .before .before .before .before .before .before .before .before .before in
     let loop = back .before .before .before .before .loop in
-    let pre = back .before .before .before .before .before .before .pre in
-    let one = advanced-round (pre .0) (λ Γ C. rounded-as (enum-told3 .given .1) (round .ensures Γ C)) in
-    let low = advanced-copied one (loop .inv .2 .times .sized) (copy .ensures) in
-    (omega arith, low .times .sized, loop .inv .3 .times .sized, λ h. absurd (omega arith))
-
-enum-told-6 : tie.Need-enum-told-6 Inv-loop μ-loop
-enum-told-6 c = search needs
+    let low = copy .ensures .sized ∙ loop .inv .2 .times .sized in
+    (omega arith, low, loop .inv .3 .times .sized, λ h. absurd (omega arith))
 
 copy-requires-2 : tie.Need-copy-requires-2 Inv-loop μ-loop
 copy-requires-2 c κs =
@@ -115,9 +86,6 @@ copy-requires-2 c κs =
     let loop = back .before .before .before .before .before .before .loop in
     let pre = back .before .before .before .before .before .before .before .before .pre in
     (omega (arith, scenarios-in (pre .0)), loop .inv .3 .times .sized)
-
-loop-less : tie.Need-loop-less Inv-loop μ-loop
-loop-less c = search needs
 
 loop-again : tie.Need-loop-again Inv-loop μ-loop
 loop-again c =
@@ -139,31 +107,14 @@ loop-again c =
     )
 
 returns-5 : tie.Need-returns-5 Inv-loop μ-loop
-returns-5 c = (omega arith, c .before .loop .inv .2 .times .sized, c .before .loop .inv .3 .times .sized, λ h. absurd (omega arith))
+returns-5 c =
+    let loop = c .before .loop in
+    (omega arith, loop .inv .2 .times .sized, loop .inv .3 .times .sized, λ h. absurd (omega arith))
 
 pub closing-spec : {M : Type 1} → statement M
 closing-spec =
     tie.close
-    (tie.spec
-    Inv-loop
-    μ-loop
-    mul-cells
-    loop-holds
-    add-q
-    round-requires
-    enum-told
-    returns
-    enum-told-2
-    returns-2
-    enum-told-3
-    copy-requires
-    round-requires-2
-    enum-told-4
-    returns-3
-    enum-told-5
-    returns-4
-    enum-told-6
-    copy-requires-2
-    loop-less
-    loop-again
+    (tie.spec Inv-loop μ-loop mul-cells loop-holds (λ c. search needs) round-requires (λ c. search needs)
+    returns (λ c. search needs) returns-2 (λ c. search needs) copy-requires round-requires-2 (λ c. search needs)
+    returns-3 (λ c. search needs) returns-4 (λ c. search needs) copy-requires-2 (λ c. search needs) loop-again
     returns-5)

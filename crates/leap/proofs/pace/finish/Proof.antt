@@ -34,9 +34,6 @@ highest-below-requires-2 c κs =
     let pre = c .before .before .before .before .before .before .before .before .pre in
     omega (arith, scenarios-in (pre .0))
 
-margin-requires : tie.Need-margin-requires
-margin-requires c κs = search needs
-
 returns-3 : tie.Need-returns-3
 returns-3 c = (omega arith, λ h. absurd (omega arith))
 
@@ -81,24 +78,9 @@ passes-after-requires c κs =
       omega (arith, if2 .left),
     )
 
-returns-5 : tie.Need-returns-5
-returns-5 c = search needs
-
 pub finish-spec : {M : Type 1} → statement M
 finish-spec =
     tie.close
-    (tie.spec
-    returns
-    returns-2
-    mul-cells
-    rise-requires
-    highest-below-requires
-    highest-below-requires-2
-    margin-requires
-    returns-3
-    clip-requires
-    clip-requires-2
-    most-requires
-    returns-4
-    passes-after-requires
-    returns-5)
+    (tie.spec returns returns-2 mul-cells rise-requires highest-below-requires highest-below-requires-2
+    (λ c κs. search needs) returns-3 clip-requires clip-requires-2 most-requires returns-4 passes-after-requires
+    (λ c. search needs))

@@ -11,16 +11,12 @@ mul-result c =
     let h : c .args .j * c .args .p ≤ 10080 * 65535 = mul-le-mul (c .pre .0) (c .pre .1) in
     omega arith
 
-add-result : tie.Need-add-result
-add-result c = search needs
-
 add-result-2 : tie.Need-add-result-2
 add-result-2 c =
     let h : c .args .j * c .args .p ≤ 10080 * 65535 = mul-le-mul (c .pre .0) (c .pre .1) in
     omega arith
 
-returns : tie.Need-returns
-returns c = search needs
-
 pub total-spec : {M : Type 1} → statement M
-total-spec = tie.close (tie.spec mul-result add-result add-result-2 returns)
+total-spec =
+    tie.close
+    (tie.spec mul-result (λ c. search needs) add-result-2 (λ c. search needs))

@@ -11,9 +11,6 @@ use Rattle.leap.proofs.Hop.{advanced-hop}
 use Rattle.leap.proofs.pass.hop.Statement.{statement}
 use Rattle.leap.proofs.pass.hop.Tie as tie
 
-product-requires : tie.Need-product-requires
-product-requires c κs = search needs
-
 returns : tie.Need-returns
 returns c =
     let pre = c .before .before .pre in
@@ -107,16 +104,5 @@ returns-6 c =
 pub hop-spec : {M : Type 1} → statement M
 hop-spec =
     tie.close
-    (tie.spec
-    product-requires
-    returns
-    mul-place
-    place-requires
-    returns-2
-    advance-requires
-    returns-3
-    at-most-requires
-    returns-4
-    at-least-requires
-    returns-5
-    returns-6)
+    (tie.spec (λ c κs. search needs) returns mul-place place-requires returns-2 advance-requires returns-3
+    at-most-requires returns-4 at-least-requires returns-5 returns-6)

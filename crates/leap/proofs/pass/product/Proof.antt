@@ -11,8 +11,7 @@ mul-result c =
     let h : c .args .j * c .args .p ≤ 10080 * 65535 = mul-le-mul (c .pre .0) (c .pre .1) in
     omega arith
 
-returns : tie.Need-returns
-returns c = search needs
-
 pub product-spec : {M : Type 1} → statement M
-product-spec = tie.close (tie.spec mul-result returns)
+product-spec =
+    tie.close
+    (tie.spec mul-result (λ c. search needs))

@@ -33,36 +33,21 @@ round-requires c κs =
     let pre = c .before .before .before .before .before .pre in
     (pre .0, loop .inv .2 .times, loop .inv .1)
 
-enum-told : tie.Need-enum-told Inv-loop μ-loop
-enum-told c = search needs
-
 returns : tie.Need-returns Inv-loop μ-loop
 returns c =
     let loop = c .before .before .before .before .before .before .loop in
     (loop .inv .2 .times .sized, λ e. clash false e refl)
-
-enum-told-2 : tie.Need-enum-told-2 Inv-loop μ-loop
-enum-told-2 c = search needs
 
 returns-2 : tie.Need-returns-2 Inv-loop μ-loop
 returns-2 c =
     let loop = c .before .before .before .before .before .before .loop in
     (loop .inv .2 .times .sized, λ e. clash false e refl)
 
-enum-told-3 : tie.Need-enum-told-3 Inv-loop μ-loop
-enum-told-3 c = search needs
-
 copy-requires : tie.Need-copy-requires Inv-loop μ-loop
 copy-requires c κs =
     let loop = c .before .before .before .before .before .before .before .before .loop in
     let pre = c .before .before .before .before .before .before .before .before .before .before .pre in
     (omega (arith, scenarios-in (pre .0)), loop .inv .2 .times .sized)
-
-add-i : tie.Need-add-i Inv-loop μ-loop
-add-i c = search needs
-
-loop-less : tie.Need-loop-less Inv-loop μ-loop
-loop-less c = search needs
 
 loop-again : tie.Need-loop-again Inv-loop μ-loop
 loop-again c =
@@ -84,19 +69,6 @@ returns-3 c =
 pub advance-spec : {M : Type 1} → statement M
 advance-spec =
     tie.close
-    (tie.spec
-    Inv-loop
-    μ-loop
-    mul-cells
-    loop-holds
-    round-requires
-    enum-told
-    returns
-    enum-told-2
-    returns-2
-    enum-told-3
-    copy-requires
-    add-i
-    loop-less
-    loop-again
-    returns-3)
+    (tie.spec Inv-loop μ-loop mul-cells loop-holds round-requires (λ c. search needs) returns
+    (λ c. search needs) returns-2 (λ c. search needs) copy-requires (λ c. search needs) (λ c. search needs)
+    loop-again returns-3)

@@ -1,25 +1,22 @@
 -- `at_most` meets its contract. The invariant: every cell of a level below l is known not to be raised by faster
--- ones. The next level is higher, and none is above 10,080: what is left below that is the measure. Assumes nothing.
+-- ones (`Climbed`). The measure is what is left below 10,080. Assumes nothing.
 use mathlib.Core.Path.{refl}
 use mathlib.Core.Bool.{false}
-use Prim.Native.Nat.{_-_, _≤_}
+use Prim.Native.Nat.{_-_}
 use native.Mathlib.Omega.{arith}
 use borrow.Author.Needs.{needs}
 use borrow.Author.Tests.{not-false}
 use Rattle.prelude.proofs.Tests.{clash}
-use Rattle.network.specs.declared.Network.{Network}
-use Rattle.rounds.specs.Compiled.{Compiled}
 use Rattle.rounds.proofs.Usable.{scenarios-in}
 use Rattle.leap.specs.Levels.{Faster}
-use Rattle.leap.proofs.Strategies.{level-up}
-use Rattle.leap.proofs.Levels.{Lower, lower-start, lower-next}
-use Rattle.leap.proofs.Tested.{next-framed, at-most-of}
+use Rattle.leap.proofs.Climbed.{Climbed, climbed-start, climbed-less, climbed-next}
+use Rattle.leap.proofs.Tested.{at-most-of}
 use Rattle.leap.proofs.test.at_most.Statement.{statement}
 use Rattle.leap.proofs.test.at_most.Tie as tie
 
 abbrev Inv-loop : tie.InvT-loop
 Inv-loop t d x o j p frame counts lists cells l₀ l =
-    (l ≤ 10080) × ((Γ : Network) → Compiled Γ frame counts lists → Lower Γ d l (Faster Γ p j t d))
+    Climbed frame counts lists d (λ Γ. Faster Γ p j t d) l
 
 abbrev μ-loop : tie.MeasureT-loop
 μ-loop t d x o j p frame counts lists cells l₀ l = 10080 - l
@@ -28,67 +25,49 @@ mul-cells : tie.Need-mul-cells Inv-loop μ-loop
 mul-cells c = omega (arith, scenarios-in (c .before .pre .0))
 
 loop-holds : tie.Need-loop-holds Inv-loop μ-loop
-loop-holds c = (omega arith, λ Γ C. lower-start)
+loop-holds c = climbed-start
 
 next-level-requires : tie.Need-next-level-requires Inv-loop μ-loop
 next-level-requires c κs = omega (arith, scenarios-in (c .before .before .pre .0))
 
-cast-between : tie.Need-cast-between Inv-loop μ-loop
-cast-between c = search needs
-
 between-requires : tie.Need-between-requires Inv-loop μ-loop
 between-requires c κs =
     let pre = c .before .before .before .before .pre in
-    (omega (arith, scenarios-in (pre .0)), omega arith, omega (arith, c .before .before .loop .inv .0))
+    (omega (arith, scenarios-in (pre .0)), omega arith, omega (arith, c .before .before .loop .inv .in-range))
 
 returns : tie.Need-returns Inv-loop μ-loop
 returns c =
     let loop = c .before .before .before .loop in
     let pre = c .before .before .before .before .before .pre in
     λ e Γ C. at-most-of C (pre .2) (c .before .before .next-level .ensures) (c .before .if1 .taken)
-    (loop .inv .1 Γ C) (pre .4)
+    (loop .inv .lower Γ C) (pre .4)
     (c .between .ensures e)
 
 faster-hold-requires : tie.Need-faster-hold-requires Inv-loop μ-loop
 faster-hold-requires c κs =
     let pre = c .before .before .before .before .pre in
-    (pre .0, pre .1, pre .2, pre .3, c .before .before .loop .inv .0, pre .5)
+    (pre .0, pre .1, pre .2, pre .3, c .before .before .loop .inv .in-range, pre .5)
 
 returns-2 : tie.Need-returns-2 Inv-loop μ-loop
 returns-2 c = λ e. clash false e refl
 
 loop-less : tie.Need-loop-less Inv-loop μ-loop
 loop-less c =
-    let if1 = c .before .before .if1 in
-    let next = c .before .before .before .next-level .ensures in
+    let loop = c .before .before .before .before .loop in
     let pre = c .before .before .before .before .before .before .pre in
-    let up = level-up (pre .2) (scenarios-in (pre .0)) next (if1 .left) in
-    omega (arith, up .0, up .1)
+    let next = c .before .before .before .next-level .ensures in
+    climbed-less (loop .inv) (pre .2) (scenarios-in (pre .0)) next (c .before .before .if1 .left)
 
 loop-again : tie.Need-loop-again Inv-loop μ-loop
 loop-again c =
-    let if1 = c .before .before .if1 in
-    let next = c .before .before .before .next-level .ensures in
     let loop = c .before .before .before .before .loop in
     let pre = c .before .before .before .before .before .before .pre in
-    let known = c .before .faster-hold .ensures (not-false _ (c .if2 .left)) in (
-      level-up (pre .2) (scenarios-in (pre .0)) next (if1 .left) .1,
-      λ Γ C. lower-next (C .formed .events) (loop .inv .1 Γ C) (known Γ C) (next-framed C next) (if1 .left),
-    )
+    let next = c .before .before .before .next-level .ensures in
+    climbed-next (loop .inv) (pre .2) (scenarios-in (pre .0)) next (c .before .before .if1 .left)
+    (c .before .faster-hold .ensures (not-false _ (c .if2 .left)))
 
 pub at-most-spec : {M : Type 1} → statement M
 at-most-spec =
     tie.close
-    (tie.spec
-    Inv-loop
-    μ-loop
-    mul-cells
-    loop-holds
-    next-level-requires
-    cast-between
-    between-requires
-    returns
-    faster-hold-requires
-    returns-2
-    loop-less
-    loop-again)
+    (tie.spec Inv-loop μ-loop mul-cells loop-holds next-level-requires (λ c. search needs) between-requires
+    returns faster-hold-requires returns-2 loop-less loop-again)
