@@ -1,8 +1,10 @@
 #!/usr/bin/env python3
-"""Writes the trial files of document 01 and of point 2 of document 02: crates/trials/data/NNN.csv, NNN.tab and TRIALS.md beside this file.
+"""Writes the trial files of document 01 and of point 2 of document 02: crates/trials/data/NNN.csv, NNN.tab and titles.txt.
 
     make_trials.py          writes the files
-    make_trials.py check    compares crates/trials/stdout (the output of `compare expected crates/trials/data`) with what is written
+    make_trials.py titled   copies standard input, the output of `compare expected crates/trials/data`, with each trial's title beside its
+                            number
+    make_trials.py check    compares crates/trials/stdout (that, with the lines of make_small.py behind it) with what is written
                             here by hand from the papers; a trailing `...` leaves the rest of an answer open, the lines `played` and
                             `asked` are left out, and a house form is compared where one is written here
 
@@ -100,7 +102,7 @@ def wrong_fields():
 
 def numbers():
     for text in ["", "-", "-0", "+5"]:
-        trial(f"the number {text!r} is ill-formed", line(1, "horizon," + text), "refused 4 line 1")
+        trial(f"the number {text!a} is ill-formed", line(1, "horizon," + text), "refused 4 line 1")
     trial("a count with a leading zero", line(6, "signals,01"), "refused 4 line 6")
     trial("the limit -05", line(9, "min,start,call,-05,-"), "refused 4 line 9")
     trial("the limit 5-", line(10, "min,call,door,5-,p"), "refused 4 line 10")
@@ -137,7 +139,7 @@ def names():
 
 def labels():
     for text in ["", "!", "!!p", "p!", "p-"]:
-        trial(f"the label {text!r} is ill-formed", line(10, "min,call,door,15," + text), "refused 6 line 10")
+        trial(f"the label {text!a} is ill-formed", line(10, "min,call,door,15," + text), "refused 6 line 10")
     negated = line(10, "min,call,door,15,!p")
     trial("the label !p", negated, "accepted 60 3 1 3\ncase,start,call,door\nF,0,5,20\nT,0,5,6")
     two = sheet("start call door", ["p,start", "q,call"], ["min,start,call,2,-", "min,call,door,5,p!q"])
@@ -150,15 +152,15 @@ def labels():
 def odd_bytes():
     """Spaces, CR, NUL and bytes over 127 have no refusal of their own: each kind of field refuses them as it does others."""
     for text, number in [(" rules,3", 3), ("rules\r,3", 3), ("r\xfales,3", 3), ("rules,3 ", 4), ("rules,3\0", 4), ("rules,\xb3", 4)]:
-        trial(f"a section line {text!r}", line(8, text), f"refused {number} line 8")
+        trial(f"a section line {text!a}", line(8, text), f"refused {number} line 8")
     for text in ["call ", "call\r", "ca\0l", "c\xe1ll"]:
-        trial(f"the name {text!r}", line(4, text), "refused 6 line 4")
+        trial(f"the name {text!a}", line(4, text), "refused 6 line 4")
     for text in [" ,call", "\xfe,call", "p,call\r", "p,call\0"]:
-        trial(f"the signal {text!r}", line(7, text), "refused 6 line 7")
+        trial(f"the signal {text!a}", line(7, text), "refused 6 line 7")
     for text, number in [("min ,start,call,5,-", 3), ("m\0n,start,call,5,-", 3), ("min,start,call,5\r,-", 4), ("min,start,call,\xb5,-", 4)]:
-        trial(f"the rule {text!r}", line(9, text), f"refused {number} line 9")
+        trial(f"the rule {text!a}", line(9, text), f"refused {number} line 9")
     for text in ["- ", "p\r", "p\0", "\xfe"]:
-        trial(f"the label {text!r}", line(10, "min,call,door,15," + text), "refused 6 line 10")
+        trial(f"the label {text!a}", line(10, "min,call,door,15," + text), "refused 6 line 10")
 
 
 def definitions():
@@ -393,24 +395,33 @@ def write():
     data.mkdir(parents=True, exist_ok=True)
     for old in data.glob("[0-9]*"):
         old.unlink()
-    index = ["# The trial files", "", "Written by `independent/make_trials.py`. `T`: there is a table.", ""]
-    for number, (about, text, _, table, _) in enumerate(TRIALS, 1):
+    for number, (_, text, _, table, _) in enumerate(TRIALS, 1):
         (data / f"{number:03}.csv").write_bytes(text)
         if table is not None:
             (data / f"{number:03}.tab").write_bytes(table)
-        index.append(f"- {number:03}{'' if table is None else ' T'} {about}")
-    (HERE / "TRIALS.md").write_text("\n".join(index) + "\n")
+    (data / "titles.txt").write_text("".join(about + "\n" for about, *_ in TRIALS))
     print(f"{len(TRIALS)} sheets, {sum(table is not None for *_, table, _ in TRIALS)} tables")
 
 
+def titled():
+    """A trial's first line begins with its number, and its title then has a line of its own with the number."""
+    titles = (f"{number:03} {about}" for number, (about, *_) in enumerate(TRIALS, 1))
+    title = next(titles)
+    for text in sys.stdin.read().splitlines():
+        if title and text[:4] == title[:4]:
+            print(title)
+            title, text = next(titles, None), text[4:]
+        print(text)
+
+
 def answers():
-    """The output cut into one text per trial, without its number."""
+    """The output cut into one text per trial, without its number and title."""
     found = []
     for text in (HOME / "stdout").read_text().splitlines():
         if text.startswith("small "):
             break
-        if text[:4] == f"{len(found) + 1:03} ":
-            found.append([text[4:]])
+        if len(found) < len(TRIALS) and text == f"{len(found) + 1:03} {TRIALS[len(found)][0]}":
+            found.append([])
         else:
             found[-1].append(text)
     return ["\n".join(lines) for lines in found]
@@ -470,4 +481,7 @@ house_forms()
 
 if sys.argv[1:] == ["check"]:
     check()
-write()
+elif sys.argv[1:] == ["titled"]:
+    titled()
+else:
+    write()

@@ -11,7 +11,7 @@ use Rattle.prelude.proofs.Tests.{either}
 use Rattle.refusal.specs.declared.Cause.the-variants as C
 use Rattle.network.specs.Build.{cells}
 use Rattle.network.specs.declared.Network.{Network}
-use Rattle.line.specs.Rows.{Tests}
+use Rattle.line.specs.Tests.{Tests}
 use Rattle.sheet.specs.Reading.{read}
 use Rattle.sheet.specs.declared.Outcome.the-variants.{Accepted}
 use Rattle.sheet.specs.declared.Reading.{Reading}

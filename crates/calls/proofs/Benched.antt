@@ -15,8 +15,8 @@ use Rattle.sheet.specs.Reading.{read}
 use Rattle.sheet.specs.declared.Outcome.the-variants.{Accepted}
 use Rattle.sheet.specs.declared.Reading.{Reading}
 use Rattle.dispatch.specs.Due.{due}
-use Rattle.dispatch.specs.Written.{isHeard, heardIn, dueText}
-use Rattle.dispatch.proofs.Written.{due-heard}
+use Rattle.dispatch.specs.HeardText.{isHeard, heardIn, dueText}
+use Rattle.dispatch.proofs.HeardText.{due-heard}
 use Rattle.calls.specs.Values.{done}
 use Rattle.calls.specs.Call.{Left}
 use Rattle.calls.specs.Lent.{asMinutes, asBytes, inPairs}

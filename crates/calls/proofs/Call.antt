@@ -1,19 +1,16 @@
 -- How a call ends: it is refused with its sheet, or at the first of its tests that fails, or its work is done. Each law
 -- takes the reading of the sheet and how its outcome turned out. Assumes nothing.
 use mathlib.Core.Path.{_≡_, refl, sym, _∙_, ap}
-use mathlib.Core.Logic.{inl, inr}
-use mathlib.Core.Bool.{Bool, true, false}
 use mathlib.Core.Option.{Option, none, some}
-use mathlib.Core.List.{List, [], _∷_}
+use mathlib.Core.List.{List}
 use Prim.Native.Nat.{ℕ}
 use Rattle.prelude.specs.Checks.{firstFailing, Hold, FirstFails}
-use Rattle.prelude.proofs.Checks.{hold, none-fails, first-fails}
-use Rattle.prelude.proofs.Tests.{clash}
+use Rattle.prelude.proofs.Checks.{hold, none-fails, first-fails, some-fails}
 use Rattle.refusal.specs.declared.Cause.{Cause}
 use Rattle.refusal.specs.declared.Refusal.{Refusal}
 use Rattle.network.specs.WellFormed.{WellFormed, Named}
 use Rattle.network.specs.declared.Network.{Network}
-use Rattle.line.specs.Rows.{Tests}
+use Rattle.line.specs.Tests.{Tests}
 use Rattle.sheet.specs.Reading.{read}
 use Rattle.sheet.specs.declared.Outcome.{Outcome}
 use Rattle.sheet.specs.declared.Outcome.the-variants.{Accepted, Refused}
@@ -21,13 +18,6 @@ use Rattle.sheet.specs.declared.Reading.{Reading}
 use Rattle.sheet.proofs.WellFormed.{accepted-well-formed}
 use Rattle.calls.specs.Call.{withoutLine, tested, answerBy, call}
 use Rattle.calls.specs.Answers.{Reads}
-
-some-fails : (ts : Tests) (c : Cause) → FirstFails ts c → firstFailing ts ≡ some c
-some-fails [] c f = absurd f
-some-fails ((true, a) ∷ ts) c (inl f) = clash true refl (f .0)
-some-fails ((false, a) ∷ ts) c (inl f) = ap some (f .1)
-some-fails ((true, a) ∷ ts) c (inr f) = some-fails ts c (f .1)
-some-fails ((false, a) ∷ ts) c (inr f) = clash false (f .0) refl
 
 module _ {A : Type 0} (refuse : Refusal → A) (sheet : List ℕ) (tests : Network → Tests) (work : Network → A) where
   module _ (g : Reading) (e : g ≡ read sheet) where

@@ -13,7 +13,7 @@ use Rattle.network.specs.declared.Network.{Network}
 use Rattle.sheet.specs.Reading.{read}
 use Rattle.sheet.proofs.WellFormed.{accepted-well-formed}
 use Rattle.checker.specs.Verdict.{verdict}
-use Rattle.dispatch.specs.Written.{heardIn, dueText}
+use Rattle.dispatch.specs.HeardText.{heardIn, dueText}
 use Rattle.calls.specs.Values.{Values}
 use Rattle.calls.specs.Call.{Left}
 use Rattle.calls.specs.Lent.{asBytes, inPlace, inPairs}

@@ -11,7 +11,7 @@ use Rattle.sheet.specs.declared.Reading.{Reading}
 use Rattle.dispatch.specs.Heard.{Lettered}
 use Rattle.dispatch.specs.Due.{due}
 use Rattle.dispatch.specs.Said.{dueOn}
-use Rattle.dispatch.specs.Written.{heardIn, dueText}
+use Rattle.dispatch.specs.HeardText.{heardIn, dueText}
 use Rattle.dispatch.specs.declared.Heard.{Heard}
 use Rattle.calls.specs.Lent.{asMinutes, asBytes, inPlace, inPairs}
 use Rattle.calls.specs.Calls.{noCounts, countsOf, summaryValues}

@@ -20,13 +20,13 @@ use Rattle.checker.proofs.Judged.{judged}
 use Rattle.dispatch.specs.Heard.{Lettered, WellNamed}
 use Rattle.dispatch.specs.Due.{due}
 use Rattle.dispatch.specs.Said.{saidFrom, dueOn}
-use Rattle.dispatch.specs.Written.{heardIn, dueText}
+use Rattle.dispatch.specs.HeardText.{heardIn, dueText}
 use Rattle.dispatch.specs.declared.Heard.{Heard}
 use Rattle.dispatch.specs.declared.Dispatched.{Dispatched}
 use Rattle.dispatch.specs.declared.Dispatched.the-variants as P
 use Rattle.dispatch.proofs.Answers.{due-misnamed, due-never}
 use Rattle.dispatch.proofs.Mask.{due-said, due-on-misnamed}
-use Rattle.dispatch.proofs.Written.{text-misnamed, text-never}
+use Rattle.dispatch.proofs.HeardText.{text-misnamed, text-never}
 use Rattle.calls.specs.Lent.{Handed}
 use Rattle.calls.specs.Play.{named, everHeard, eventsOf, isPass, playingTests, playing, dueValues}
 use Rattle.calls.specs.Answers.{Answers}

@@ -16,7 +16,7 @@ use Rattle.network.specs.Build.{scenarios, cells}
 use Rattle.network.specs.Strategy.{time}
 use Rattle.network.specs.WellFormed.{WellFormed, Named}
 use Rattle.network.specs.declared.Network.{Network}
-use Rattle.line.specs.Rows.{Tests}
+use Rattle.line.specs.Tests.{Tests}
 use Rattle.sheet.specs.Reading.{read}
 use Rattle.sheet.specs.declared.Outcome.the-variants.{Accepted}
 use Rattle.sheet.specs.declared.Reading.{Reading}
@@ -32,7 +32,7 @@ use Rattle.solver.specs.Solve.{solve}
 use Rattle.solver.proofs.Least.{solve-least}
 use Rattle.dispatch.specs.Heard.{isWellNamed, says}
 use Rattle.dispatch.specs.Due.{hearer, dueFor, due}
-use Rattle.dispatch.specs.Written.{isHeard, heardIn, dueText}
+use Rattle.dispatch.specs.HeardText.{isHeard, heardIn, dueText}
 use Rattle.dispatch.specs.declared.Dispatched.{Dispatched}
 use Rattle.dispatch.specs.declared.Dispatched.the-variants.{Misnamed}
 use Rattle.dispatch.proofs.Bits.{mask-small}

@@ -8,7 +8,7 @@ use Rattle.checker.specs.declared.Breach.{Breach}
 use Rattle.checker.specs.declared.Breach.the-variants.{Late, Rule, Unheard}
 use Rattle.checker.specs.declared.Verdict.{Verdict}
 use Rattle.checker.specs.declared.Verdict.the-variants.{Pass, Breach as Breached}
-use Rattle.dispatch.specs.Written.{dueText}
+use Rattle.dispatch.specs.HeardText.{dueText}
 use Rattle.calls.specs.Values.{Values, done, turnedAway}
 use Rattle.calls.specs.Call.{Left}
 use Rattle.calls.specs.Lent.{asBytes, inPairs}

@@ -13,7 +13,7 @@ use Rattle.network.specs.Least.{Least, Inconsistent}
 use Rattle.network.specs.declared.Network.{Network}
 use Rattle.checker.specs.First.{First}
 use Rattle.checker.specs.declared.Breach.{Breach}
-use Rattle.dispatch.specs.Written.{isHeard, heardIn}
+use Rattle.dispatch.specs.HeardText.{isHeard, heardIn}
 use Rattle.listing.specs.Listing.{listing}
 use Rattle.calls.specs.Values.{done, refusedAs}
 use Rattle.calls.specs.Calls.{writtenValues, housed}

@@ -10,7 +10,7 @@ use Rattle.refusal.specs.Refusal.{refusal}
 use Rattle.refusal.specs.declared.Cause.{Cause}
 use Rattle.refusal.specs.declared.Refusal.{Refusal}
 use Rattle.network.specs.declared.Network.{Network}
-use Rattle.line.specs.Rows.{Tests}
+use Rattle.line.specs.Tests.{Tests}
 use Rattle.sheet.specs.Reading.{read}
 use Rattle.sheet.specs.declared.Outcome.{Outcome}
 use Rattle.sheet.specs.declared.Outcome.the-variants.{Accepted, Refused}

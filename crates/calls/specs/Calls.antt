@@ -5,8 +5,8 @@ use mathlib.Core.List.{List, [], _∷_}
 use Prim.Native.Nat.{ℕ}
 use lib.Dec.{leb}
 use lib.ListN.{length}
-use Rattle.page.specs.declared.Written as PD
-use Rattle.page.specs.declared.Written.the-variants as PW
+use Rattle.page.specs.declared.Filled as PD
+use Rattle.page.specs.declared.Filled.the-variants as PW
 use Rattle.refusal.specs.declared.Cause.{Cause}
 use Rattle.refusal.specs.declared.Refusal.{Refusal}
 use Rattle.refusal.specs.declared.Cause.the-variants.{WrongTableLength, BufferTooShort, Inconsistent, TooManyRows}
@@ -15,7 +15,7 @@ use Rattle.network.specs.Limits as L
 use Rattle.network.specs.Build.{cells}
 use Rattle.network.specs.declared.Constraint.{Constraint}
 use Rattle.network.specs.declared.Network.{Network}
-use Rattle.line.specs.Rows.{Tests}
+use Rattle.line.specs.Tests.{Tests}
 use Rattle.checker.specs.Verdict.{verdict}
 use Rattle.solver.specs.Solve.{solve}
 use Rattle.listing.specs.Listing.{listing}
@@ -80,7 +80,7 @@ module _ (m : Lent) where
   refusing r = record { answer = W.Refused r; memory = m .before }
 
 -- the answer by what a writer did
-abbrev pub handedOut : PD.Written → Written
+abbrev pub handedOut : PD.Filled → Written
 handedOut (PW.Bytes n) = W.Count n
 handedOut PW.TooShort = W.Refused (withoutLine BufferTooShort)
 

@@ -13,7 +13,7 @@ use Rattle.network.specs.declared.Network.{Network}
 use Rattle.dispatch.specs.Heard.{WellNamed}
 use Rattle.dispatch.specs.History.{History}
 use Rattle.dispatch.specs.Said.{saidFrom}
-use Rattle.dispatch.specs.Written.{heardIn, WellWritten}
+use Rattle.dispatch.specs.HeardText.{heardIn, WellWritten}
 use Rattle.dispatch.specs.declared.Heard.{Heard}
 use Rattle.listing.specs.Listing.{listing}
 use Rattle.tighten.specs.Tightest.{remainingOf}

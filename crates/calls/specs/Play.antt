@@ -5,7 +5,7 @@ use mathlib.Core.List.{List, [], _∷_}
 use Prim.Native.Nat.{ℕ}
 use Rattle.refusal.specs.declared.Cause.the-variants as C
 use Rattle.network.specs.declared.Network.{Network}
-use Rattle.line.specs.Rows.{Tests}
+use Rattle.line.specs.Tests.{Tests}
 use Rattle.checker.specs.Verdict.{verdict}
 use Rattle.checker.specs.declared.Verdict.{Verdict}
 use Rattle.checker.specs.declared.Verdict.the-variants.{Pass, Breach as Breached}

@@ -9,7 +9,7 @@ ghost use Rattle.prelude.specs.Gather.{ahead};
 ghost use Rattle.text.specs.Lines.{comma};
 ghost use Rattle.text.specs.Decimal.{decimal};
 ghost use Rattle.page.specs.Appended.{Appended};
-ghost use Rattle.page.specs.Written.{WrittenIs};
+ghost use Rattle.page.specs.Filled.{FilledIs};
 ghost use Rattle.network.specs.Build.{nameOf};
 ghost use Rattle.network.specs.WellFormed.{InLimits, Proper, WellFormed, Named};
 ghost use Rattle.layout.specs.Layout.{line, section, signalLine, ruleLine, signedText, literalsText, labelText};
@@ -20,7 +20,7 @@ ghost use Rattle.canonical.specs.Most.{mostCount, mostEvents, mostSignal
 use network::Constraint;
 use network::Label;
 use network::Network;
-use page::Written;
+use page::Filled;
 use tighten::UpperBounds;
 
 // The name of event u, as a part of the sheet.
@@ -173,10 +173,10 @@ const LONGEST: usize = 2673;
 
 // The form into out, where the upper bounds that remain fit a sheet: how many bytes were written, or that out is too
 // short for them.
-pub fn write(sheet: &[u8], network: Network, remaining: UpperBounds, out: &mut [u8]) -> Written
+pub fn write(sheet: &[u8], network: Network, remaining: UpperBounds, out: &mut [u8]) -> Filled
     requires { ⌜ WellFormed network × Named (now sheet) network × UppersAre (remainingOf network) remaining
         × (remaining .fits ≡ true) ⌝ }
-    ensures { λ r. ⌜ WrittenIs (houseText (now (sheet .entry)) network) (now (out .entry)) (now (out .exit)) r ⌝ }
+    ensures { λ r. ⌜ FilledIs (houseText (now (sheet .entry)) network) (now (out .entry)) (now (out .exit)) r ⌝ }
 {
     let mut page = [0u8; LONGEST];
     let events = push_count(&mut page, 0, b"horizon", network.horizon);

@@ -14,5 +14,5 @@ pub mod Fold
 pub mod Again
 pub mod Core
 pub mod Mask
-pub mod Written
+pub mod HeardText
 pub mod Texts

@@ -8,7 +8,7 @@ use Prim.Native.Nat.{ℕ, _+_, _^_}
 use Prim.Native.String.{String}
 use Rattle.prelude.specs.Bytes.{ascii}
 use Rattle.dispatch.specs.Said.{misnamed, added}
-use Rattle.dispatch.specs.Written.{isHeard, heardIn, saidText}
+use Rattle.dispatch.specs.HeardText.{isHeard, heardIn, saidText}
 use Rattle.dispatch.specs.declared.Heard.{Heard}
 use Rattle.dispatch.proofs.Examples.{p, q}
 

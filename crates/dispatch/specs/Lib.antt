@@ -4,4 +4,4 @@ pub mod Heard
 pub mod History
 pub mod Due
 pub mod Said
-pub mod Written
+pub mod HeardText

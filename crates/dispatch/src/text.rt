@@ -4,7 +4,7 @@ ghost use mathlib.Core.Bool.{false};
 ghost use mathlib.Core.List.{map};
 ghost use Rattle.names.specs.Names.{literals};
 ghost use Rattle.dispatch.specs.Said.{saidFrom};
-ghost use Rattle.dispatch.specs.Written.{isHeard, recordOf, saidText};
+ghost use Rattle.dispatch.specs.HeardText.{isHeard, recordOf, saidText};
 use super::Heard;
 use names::token;
 

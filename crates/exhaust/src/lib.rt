@@ -11,7 +11,7 @@ use network::Network;
 // The most tables that are made, the most cells that a table has, and the latest time of a cell.
 const TABLES: u32 = 70000;
 
-const CELLS: usize = 32;
+pub const CELLS: usize = 32;
 
 const LATEST: u16 = 15;
 

@@ -14,9 +14,9 @@ ghost use Rattle.listing.specs.Line.{markOf, timesOf, lineOf};
 ghost use Rattle.listing.specs.Most.{mostNames, mostTimes, mostHeader, mostLine, mostLines};
 ghost use Rattle.page.specs.Joined.{joinFrom};
 ghost use Rattle.page.specs.Appended.{Appended};
-ghost use Rattle.page.specs.Written.{WrittenIs};
+ghost use Rattle.page.specs.Filled.{FilledIs};
 use network::Network;
-use page::Written;
+use page::Filled;
 
 // The names of all events, and the line feed.
 fn push_names(page: &mut [u8], at: usize, sheet: &[u8], network: Network) -> usize
@@ -132,9 +132,9 @@ pub const LONGEST: usize = 1765;
 
 // The listing of any table of the network's size into out: how many bytes were written, or that out is too short for
 // them.
-pub fn write(sheet: &[u8], network: Network, table: &[u16], out: &mut [u8]) -> Written
+pub fn write(sheet: &[u8], network: Network, table: &[u16], out: &mut [u8]) -> Filled
     requires { ⌜ WellFormed network × Named (now sheet) network × (length (now table) ≡ cells network) ⌝ }
-    ensures { λ r. ⌜ WrittenIs (listing (now (sheet .entry)) network (now (table .entry)))
+    ensures { λ r. ⌜ FilledIs (listing (now (sheet .entry)) network (now (table .entry)))
         (now (out .entry)) (now (out .exit)) r ⌝ }
 {
     let mut page = [0u8; LONGEST];

@@ -8,16 +8,16 @@ use borrow.Author.Tests.{leb-true}
 use lib.Dec.{leb}
 use lib.ListN.{length}
 use Rattle.prelude.proofs.Tests.{zero-is-one}
-use Rattle.page.specs.Written.{isRoom, writtenOf, bufferAfter, WrittenIs}
-use Rattle.page.specs.declared.Written as PD
-use Rattle.page.specs.declared.Written.the-variants as PW
+use Rattle.page.specs.Filled.{isRoom, filledOf, bufferAfter, FilledIs}
+use Rattle.page.specs.declared.Filled as PD
+use Rattle.page.specs.declared.Filled.the-variants as PW
 use Rattle.refusal.specs.declared.Cause.the-variants.{BufferTooShort, Inconsistent, TooManyRows}
 use Rattle.refusal.specs.declared.Refusal.{Refusal}
 use Rattle.fixpoint.specs.Run.{Run, End, Rests, Passes, Spent}
 use Rattle.network.specs.Build.{cells}
 use Rattle.network.specs.WellFormed.{WellFormed}
 use Rattle.network.specs.declared.Network.{Network}
-use Rattle.line.specs.Rows.{Tests}
+use Rattle.line.specs.Tests.{Tests}
 use Rattle.sheet.specs.Reading.{read}
 use Rattle.sheet.specs.declared.Outcome.{Outcome}
 use Rattle.sheet.specs.declared.Outcome.the-variants.{Accepted, Refused}
@@ -50,11 +50,11 @@ pub kept : {l : Left Written} (m : List ℕ) (r : Refusal) → refusing (inPlace
 kept m r e = leaves-as e (record { answer = refl; memory = refl })
 
 -- a writer wrote the text, or had no room for it
-pub written-by : {l : Left Written} (text m x : List ℕ) (w : PD.Written) → WrittenIs text m x w
+pub written-by : {l : Left Written} (text m x : List ℕ) (w : PD.Filled) → FilledIs text m x w
     → (isRoom text m ≡ true → writing (inPlace m) text ≡ l)
     → (isRoom text m ≡ false → refusing (inPlace m) (withoutLine BufferTooShort) ≡ l)
     → Leaves l (handedOut w) x
-unfolding writtenOf bufferAfter
+unfolding filledOf bufferAfter
 written-by {l} text m x w is wrote short = by-room (isRoom text m) refl
   where
     by-room : (b : Bool) → isRoom text m ≡ b → Leaves l (handedOut w) x
@@ -152,7 +152,7 @@ module _ (sheet t m : List ℕ) (g : Reading) (e : g ≡ handedIn sheet (length 
   listing-refused r p =
       kept m r (handed-refused sheet t g e (refusing (inPlace m)) rest (λ Γ. writing (inPlace m) (text Γ)) r p)
 
-  pub listing-written : g .outcome ≡ Accepted → (x : List ℕ) (w : PD.Written) → WrittenIs (text (g .network)) m x w
+  pub listing-written : g .outcome ≡ Accepted → (x : List ℕ) (w : PD.Filled) → FilledIs (text (g .network)) m x w
       → Leaves (listed sheet t m) (handedOut w) x
   listing-written a x w is =
       written-by (text (g .network)) m x w is
@@ -178,8 +178,8 @@ module _ (sheet m : List ℕ) (g : Reading) (e : g ≡ read sheet) where
         kept m _
         (call-fails (refusing (inPlace m)) sheet (houseTests sheet (inPlace m)) form g e a TooManyRows (inl (h, refl)))
 
-    pub house-written : fit (remainingOf (g .network)) ≡ true → (x : List ℕ) (w : PD.Written)
-        → WrittenIs (houseText sheet (g .network)) m x w → Leaves (housed sheet m) (handedOut w) x
+    pub house-written : fit (remainingOf (g .network)) ≡ true → (x : List ℕ) (w : PD.Filled)
+        → FilledIs (houseText sheet (g .network)) m x w → Leaves (housed sheet m) (handedOut w) x
     house-written h x w is =
         written-by (houseText sheet (g .network)) m x w is
         (λ room. call-works (refusing (inPlace m)) sheet (houseTests sheet (inPlace m)) form g e a (h, (room, tt)))

@@ -17,7 +17,7 @@ use Rattle.refusal.specs.declared.Cause.the-variants.{BufferTooShort, Inconsist
 use Rattle.refusal.specs.declared.Refusal.{Refusal}
 use Rattle.network.specs.Build.{cells}
 use Rattle.network.specs.declared.Network.{Network}
-use Rattle.line.specs.Rows.{Tests}
+use Rattle.line.specs.Tests.{Tests}
 use Rattle.sheet.specs.Reading.{read}
 use Rattle.sheet.specs.declared.Outcome.the-variants.{Accepted}
 use Rattle.sheet.specs.declared.Reading.{Reading}

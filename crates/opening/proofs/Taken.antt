@@ -21,8 +21,8 @@ use Rattle.sheet.specs.declared.Reading.{Reading}
 use Rattle.sheet.proofs.WellFormed.{accepted-well-formed}
 use Rattle.checker.specs.declared.Verdict.{Verdict}
 use Rattle.dispatch.specs.Said.{dueOn}
-use Rattle.dispatch.specs.Written.{saidText, dueText}
-use Rattle.dispatch.proofs.Written.{due-said-text}
+use Rattle.dispatch.specs.HeardText.{saidText, dueText}
+use Rattle.dispatch.proofs.HeardText.{due-said-text}
 use Rattle.calls.specs.Lent.{asMinutes, asBytes}
 use Rattle.calls.specs.Calls.{judgement, listed, writtenValues}
 use Rattle.calls.specs.Play.{eventsDueOn}

@@ -115,12 +115,12 @@ pub fn solve_sheet(sheet: &[u8], table: &mut [u16]) -> Written
 }
 
 // What a writer did with the memory that it was lent, as the call's answer.
-fn handed_out(written: page::Written) -> Written
-    ensures { λ r. ⌜ r ≡ handedOut written ⌝ }
+fn handed_out(filled: page::Filled) -> Written
+    ensures { λ r. ⌜ r ≡ handedOut filled ⌝ }
 {
-    match written {
-        page::Written::Bytes(n) => Written::Count(n),
-        page::Written::TooShort => Written::Refused(without_line(Cause::BufferTooShort)),
+    match filled {
+        page::Filled::Bytes(n) => Written::Count(n),
+        page::Filled::TooShort => Written::Refused(without_line(Cause::BufferTooShort)),
     }
 }
 

@@ -8,8 +8,8 @@ use borrow.Author.Tests.{le-leb, lt-leb}
 use lib.ListN.{length, take, drop}
 use lib.Seq.{take-append-seam}
 use Rattle.page.specs.Appended.{Appended}
-use Rattle.page.specs.Written.{isRoom, writtenOf, bufferAfter, WrittenIs}
-use Rattle.page.specs.declared.Written.the-variants.{Bytes, TooShort}
+use Rattle.page.specs.Filled.{isRoom, filledOf, bufferAfter, FilledIs}
+use Rattle.page.specs.declared.Filled.the-variants.{Bytes, TooShort}
 
 -- a text that was appended at the front
 pub append-front : {most : ℕ} {b text after : List ℕ} {end : ℕ} → Appended most b 0 text after end
@@ -20,16 +20,16 @@ append-front {b = b} {text = text} {end = end} f =
 
 module _ (text before : List ℕ) where
   -- memory that is too short, and is left as it is
-  pub written-nothing : length before < length text → WrittenIs text before before TooShort
-  unfolding writtenOf bufferAfter
+  pub written-nothing : length before < length text → FilledIs text before before TooShort
+  unfolding filledOf bufferAfter
   written-nothing h =
       let short : isRoom text before ≡ false = lt-leb _ _ h in
       record { answer = rw short; buffer = rw short }
 
   -- the text at the front
   pub written-all : {most end : ℕ} {after : List ℕ} → Appended most before 0 text after end
-      → WrittenIs text before after (Bytes end)
-  unfolding writtenOf bufferAfter
+      → FilledIs text before after (Bytes end)
+  unfolding filledOf bufferAfter
   written-all {end = end} f =
       let count : end ≡ length text = omega arith in
       let room : isRoom text before ≡ true = le-leb (length text) (length before) (omega arith) in

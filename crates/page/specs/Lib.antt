@@ -2,4 +2,4 @@
 -- memory that it is lent.
 pub mod Joined
 pub mod Appended
-pub mod Written
+pub mod Filled

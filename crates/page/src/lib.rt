@@ -6,10 +6,10 @@ ghost use lib.ListN.{length};
 ghost use Rattle.text.specs.Lines.{comma};
 ghost use Rattle.text.specs.Decimal.{decimal};
 ghost use Rattle.page.specs.Appended.{Appended};
-ghost use Rattle.page.specs.Written.{WrittenIs};
+ghost use Rattle.page.specs.Filled.{FilledIs};
 
 // What a call that writes did: so many bytes, or nothing, since the memory is too short for them.
-pub enum Written {
+pub enum Filled {
     Bytes(usize),
     TooShort,
 }
@@ -56,11 +56,11 @@ pub fn push_number(page: &mut [u8], at: usize, v: u16) -> usize
 }
 
 // A text into the front of lent memory: how many bytes were written, or that the memory is too short for them.
-pub fn hand_out(text: &[u8], out: &mut [u8]) -> Written
-    ensures { λ r. ⌜ WrittenIs (now (text .entry)) (now (out .entry)) (now (out .exit)) r ⌝ }
+pub fn hand_out(text: &[u8], out: &mut [u8]) -> Filled
+    ensures { λ r. ⌜ FilledIs (now (text .entry)) (now (out .entry)) (now (out .exit)) r ⌝ }
 {
     if out.len() < text.len() {
-        return Written::TooShort;
+        return Filled::TooShort;
     }
-    Written::Bytes(push_all(out, 0, text))
+    Filled::Bytes(push_all(out, 0, text))
 }

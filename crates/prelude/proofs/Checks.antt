@@ -1,5 +1,5 @@
 -- Tests in checking order: none fails exactly where each holds, and the first to fail is the only one. Assumes nothing.
-use mathlib.Core.Path.{_≡_, refl, sym, _∙_}
+use mathlib.Core.Path.{_≡_, refl, sym, _∙_, ap}
 use mathlib.Core.Logic.{inl, inr}
 use mathlib.Core.Bool.{Bool, true, false}
 use mathlib.Core.Option.{none, some}
@@ -28,6 +28,13 @@ module _ {A : Type 0} where
   first-fails [] c e = none-not-some c e
   first-fails ((true, a) ∷ ts) c e = inr (refl, first-fails ts c e)
   first-fails ((false, a) ∷ ts) c e = inl (refl, cc)
+
+  pub some-fails : (ts : List (Bool × A)) (c : A) → FirstFails ts c → firstFailing ts ≡ some c
+  some-fails [] c f = absurd f
+  some-fails ((true, a) ∷ ts) c (inl f) = clash true refl (f .0)
+  some-fails ((false, a) ∷ ts) c (inl f) = ap some (f .1)
+  some-fails ((true, a) ∷ ts) c (inr f) = some-fails ts c (f .1)
+  some-fails ((false, a) ∷ ts) c (inr f) = clash false (f .0) refl
 
   pub fails-not-hold {ℓ} : {B : Type ℓ} (ts : List (Bool × A)) (c : A) → FirstFails ts c → Hold ts → B
   fails-not-hold [] c f h = absurd f

@@ -1,20 +1,75 @@
-// What the programs print. A write that fails is left at that.
+// What the programs print, and the calls as they use them: a refusal is printed, and the part of the lent memory that
+// was written is counted. A write that fails is left at that.
+ghost use mathlib.Core.Path.{_≡_};
+ghost use Rattle.io.specs.Counts.{Counts};
+ghost use Rattle.calls.specs.Calls.{writtenValues};
+use calls::Written;
 use libc::STDOUT_FILENO;
 use refusal::Refusal;
 
-// `refused N line L`
-pub fn print_refusal(refusal: Refusal) {
-    let cause = refusal.cause;
-    io::write_all(STDOUT_FILENO, b"refused ");
-    io::print_decimal(STDOUT_FILENO, refusal::number(cause) as u64);
-    io::write_all(STDOUT_FILENO, b" line ");
-    io::print_decimal(STDOUT_FILENO, refusal.line as u64);
-    io::write_all(STDOUT_FILENO, b"\n");
+pub fn print(s: &[u8]) {
+    io::write_all(STDOUT_FILENO, s);
 }
 
-// The first n bytes of the page.
-pub fn print_front(page: &[u8], n: usize) {
-    if n <= page.len() {
-        io::write_all(STDOUT_FILENO, &page[..n]);
+pub fn print_number(n: u64) {
+    io::print_decimal(STDOUT_FILENO, n);
+}
+
+// `refused N line L`
+pub fn print_refused(number: u64, line: u64) {
+    print(b"refused ");
+    print_number(number);
+    print(b" line ");
+    print_number(line);
+    print(b"\n");
+}
+
+pub fn print_refusal(refusal: Refusal) {
+    let cause = refusal.cause;
+    print_refused(refusal::number(cause) as u64, refusal.line as u64);
+}
+
+// How much was written. Of a call that refused that is nothing, and the refusal is printed, behind the word.
+fn count(word: &[u8], written: Written) -> usize
+    ensures { λ r. ⌜ r ≡ writtenValues written .value ⌝ }
+{
+    match written {
+        Written::Count(n) => n,
+        Written::Refused(refusal) => {
+            print(word);
+            print_refusal(refusal);
+            0
+        }
     }
+}
+
+// The least good table: its minutes. Where there is none, or the sheet is refused, that is printed behind the word.
+pub fn solve(word: &[u8], sheet: &[u8], table: &mut [u16]) -> usize
+    ensures { λ r. ⌜ Counts r (now (table .exit)) ⌝ }
+{
+    let written = opening::solve_sheet(sheet, table);
+    count(word, written)
+}
+
+// The house form, in the same way: its bytes.
+pub fn house(word: &[u8], sheet: &[u8], page: &mut [u8]) -> usize
+    ensures { λ r. ⌜ Counts r (now (page .exit)) ⌝ }
+{
+    let written = opening::write_house(sheet, page);
+    count(word, written)
+}
+
+// The listing, in the same way: its bytes.
+fn listing(word: &[u8], sheet: &[u8], table: &[u16], page: &mut [u8]) -> usize
+    ensures { λ r. ⌜ Counts r (now (page .exit)) ⌝ }
+{
+    let written = opening::write_listing(sheet, table, page);
+    count(word, written)
+}
+
+// The listing of a table, or the word and the refusal. No listing is longer than the page.
+pub fn list(word: &[u8], sheet: &[u8], table: &[u16]) {
+    let mut page = [0u8; opening::LISTING_BYTES];
+    let n = listing(word, sheet, table, &mut page);
+    print(&page[..n]);
 }

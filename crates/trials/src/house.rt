@@ -1,85 +1,60 @@
-// The house form of a sheet: printed, or said to be the same bytes as the last form before it; then whether the form
-// is its own form, and what is answered where the lent buffer is one byte too short for it.
-use crate::say;
+// Request 2, the house form of a sheet: printed, or said to be the same bytes as the last form before it; then whether
+// the form is its own form, and what is answered where the lent buffer is one byte too short for it.
+ghost use Prim.Native.Nat.{_<_, _≤_};
+use crate::base;
 use calls::Written;
 
-// Whether the first n bytes of the page are the form.
-fn is_front(page: &[u8], n: usize, form: &[u8]) -> bool {
-    if page.len() < n {
-        return false;
-    }
-    text::equal(&page[..n], form)
-}
+// A form's page has zeros behind it, which no form has: pages are the same where the forms on them are.
+pub type Page = [u8; opening::SHEET_BYTES];
 
-fn is_own_form(form: &[u8]) -> bool {
-    let mut page = [0u8; opening::SHEET_BYTES];
-    let written = opening::write_house(form, &mut page);
-    match written {
-        Written::Refused(_) => false,
-        Written::Count(n) => is_front(&page, n, form),
-    }
-}
-
-fn say_again(form: &[u8]) {
-    if is_own_form(form) {
-        say::text(b"again same");
+fn print_form(form: &[u8], is_last: bool) {
+    if is_last {
+        report::print(b"house as before\n");
         return;
     }
-    say::text(b"again other");
+    report::print(b"house\n");
+    report::print(form);
+}
+
+// Whether the form is its own form.
+fn print_again(form: &[u8]) {
+    let mut page = [0u8; opening::SHEET_BYTES];
+    let n = report::house(b"again ", form, &mut page);
+    if text::equal(&page[..n], form) {
+        report::print(b"again same");
+        return;
+    }
+    report::print(b"again other");
+}
+
+fn print_written(written: Written) {
+    match written {
+        Written::Refused(refusal) => base::print_short(refusal),
+        Written::Count(n) => report::print_number(n as u64),
+    }
 }
 
 // The form of n bytes, in a buffer of one byte less.
-fn say_short(sheet: &[u8], page: &mut [u8], n: usize) {
-    if 0 < n {
-        if n <= page.len() {
-            let written = opening::write_house(sheet, &mut page[..n - 1]);
-            say::text(b" short ");
-            match written {
-                Written::Refused(refusal) => say::short(refusal),
-                Written::Count(k) => say::number(k as u64),
-            }
-            say::text(b"\n");
-        }
-    }
-}
-
-// The form, where it is not the last one; the last one is then this.
-fn say_form(form: &[u8], last: &mut [u8], count: usize) -> usize {
-    if is_front(last, count, form) {
-        say::text(b"house as before\n");
-        return count;
-    }
-    say::text(b"house\n");
-    say::text(form);
-    if last.len() < form.len() {
-        return 0;
-    }
-    page::push_all(last, 0, form)
-}
-
-fn say_front(page: &[u8], n: usize, last: &mut [u8], count: usize) -> usize {
-    if page.len() < n {
-        return count;
-    }
-    let next = say_form(&page[..n], last, count);
-    say_again(&page[..n]);
-    next
-}
-
-// The last form has `count` bytes; answers how many it has now.
-pub fn tell(sheet: &[u8], last: &mut [u8], count: usize) -> usize {
+fn print_short(sheet: &[u8], n: usize)
+    requires { ⌜ (0 < n) × (n ≤ 4096) ⌝ }
+{
     let mut page = [0u8; opening::SHEET_BYTES];
-    let written = opening::write_house(sheet, &mut page);
-    match written {
-        Written::Refused(refusal) => {
-            say::text(b"house ");
-            report::print_refusal(refusal);
-            count
-        }
-        Written::Count(n) => {
-            let next = say_front(&page, n, last, count);
-            say_short(sheet, &mut page, n);
-            next
-        }
+    let written = opening::write_house(sheet, &mut page[..n - 1]);
+    report::print(b" short ");
+    print_written(written);
+    report::print(b"\n");
+}
+
+// Takes the page of the last form before this sheet's, and answers that of the last behind it.
+pub fn tell(sheet: &[u8], last: Page) -> Page {
+    let mut page = [0u8; opening::SHEET_BYTES];
+    let n = report::house(b"house ", sheet, &mut page);
+    if n == 0 {
+        return last;
     }
+    let is_last = text::equal(&page, &last);
+    print_form(&page[..n], is_last);
+    print_again(&page[..n]);
+    print_short(sheet, n);
+    page
 }

@@ -1,9 +1,9 @@
 // The solver against the exhaustive search, on sheets that are small enough for it.
-use crate::say;
 use calls::Written;
 use exhaust::Tried;
-use refusal::Refusal;
 use sheet::Outcome;
+use std::num::wrapping_add_u64;
+use std::num::wrapping_sub_u64;
 
 // Both find a table, and each cell of the solver's is the least over all good tables; both find none; or anything else.
 enum Compared {
@@ -12,58 +12,37 @@ enum Compared {
     Differ,
 }
 
-// Whether the first n minutes of the two are the same.
-fn same(a: &[u16], b: &[u16], n: usize) -> bool {
-    if a.len() < n {
-        return false;
-    }
-    if b.len() < n {
-        return false;
-    }
-    let mut i = 0;
-    while i < n {
-        if a[i] != b[i] {
-            return false;
-        }
-        i += 1;
-    }
-    true
+// Whether two tables have the same minutes.
+fn same(a: [u16; exhaust::CELLS], b: [u16; exhaust::CELLS]) -> bool {
+    let mut of_a = [0u8; 2 * exhaust::CELLS];
+    let mut of_b = [0u8; 2 * exhaust::CELLS];
+    pairs::pack(&a, &mut of_a);
+    pairs::pack(&b, &mut of_b);
+    text::equal(&of_a, &of_b)
 }
 
-// The solver refused. It is to be because there is no table.
-fn without_table(found: bool, refusal: Refusal) -> Compared {
-    if found {
-        return Compared::Differ;
-    }
-    let cause = refusal.cause;
-    if refusal::number(cause) != 13 {
-        return Compared::Differ;
-    }
-    Compared::None
-}
-
-fn with_table(found: bool, least: &[u16], table: &[u16], n: usize) -> Compared {
-    if !found {
-        return Compared::Differ;
-    }
-    if !same(least, table, n) {
-        return Compared::Differ;
-    }
-    Compared::Table
-}
-
+// Behind the cells of the sheet both tables have zeros.
 fn compare_with(sheet: &[u8], tried: Tried) -> Compared {
-    let found = tried.found;
+    let mut table = [0u16; exhaust::CELLS];
+    let written = opening::solve_sheet(sheet, &mut table);
     let least = tried.least;
     if !tried.tried {
         return Compared::Differ;
     }
-    let mut table = [0u16; opening::TABLE_MINUTES];
-    let written = opening::solve_sheet(sheet, &mut table);
     match written {
-        Written::Refused(refusal) => without_table(found, refusal),
-        Written::Count(n) => with_table(found, &least, &table, n),
+        Written::Count(_) => {
+            if tried.found && same(least, table) {
+                return Compared::Table;
+            }
+        }
+        Written::Refused(refusal) => {
+            let cause = refusal.cause;
+            if !tried.found && refusal::number(cause) == 13 {
+                return Compared::None;
+            }
+        }
     }
+    Compared::Differ
 }
 
 // A sheet that the reader refuses differs: all of them are well-formed.
@@ -80,89 +59,56 @@ fn compare(sheet: &[u8]) -> Compared {
     }
 }
 
-fn say_answer(number: u64, answer: &[u8]) {
-    say::text(b"small ");
-    say::number(number);
-    say::text(answer);
-}
-
-// How many sheets turned out each way.
+// How many sheets there are, and how many of them turned out so that both find a table, and so that both find none.
 struct Tally {
+    sheets: u64,
     table: u64,
     none: u64,
-    differ: u64,
 }
 
-// One sheet more. The text has fewer bytes than would fill a count.
-fn one_more(n: u64) -> u64 {
-    if 65535 < n {
-        return n;
-    }
-    n + 1
-}
-
-// Says how this sheet turned out, and counts it.
-fn told(tally: Tally, number: u64, compared: Compared) -> Tally {
-    let table = tally.table;
-    let none = tally.none;
-    let differ = tally.differ;
+// One sheet more: says how it turned out, and counts it.
+fn told(tally: Tally, compared: Compared) -> Tally {
+    let mut next = tally;
+    next.sheets = wrapping_add_u64(tally.sheets, 1);
+    report::print(b"small ");
+    report::print_number(next.sheets);
     match compared {
         Compared::Table => {
-            say_answer(number, b" agree table\n");
-            Tally {
-                table: one_more(table),
-                none,
-                differ,
-            }
+            report::print(b" agree table\n");
+            next.table = wrapping_add_u64(tally.table, 1);
         }
         Compared::None => {
-            say_answer(number, b" agree none\n");
-            Tally {
-                table,
-                none: one_more(none),
-                differ,
-            }
+            report::print(b" agree none\n");
+            next.none = wrapping_add_u64(tally.none, 1);
         }
-        Compared::Differ => {
-            say_answer(number, b" differ\n");
-            Tally {
-                table,
-                none,
-                differ: one_more(differ),
-            }
-        }
+        Compared::Differ => report::print(b" differ\n"),
     }
+    next
 }
 
-fn say_tally(tally: Tally) {
-    say::text(b"small sheets: ");
-    say::number(tally.table);
-    say::text(b" with a table, ");
-    say::number(tally.none);
-    say::text(b" without, ");
-    say::number(tally.differ);
-    say::text(b" differ\n");
+fn print_tally(tally: Tally) {
+    let agree = wrapping_add_u64(tally.table, tally.none);
+    report::print(b"small sheets: ");
+    report::print_number(tally.table);
+    report::print(b" with a table, ");
+    report::print_number(tally.none);
+    report::print(b" without, ");
+    report::print_number(wrapping_sub_u64(tally.sheets, agree));
+    report::print(b" differ\n");
 }
 
 // The sheets stand one behind the other, each followed by a line `=`.
 pub fn all(text: &[u8]) {
     let mut tally = Tally {
+        sheets: 0,
         table: 0,
         none: 0,
-        differ: 0,
     };
-    let mut number: u64 = 0;
     let mut at = 0;
     while at < text.len() {
-        let rest = &text[at..];
-        let length = text::until(rest, b'=');
-        if rest.len() <= length {
-            break;
-        }
-        number = one_more(number);
-        let compared = compare(&rest[..length]);
-        tally = told(tally, number, compared);
-        at += length + 2;
+        let end = crate::end_of(text, at, b'=');
+        tally = told(tally, compare(&text[at..end]));
+        at = end + 2;
     }
-    say_tally(tally);
+    print_tally(tally);
 }

@@ -4,8 +4,8 @@ use borrow.Author.Needs.{needs}
 use Rattle.opening.proofs.handed_out.Statement.{statement}
 use Rattle.opening.proofs.handed_out.Tie as tie
 
-enum-known-written : tie.Need-enum-known-written
-enum-known-written c = search needs
+enum-known-filled : tie.Need-enum-known-filled
+enum-known-filled c = search needs
 
 enum-told : tie.Need-enum-told
 enum-told c = search needs
@@ -15,8 +15,8 @@ without-line-requires c κs = search needs
 
 returns : tie.Need-returns
 returns c =
-    let written = c .before .written in
-    rw (written .given .1)
+    let filled = c .before .filled in
+    rw (filled .given .1)
 
 returns-2 : tie.Need-returns-2
 returns-2 c =
@@ -26,4 +26,4 @@ returns-2 c =
 
 pub handed-out-spec : {M : Type 1} → statement M
 handed-out-spec =
-    tie.close (tie.spec enum-known-written enum-told without-line-requires returns returns-2)
+    tie.close (tie.spec enum-known-filled enum-told without-line-requires returns returns-2)

@@ -6,8 +6,8 @@ use borrow.Author.Needs.{needs}
 use borrow.Author.Tests.{not-true, not-false}
 use Rattle.names.specs.Names.{Literal}
 use Rattle.dispatch.specs.Said.{saidFrom}
-use Rattle.dispatch.specs.Written.{recordOf}
-use Rattle.dispatch.proofs.Written.{said-heard, said-other}
+use Rattle.dispatch.specs.HeardText.{recordOf}
+use Rattle.dispatch.proofs.HeardText.{said-heard, said-other}
 use Rattle.dispatch.proofs.text.said.Statement.{statement}
 use Rattle.dispatch.proofs.text.said.Tie as tie
 

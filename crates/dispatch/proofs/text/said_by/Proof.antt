@@ -4,7 +4,7 @@ use mathlib.Core.Logic.{⊎-elim}
 use Prim.Native.Nat.{_-_}
 use borrow.Author.Needs.{needs}
 use lib.ListN.{length}
-use Rattle.dispatch.proofs.Written.{Saying, saying-start, saying-bang, saying-letter, saying-end}
+use Rattle.dispatch.proofs.HeardText.{Saying, saying-start, saying-bang, saying-letter, saying-end}
 use Rattle.dispatch.proofs.text.said_by.Statement.{statement}
 use Rattle.dispatch.proofs.text.said_by.Tie as tie
 

@@ -1,40 +1,31 @@
--- `all` ends and is safe: the sheet ends at a byte `=` of the text, so the place behind that line is at most one
+-- `all` ends and is safe: a sheet ends within the text, so the place behind the line that follows it is at most two
 -- beyond the text's end. The measure is what is left to there. Assumes nothing.
-use mathlib.Core.Path.{sym}
 use Prim.Native.Nat.{_+_, _-_, _≤_}
-use native.Mathlib.Omega.{arith}
-use borrow.Author.Needs.{needs}
 use lib.ListN.{length}
-use lib.Seq.{length-take-le}
+use borrow.Author.Needs.{needs}
 use Rattle.trials.proofs.small.all.Statement.{statement}
 use Rattle.trials.proofs.small.all.Tie as tie
 
 abbrev Inv-loop : tie.InvT-loop
-Inv-loop text tally₀ number₀ at₀ tally number at = at ≤ length text + 1
+Inv-loop text tally₀ at₀ tally at = at ≤ length text + 2
 
 abbrev μ-loop : tie.MeasureT-loop
-μ-loop text tally₀ number₀ at₀ tally number at = length text + 1 - at
+μ-loop text tally₀ at₀ tally at = length text + 2 - at
 
 loop-holds : tie.Need-loop-holds Inv-loop μ-loop
 loop-holds c = search needs
 
-sub-rest : tie.Need-sub-rest Inv-loop μ-loop
-sub-rest c = search needs
+end-of-requires : tie.Need-end-of-requires Inv-loop μ-loop
+end-of-requires c κs = search needs
 
-part-rest-start : tie.Need-part-rest-start Inv-loop μ-loop
-part-rest-start c = search needs
+sub-compare : tie.Need-sub-compare Inv-loop μ-loop
+sub-compare c = search needs
 
-part-rest-end : tie.Need-part-rest-end Inv-loop μ-loop
-part-rest-end c = search needs
+part-compare-start : tie.Need-part-compare-start Inv-loop μ-loop
+part-compare-start c = search needs
 
-until-requires : tie.Need-until-requires Inv-loop μ-loop
-until-requires c κs = search needs
-
-one-more-requires : tie.Need-one-more-requires Inv-loop μ-loop
-one-more-requires c κs = search needs
-
-slice-aggregate-compare : tie.Need-slice-aggregate-compare Inv-loop μ-loop
-slice-aggregate-compare c = sym (length-take-le _ _ (omega arith))
+part-compare-end : tie.Need-part-compare-end Inv-loop μ-loop
+part-compare-end c = search needs
 
 compare-requires : tie.Need-compare-requires Inv-loop μ-loop
 compare-requires c κs = search needs
@@ -45,17 +36,14 @@ told-requires c κs = search needs
 add-at : tie.Need-add-at Inv-loop μ-loop
 add-at c = search needs
 
-add-at-2 : tie.Need-add-at-2 Inv-loop μ-loop
-add-at-2 c = search needs
-
 loop-less : tie.Need-loop-less Inv-loop μ-loop
 loop-less c = search needs
 
 loop-again : tie.Need-loop-again Inv-loop μ-loop
 loop-again c = search needs
 
-say-tally-requires : tie.Need-say-tally-requires Inv-loop μ-loop
-say-tally-requires c κs = search needs
+print-tally-requires : tie.Need-print-tally-requires Inv-loop μ-loop
+print-tally-requires c κs = search needs
 
 returns : tie.Need-returns Inv-loop μ-loop
 returns c = search needs
@@ -67,17 +55,14 @@ all-spec =
     Inv-loop
     μ-loop
     loop-holds
-    sub-rest
-    part-rest-start
-    part-rest-end
-    until-requires
-    one-more-requires
-    slice-aggregate-compare
+    end-of-requires
+    sub-compare
+    part-compare-start
+    part-compare-end
     compare-requires
     told-requires
     add-at
-    add-at-2
     loop-less
     loop-again
-    say-tally-requires
+    print-tally-requires
     returns)

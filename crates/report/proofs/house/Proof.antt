@@ -1,0 +1,28 @@
+-- `house` counts a part of the page: what a call says that it has written is in the memory that it was lent. Assumes
+-- nothing.
+use mathlib.Core.Path.{sym}
+use denote.Ref.{now}
+use lib.Seq.{length-take-le}
+use Rattle.calls.proofs.Counted.{housed-counted}
+use borrow.Author.Needs.{needs}
+use Rattle.report.proofs.house.Statement.{statement}
+use Rattle.report.proofs.house.Tie as tie
+
+write-house-requires : tie.Need-write-house-requires
+write-house-requires c κs = search needs
+
+count-requires : tie.Need-count-requires
+count-requires c κs = search needs
+
+same-length : tie.Need-same-length
+same-length c = search needs
+
+returns : tie.Need-returns
+returns c =
+    let args = c .before .before .before .before .before .before .before .before .args in
+    let left = c .before .before .before .write-house .ensures in
+    let within = housed-counted (now (args .sheet)) (now (args .page)) left in
+    rw (c .count .ensures) (within, sym (length-take-le _ _ within))
+
+pub house-spec : {M : Type 1} → statement M
+house-spec = tie.close (tie.spec write-house-requires count-requires same-length returns)

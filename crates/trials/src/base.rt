@@ -1,0 +1,90 @@
+// The base: what is read of a sheet, and the verdict on a table that is handed in, with its listing.
+use calls::Judgement;
+use calls::Summary;
+use checker::Breach;
+use checker::Verdict;
+use refusal::Refusal;
+
+// A refusal in one word, as r13.0.
+pub fn print_short(refusal: Refusal) {
+    let cause = refusal.cause;
+    report::print(b"r");
+    report::print_number(refusal::number(cause) as u64);
+    report::print(b".");
+    report::print_number(refusal.line as u64);
+}
+
+// A space and the number.
+fn and(n: usize) {
+    report::print(b" ");
+    report::print_number(n as u64);
+}
+
+// A word and two numbers.
+fn print_two(word: &[u8], a: usize, b: usize) {
+    report::print(word);
+    and(a);
+    and(b);
+}
+
+pub fn read(sheet: &[u8]) {
+    let summary = opening::read_sheet(sheet);
+    match summary {
+        Summary::Refused(refusal) => report::print_refusal(refusal),
+        Summary::Accepted(counts) => {
+            print_two(b"accepted", counts.horizon as usize, counts.events);
+            and(counts.signals);
+            and(counts.rules);
+            report::print(b"\n");
+        }
+    }
+}
+
+fn print_breach(breach: Breach) {
+    match breach {
+        Breach::Late { scenario, event } => print_two(b"late", scenario, event),
+        Breach::Rule {
+            scenario,
+            constraint,
+        } => print_two(b"rule", scenario, constraint),
+        Breach::Unheard {
+            scenario,
+            other,
+            event,
+        } => {
+            print_two(b"unheard", scenario, other);
+            and(event);
+        }
+    }
+    report::print(b"\n");
+}
+
+fn print_verdict(verdict: Verdict) {
+    match verdict {
+        Verdict::Pass => report::print(b"pass\n"),
+        Verdict::Breach(breach) => print_breach(breach),
+    }
+}
+
+// The verdict. Half a minute behind the table can be told to the C judge alone, which takes bytes. Its answer is to be
+// a refusal then: the number is the lowest byte, and the line all that is above, since the bytes behind it are 0. A
+// verdict would show as refusal 0.
+fn verdict(sheet: &[u8], bytes: &[u8], table: &[u16]) {
+    if bytes.len() % 2 == 1 {
+        let answer = opening::bench::opening_judge(sheet, bytes);
+        report::print_refused(answer % 256, answer / 256);
+        return;
+    }
+    let judgement = opening::judge_table(sheet, table);
+    match judgement {
+        Judgement::Refused(refusal) => report::print_refusal(refusal),
+        Judgement::Judged(verdict) => print_verdict(verdict),
+    }
+}
+
+// The verdict on a table, which is handed in as these bytes, and its listing.
+pub fn judge(sheet: &[u8], bytes: &[u8], table: &[u16]) {
+    report::print(b"judged ");
+    verdict(sheet, bytes, table);
+    report::list(b"listed ", sheet, table);
+}
