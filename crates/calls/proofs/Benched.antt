@@ -1,5 +1,5 @@
--- The demands on the bench's calls hold: each is one of the laws on how a table is handed in and memory is lent, as bytes.
--- Assumes nothing.
+-- The demands on the bench's calls hold: each is one of the laws on how a table is handed in and memory is lent, as
+-- bytes. Assumes nothing.
 use mathlib.Core.Path.{_≡_, refl, sym, _∙_, ap}
 use mathlib.Core.Logic.{_↔_}
 use mathlib.Core.Bool.{true}
@@ -60,7 +60,8 @@ module _ (sheet : List ℕ) (a : read sheet .outcome ≡ Accepted) (b : List ℕ
       let right : asBytes b .has (cells net) ≡ asMinutes t .has (cells net) =
       eq-eqb (length b) (2 * cells net) e
       ∙ sym (eq-eqb (length t) (cells net) (bytes-rightly b net .sized e)) in
-      playing-alike sheet (asBytes b) (asMinutes t) (λ _. record { has = right; minutes = λ _. refl }) (λ Γ. dueText Γ t m text)
+      playing-alike sheet (asBytes b) (asMinutes t) (λ _. record { has = right; minutes = λ _. refl })
+      (λ Γ. dueText Γ t m text)
       (λ Γ. due Γ t m (heardIn text)) (λ _ _. due-heard net t m (lettered sheet a) text h)
 
 pub benched : Benched

@@ -44,7 +44,8 @@ demands = record {
       (λ e. judge-breaches sheet (asMinutes t) (minutes t) (r .accepted) (minutes-rightly t (read sheet .network)) e b);
   refused = λ sheet m Γ r. rw (← r .network) (λ room. refuses-13 sheet (inPlace m) (r .accepted) room);
   solved = λ sheet m Γ r. rw (← r .network)
-      (λ room n. let s = solves-least sheet (inPlace m) (r .accepted) room n in (s .0, s .1, wrote (s .0) m (sym (s .2))));
+      (λ room n. let s = solves-least sheet (inPlace m) (r .accepted) room n in
+      (s .0, s .1, wrote (s .0) m (sym (s .2))));
   lists = λ sheet t m Γ r. rw (← r .network)
       (λ e. listing-wrote sheet (asMinutes t) (minutes t) m (r .accepted) (minutes-rightly t (read sheet .network)) e);
   bench = benched;

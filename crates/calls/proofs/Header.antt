@@ -113,7 +113,8 @@ module _ (sheet b : List ℕ) where
   pub header-lister : (m : List ℕ) → Short (minutesOf b)
       → let v = writtenValues (benchListed sheet b m .answer) in CountHolds (packedCount v) v
   header-lister m times =
-      count-holds sheet (lists (bytes b) sheet (minutesOf b) m) (writtenValues (benchListed sheet b m .answer)) refl refl
+      count-holds sheet (lists (bytes b) sheet (minutesOf b) m) (writtenValues (benchListed sheet b m .answer))
+      refl refl
       (numbers .bench-lister sheet b m .answers) (listing-small sheet (asBytes b) m (λ _ _. times))
 
   pub header-player : (m : ℕ) (text : List ℕ)

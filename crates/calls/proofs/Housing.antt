@@ -34,8 +34,8 @@ by-sheet P h sheet f Γ form =
 
 all-written : (sheet m f : List ℕ) (Γ : Network) → Form sheet Γ f → length f ≤ length m → Wrote f m (housed sheet m)
 all-written sheet m f Γ form =
-    by-sheet (λ sheet Γ f. length f ≤ length m → Wrote f m (housed sheet m)) (λ sheet a. house-wrote sheet m a) sheet f Γ
-    form
+    by-sheet (λ sheet Γ f. length f ≤ length m → Wrote f m (housed sheet m)) (λ sheet a. house-wrote sheet m a)
+    sheet f Γ form
 
 again : (sheet f : List ℕ) (Γ : Network) → Form sheet Γ f → (Δ : Network) × Form f Δ f
 again =
@@ -57,7 +57,8 @@ tables : (sheet f : List ℕ) (Γ Δ : Network) → Form sheet Γ f → Reads f 
 tables sheet f Γ Δ form reads =
     by-sheet (λ sheet Γ f. (Δ : Network) → read f .network ≡ Δ → SameTables Γ Δ)
     (λ sheet a few Δ n. rw (← n)
-    (let good = form-tables sheet a few in record { good = good; least = same-least good; none = same-inconsistent good }))
+    (let good = form-tables sheet a few in
+    record { good = good; least = same-least good; none = same-inconsistent good }))
     sheet f Γ form Δ (reads .network)
 
 equal : (sheet other f g : List ℕ) (Γ Δ : Network) → Form sheet Γ f → Form other Δ g → (f ≡ g) ↔ Same sheet Γ other Δ

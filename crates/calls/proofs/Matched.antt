@@ -88,6 +88,7 @@ module _ {A B : Type 0} (values : A → Values B) (nothing : B) (refuse : Refusa
 
   pub writes-call : Writes sheet own values nothing left m
   writes-call = record {
-    answers = answers-call (λ (l : Left A). values (l .answer)) nothing refuse turned sheet tests work own above matches done;
+    answers = answers-call (λ (l : Left A). values (l .answer)) nothing refuse turned sheet tests work own above
+        matches done;
     keeps = keeps-by (ends refuse sheet tests work);
   }

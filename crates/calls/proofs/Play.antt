@@ -1,5 +1,5 @@
--- The letters of an accepted sheet's signals are those of its layout, which is what the player asks for; so playing by the
--- mask of a list is playing by the list. Assumes nothing.
+-- The letters of an accepted sheet's signals are those of its layout, which is what the player asks for; so playing by
+-- the mask of a list is playing by the list. Assumes nothing.
 use mathlib.Core.Path.{_≡_, refl, sym, _∙_, ap}
 use mathlib.Core.List.{List}
 use Prim.Native.Nat.{ℕ, _<_}
@@ -41,5 +41,6 @@ pub events-due-said : (sheet t : List ℕ) (m : ℕ) (hs : List Heard)
     → eventsDueOn sheet t m (saidFrom 0 hs) ≡ eventsDue sheet t m hs
 unfolding eventsDue eventsDueOn
 events-due-said sheet t m hs =
-    playing-alike sheet (asMinutes t) (asMinutes t) (λ _. itself (asMinutes t) _) (λ Γ. dueOn Γ t m (saidFrom 0 hs)) (λ Γ. due Γ t m hs)
+    playing-alike sheet (asMinutes t) (asMinutes t) (λ _. itself (asMinutes t) _) (λ Γ. dueOn Γ t m (saidFrom 0 hs))
+    (λ Γ. due Γ t m hs)
     (λ a _. due-said (read sheet .network) t m hs (lettered sheet a))

@@ -1,5 +1,5 @@
--- The player's refusals: the table's length, then the judge, then what is heard. One argument for lists, masks and texts,
--- and for tables of minutes and of bytes. Assumes nothing.
+-- The player's refusals: the table's length, then the judge, then what is heard. One argument for lists, masks and
+-- texts, and for tables of minutes and of bytes. Assumes nothing.
 use mathlib.Core.Path.{_≡_, refl, sym, _∙_, ap}
 use mathlib.Core.Logic.{_↔_}
 use mathlib.Core.Bool.{true, false}

@@ -79,7 +79,8 @@ module _ (sheet : List ℕ) (a : read sheet .outcome ≡ Accepted) where
       λ s u l k. omega (arith, good .on-time s u l k .in-horizon, formed .0 .horizon) in
       let short = listing-short sheet net σ (formed .0) (formed .1) times in
       wrote-on (listed sheet σ page) (listing sheet net σ) page (λ t. t)
-      (listing-wrote sheet (asMinutes σ) (minutes σ) page a (minutes-rightly σ net) (good .sized) (omega (arith, short)))
+      (listing-wrote sheet (asMinutes σ) (minutes σ) page a (minutes-rightly σ net) (good .sized)
+      (omega (arith, short)))
 
   table-on : (σ m page : List ℕ) → Least net σ → L.cells ≤ length m → mostListing ≤ length page
       → tableOn m page sheet ≡ listing sheet net σ

@@ -1,5 +1,5 @@
--- Every number of an answer fits its bytes: a breach names cells of a network, a table has at most 256 minutes, texts are
--- short, and there are at most sixteen events. Assumes nothing.
+-- Every number of an answer fits its bytes: a breach names cells of a network, a table has at most 256 minutes, texts
+-- are short, and there are at most sixteen events. Assumes nothing.
 use mathlib.Core.Path.{_≡_, refl, sym, _∙_, ap}
 use mathlib.Core.Bool.{Bool, true, false, cond}
 use mathlib.Core.Option.{Option, none, some}
@@ -44,7 +44,8 @@ use Rattle.canonical.proofs.Again.{form-short}
 use Rattle.calls.specs.Values.{Values, turnedAway}
 use Rattle.calls.specs.Call.{withoutLine, call, Left}
 use Rattle.calls.specs.Lent.{Handed, Lent, inPlace}
-use Rattle.calls.specs.Calls.{judgingTests, judging, writtenValues, writing, refusing, solvingTests, solvingInto, listingTests}
+use Rattle.calls.specs.Calls.{judgingTests, judging, writtenValues, writing, refusing, solvingTests, solvingInto}
+use Rattle.calls.specs.Calls.{listingTests}
 use Rattle.calls.specs.Calls.{listingOf, houseTests, housed}
 use Rattle.calls.specs.Play.{eventsOf, playingTests, playing, dueValues}
 use Rattle.calls.specs.Bench.{Small, verdictValues, breachValues}

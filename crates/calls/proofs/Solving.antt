@@ -106,7 +106,8 @@ module _ (sheet : List ℕ) (m : Lent) where
 
   pub solver-writes : Writes sheet (solves (m .room)) writtenValues 0 (solvingInto sheet m) (m .before)
   solver-writes =
-      writes-call writtenValues 0 (refusing m) (λ r. refl) (m .before) (λ r. refl) sheet (solvingTests m) work (solves (m .room)) refl
+      writes-call writtenValues 0 (refusing m) (λ r. refl) (m .before) (λ r. refl) sheet (solvingTests m) work
+      (solves (m .room)) refl
       (λ a. (
         refl,
         (leb-false (cells net) (m .room), lt-leb (cells net) (m .room)),

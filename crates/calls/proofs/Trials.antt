@@ -78,7 +78,8 @@ trials =
     -- 9
     ∷ trial (plain "horizon,60" "max,door,start,-5,-") ("case,start,door" ∷ "-,0,5" ∷ [])
     -- 10
-    ∷ trial ("horizon,60" ∷ "events,2" ∷ "start" ∷ "door" ∷ "signals,1" ∷ "p,start" ∷ "rules,1" ∷ "min,start,door,10,p" ∷ [])
+    ∷ trial ("horizon,60" ∷ "events,2" ∷ "start" ∷ "door" ∷ "signals,1" ∷ "p,start" ∷ "rules,1"
+    ∷ "min,start,door,10,p" ∷ [])
     ("case,start,door" ∷ "F,0,1" ∷ "T,0,10" ∷ [])
     -- 11
     ∷ trial (safe ("rules,3" ∷ "min,start,call,5,-" ∷ "min,start,door,10,p" ∷ "max,start,door,6,!p" ∷ []))
@@ -91,7 +92,8 @@ allAgree [] = true
 allAgree (t ∷ ts) = same (tableText (lines (t .sheet))) (lines (t .prints)) && allAgree ts
 
 pub trials-agree : allAgree trials ≡ true
-unfolding isNumber inRange satisfies covers reaction sectionTests eventTests signalTests endsTests ruleTests progress propagate solve listing
+unfolding isNumber inRange satisfies covers reaction sectionTests eventTests signalTests endsTests ruleTests progress
+    propagate solve listing
 trials-agree = refl
 
 -- of the first trial: a table, a minute, a list, and the number and the events that are answered
@@ -137,5 +139,6 @@ allAnswered (q ∷ qs) =
     (eqb (v .number) (q .number) && (eqb (v .line) 0 && eqb (v .value) (q .events))) && allAnswered qs
 
 pub questions-answered : allAnswered questions ≡ true
-unfolding isNumber inRange satisfies covers reaction sectionTests eventTests signalTests endsTests ruleTests progress verdict due eventsDue
+unfolding isNumber inRange satisfies covers reaction sectionTests eventTests signalTests endsTests ruleTests progress
+    verdict due eventsDue
 questions-answered = refl

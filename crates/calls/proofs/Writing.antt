@@ -44,7 +44,8 @@ module _ (sheet : List ℕ) (t : Handed) (right : Network → Type 0) (m : List 
   pub lister-writes : (read sheet .outcome ≡ Accepted → Rightly t right net)
       → Writes sheet (lists right sheet (t .minutes) m) writtenValues 0 (listingOf sheet t m) m
   lister-writes rightly =
-      writes-call writtenValues 0 (refusing (inPlace m)) (λ r. refl) m (λ r. refl) sheet (listingTests sheet t (inPlace m))
+      writes-call writtenValues 0 (refusing (inPlace m)) (λ r. refl) m (λ r. refl) sheet
+      (listingTests sheet t (inPlace m))
       (λ Γ. writing (inPlace m) (text Γ)) (lists right sheet (t .minutes) m) refl
       (λ a. (refl, rightly a .no, λ _. (refl, short (length (text net)) (length m), λ _. tt))) (λ Γ. (refl, refl))
 
@@ -52,7 +53,8 @@ module _ (sheet : List ℕ) (t : Handed) (right : Network → Type 0) (m : List 
       → Wrote (text net) m (listingOf sheet t m)
   listing-wrote a rightly h room =
       wrote (text net) m
-      (call-works (refusing (inPlace m)) sheet (listingTests sheet t (inPlace m)) (λ Γ. writing (inPlace m) (text Γ)) (read sheet) refl a
+      (call-works (refusing (inPlace m)) sheet (listingTests sheet t (inPlace m)) (λ Γ. writing (inPlace m) (text Γ))
+      (read sheet) refl a
       (rightly .yes .1 h, (le-leb (length (text net)) (length m) room, tt)))
 
 module _ (sheet m : List ℕ) where
@@ -61,7 +63,8 @@ module _ (sheet m : List ℕ) where
 
   pub house-writes : Writes sheet (houses sheet m) writtenValues 0 (housed sheet m) m
   house-writes =
-      writes-call writtenValues 0 (refusing (inPlace m)) (λ r. refl) m (λ r. refl) sheet (houseTests sheet (inPlace m)) form-work
+      writes-call writtenValues 0 (refusing (inPlace m)) (λ r. refl) m (λ r. refl) sheet (houseTests sheet (inPlace m))
+      form-work
       (houses sheet m) refl
       (λ a. (
         refl,
@@ -82,5 +85,6 @@ module _ (sheet m : List ℕ) where
     pub house-many : L.rules < length (remainingOf (read sheet .network))
         → housed sheet m ≡ refusing (inPlace m) (withoutLine C.TooManyRows)
     house-many many =
-        sym (call-fails (refusing (inPlace m)) sheet (houseTests sheet (inPlace m)) form-work (read sheet) refl a C.TooManyRows
+        sym (call-fails (refusing (inPlace m)) sheet (houseTests sheet (inPlace m)) form-work (read sheet) refl a
+        C.TooManyRows
         (inl (many-do-not (remainingOf (read sheet .network)) many, refl)))

@@ -5,8 +5,6 @@ use mathlib.Core.List.{List, [], _∷_}
 use Prim.Native.Nat.{ℕ}
 use lib.Dec.{leb}
 use lib.ListN.{length}
-use Rattle.page.specs.declared.Filled as PD
-use Rattle.page.specs.declared.Filled.the-variants as PW
 use Rattle.refusal.specs.declared.Cause.{Cause}
 use Rattle.refusal.specs.declared.Refusal.{Refusal}
 use Rattle.refusal.specs.declared.Cause.the-variants.{WrongTableLength, BufferTooShort, Inconsistent, TooManyRows}
@@ -22,7 +20,7 @@ use Rattle.listing.specs.Listing.{listing}
 use Rattle.tighten.specs.Tightest.{remainingOf}
 use Rattle.canonical.specs.House.{houseText}
 use Rattle.calls.specs.Values.{Values, done, turnedAway}
-use Rattle.calls.specs.Call.{withoutLine, call, Left}
+use Rattle.calls.specs.Call.{call, Left}
 use Rattle.calls.specs.Lent.{Handed, asMinutes, Lent, inPlace}
 use Rattle.calls.specs.declared.Counts.{Counts}
 use Rattle.calls.specs.declared.Summary.{Summary}
@@ -78,11 +76,6 @@ module _ (m : Lent) where
   -- refused: the memory keeps its contents
   abbrev pub refusing : Refusal → Left Written
   refusing r = record { answer = W.Refused r; memory = m .before }
-
--- the answer by what a writer did
-abbrev pub handedOut : PD.Filled → Written
-handedOut (PW.Bytes n) = W.Count n
-handedOut PW.TooShort = W.Refused (withoutLine BufferTooShort)
 
 -- solving: the run ends at the least solution, or there is none
 abbrev pub rests : End → Bool

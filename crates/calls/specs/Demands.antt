@@ -1,6 +1,6 @@
 -- The three demands, as statements about every sheet, table and lent buffer. They speak of the definitions that the
--- calls' contracts are equations with: `summary`, `judgement`, `solving` and `listed` (Calls), in `Numbers` and `Benched`
--- those of all calls, and of their answers in the papers' numbers.
+-- calls' contracts are equations with: `summary`, `judgement`, `solving` and `listed` (Calls), in `Numbers` and
+-- `Benched` those of all calls, and of their answers in the papers' numbers.
 use mathlib.Core.Path.{_≡_}
 use mathlib.Core.Logic.{_↔_}
 use mathlib.Core.List.{List}

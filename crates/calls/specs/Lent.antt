@@ -1,6 +1,6 @@
--- How a table is handed in, and how memory is lent: as it is, or by the bench's C program, where "a table travels as two
--- bytes a minute, low byte first. For the judge an odd number of bytes is refusal 11; the solver counts the whole pairs
--- it is lent" (01, The judge's verdict).
+-- How a table is handed in, and how memory is lent: as it is, or by the bench's C program, where "a table travels as
+-- two bytes a minute, low byte first. For the judge an odd number of bytes is refusal 11; the solver counts the whole
+-- pairs it is lent" (01, The judge's verdict).
 use mathlib.Core.Bool.{Bool}
 use mathlib.Core.List.{List, _++_}
 use Prim.Native.Nat.{ℕ, _*_, _/_}

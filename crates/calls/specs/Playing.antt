@@ -53,4 +53,5 @@ module _ (sheet t : List ℕ) where
 pub record Playing : Type 0 where
   pub plays : (sheet t : List ℕ) (Γ : Network) → Reads sheet Γ → Solution Γ t → Plays sheet t Γ
   -- the mask of a list says what the list does
-  pub by-mask : (sheet t : List ℕ) (m : ℕ) (hs : List Heard) → eventsDueOn sheet t m (saidFrom 0 hs) ≡ eventsDue sheet t m hs
+  pub by-mask : (sheet t : List ℕ) (m : ℕ) (hs : List Heard)
+      → eventsDueOn sheet t m (saidFrom 0 hs) ≡ eventsDue sheet t m hs

@@ -33,17 +33,21 @@ use Rattle.tighten.specs.Tightest.{remainingOf}
 use Rattle.canonical.specs.House.{houseText}
 use Rattle.calls.specs.Call.{withoutLine, Left, Leaves}
 use Rattle.calls.specs.Lent.{inPlace}
-use Rattle.calls.specs.Calls.{enough, writing, refusing, handedOut, rests, solvingTests, solving, listed, fit}
+use Rattle.calls.specs.Calls.{enough, writing, refusing, rests, solvingTests, solving, listed, fit}
 use Rattle.calls.specs.Calls.{houseTests, housed}
 use Rattle.calls.specs.declared.Written.{Written}
 use Rattle.calls.specs.declared.Written.the-variants as W
 use Rattle.calls.proofs.Call.{call-refused, call-fails, call-works}
-use Rattle.opening.specs.Prologue.{behind, handedIn}
+use Rattle.opening.specs.Prologue.{behind, handedIn, handedOut}
 use Rattle.opening.proofs.Prologue.{behind-accepted, behind-refused, handed-refused, handed-fails, handed-works}
 
 -- what was promised of one definition is promised of an equal one
 pub leaves-as : {l k : Left Written} {r : Written} {m : List ℕ} → l ≡ k → Leaves l r m → Leaves k r m
 leaves-as e h = rw (← e) h
+
+-- and so of an equal answer
+pub answered-as : {l : Left Written} {r r′ : Written} {m : List ℕ} → Leaves l r m → r ≡ r′ → Leaves l r′ m
+answered-as h e = record { answer = sym e ∙ h .answer; memory = h .memory }
 
 -- a refusal leaves the memory as it was
 pub kept : {l : Left Written} (m : List ℕ) (r : Refusal) → refusing (inPlace m) r ≡ l → Leaves l (W.Refused r) m

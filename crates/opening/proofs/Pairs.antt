@@ -1,5 +1,5 @@
--- Solving into pairs of bytes by solving into minutes: the same answer, and what was written is written as pairs. Assumes
--- nothing.
+-- Solving into pairs of bytes by solving into minutes: the same answer, and what was written is written as pairs.
+-- Assumes nothing.
 use mathlib.Core.Path.{_≡_, refl, sym, _∙_, ap, subst}
 use mathlib.Core.Logic.{inl, inr}
 use mathlib.Core.Bool.{Bool}
@@ -35,7 +35,8 @@ use Rattle.calls.proofs.Call.{Ends, faulty, failed, worked, ends, call-refused,
 use Rattle.calls.proofs.Handed.{cells-few}
 use Rattle.calls.proofs.Solving.{rests-true}
 
-pub packed-as : {l k : Left Written} {r : ℕ} {m : List ℕ} → l ≡ k → Leaves (packedLeft l) r m → Leaves (packedLeft k) r m
+pub packed-as : {l k : Left Written} {r : ℕ} {m : List ℕ} → l ≡ k → Leaves (packedLeft l) r m
+    → Leaves (packedLeft k) r m
 packed-as e h = rw (← e) h
 
 -- minutes are lent for as many whole pairs as a table may need
@@ -76,7 +77,8 @@ module _ (sheet b z : List ℕ) (size : length z ≡ 256) (k : ℕ) (lent : k �
       by-end : Ends (refusing (inPlace m)) sheet (solvingTests (inPlace m)) (work (inPlace m)) → Both
       by-end (faulty r p e) =
           both-refused r e
-          (call-refused (refusing (inPairs b)) sheet (solvingTests (inPairs b)) (work (inPairs b)) (read sheet) refl r p)
+          (call-refused (refusing (inPairs b)) sheet (solvingTests (inPairs b)) (work (inPairs b)) (read sheet)
+          refl r p)
       by-end (failed a c f e) =
           both-refused (withoutLine c) e
           (call-fails (refusing (inPairs b)) sheet (solvingTests (inPairs b)) (work (inPairs b)) (read sheet) refl a c
@@ -95,7 +97,8 @@ module _ (sheet b z : List ℕ) (size : length z ≡ 256) (k : ℕ) (lent : k �
     where
       by-both : Both → Leaves (packedLeft (benchSolving sheet b)) p b
       by-both (both-refused r′ e e′) =
-          let same : r ≡ r′ = let z : W.Refused r ≡ W.Refused r′ = left .answer ∙ ap (λ (l : Left Written). l .answer) (sym e) in cc in
+          let told : W.Refused r ≡ W.Refused r′ = left .answer ∙ ap (λ (l : Left Written). l .answer) (sym e) in
+          let same : r ≡ r′ = cc in
           packed-as e′ (record { answer = q ∙ ap (λ (y : Refusal). packedCount (turnedAway 0 y)) same; memory = refl })
       by-both (both-wrote σ _ _ e e′) =
           let z : W.Refused r ≡ W.Count (length σ) = left .answer ∙ ap (λ (l : Left Written). l .answer) (sym e) in

@@ -92,7 +92,8 @@ read-few sheet =
     Few : Network → Type 0
     Few Γ = (Γ .events ≤ L.events) × (Γ .signals ≤ L.signals)
 
-    by-progress : (p : Progress) → (answered p .outcome ≡ Accepted → Few (answered p .network)) → Few (answered p .network)
+    by-progress : (p : Progress) → (answered p .outcome ≡ Accepted → Few (answered p .network))
+        → Few (answered p .network)
     by-progress (Stop r) h = (omega arith, omega arith)
     by-progress (Go Γ at k) h = h refl
 

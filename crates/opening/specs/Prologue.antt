@@ -1,9 +1,12 @@
--- The refusal before a call's own work, as the functions of the code that several calls share answer it.
+-- What the functions of the code answer that several calls share: the refusal before a call's own work, and how the
+-- answers of writers and of the player become the call's.
 use mathlib.Core.Bool.{Bool}
 use mathlib.Core.List.{List, [], _∷_}
 use Prim.Native.Nat.{ℕ}
 use lib.Dec.{eqb}
 use Rattle.prelude.specs.Checks.{firstFailing}
+use Rattle.page.specs.declared.Filled.{Filled}
+use Rattle.page.specs.declared.Filled.the-variants as F
 use Rattle.refusal.specs.declared.Cause.{Cause}
 use Rattle.refusal.specs.declared.Cause.the-variants as C
 use Rattle.network.specs.Build.{cells}
@@ -15,6 +18,8 @@ use Rattle.dispatch.specs.declared.Dispatched.the-variants as P
 use Rattle.calls.specs.Call.{withoutLine, tested}
 use Rattle.calls.specs.declared.Due.{Due}
 use Rattle.calls.specs.declared.Due.the-variants as D
+use Rattle.calls.specs.declared.Written.{Written}
+use Rattle.calls.specs.declared.Written.the-variants as W
 
 -- the outcome, and behind it one test of the call
 abbrev pub behind : Outcome → Bool → Cause → Outcome
@@ -25,6 +30,11 @@ abbrev pub handedIn : List ℕ → ℕ → Reading
 handedIn sheet n =
     let g = read sheet in
     record { outcome = behind (g .outcome) (eqb n (cells (g .network))) C.WrongTableLength; network = g .network }
+
+-- what a writer did, as the call's answer
+abbrev pub handedOut : Filled → Written
+handedOut (F.Bytes n) = W.Count n
+handedOut F.TooShort = W.Refused (withoutLine C.BufferTooShort)
 
 -- what the player says, as the call's answer
 abbrev pub answerTo : Dispatched → Due

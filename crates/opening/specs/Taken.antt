@@ -1,5 +1,5 @@
--- A table that comes as bytes, taken over into a lent table of minutes: so many stand in front of it. Where the bytes are
--- no sheet's table, their count being odd or too great, the number is one that no sheet's table has.
+-- A table that comes as bytes, taken over into a lent table of minutes: so many stand in front of it. Where the bytes
+-- are no sheet's table, their count being odd or too great, the number is one that no sheet's table has.
 use mathlib.Core.Path.{_≡_}
 use mathlib.Core.Logic.{_↔_}
 use mathlib.Core.List.{List}

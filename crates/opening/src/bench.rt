@@ -1,5 +1,5 @@
-// The calls of the workshop bench, which is written in C: byte slices and numbers only. A table travels as two bytes
-// a minute, low byte first, and an answer is one number, whose bytes include/opening.h explains. Each is the public call
+// The calls of the workshop bench, which is written in C: byte slices and numbers only. A table travels as two bytes a
+// minute, low byte first, and an answer is one number, whose bytes include/opening.h explains. Each is the public call
 // on the minutes of the bytes.
 ghost use mathlib.Core.Path.{_≡_};
 ghost use Prim.Native.Nat.{_+_, _/_, _<_, min};
@@ -139,8 +139,8 @@ pub extern "C" fn opening_solve(sheet: &[u8], table: &mut [u8]) -> u64
 // The listing for C.
 #[no_mangle]
 pub extern "C" fn opening_listing(sheet: &[u8], table: &[u8], out: &mut [u8]) -> u64
-    ensures { λ r. ⌜ Leaves (B.packedLeft (B.benchListed (now (sheet .entry)) (now (table .entry)) (now (out .entry)))) r
-        (now (out .exit)) ⌝ }
+    ensures { λ r. ⌜ Leaves (B.packedLeft (B.benchListed (now (sheet .entry)) (now (table .entry))
+        (now (out .entry)))) r (now (out .exit)) ⌝ }
 {
     let mut minutes = [0u16; TAKEN];
     let count = take(table, &mut minutes);

@@ -2,9 +2,9 @@
 // one, and a refusal leaves the lent memory as it was.
 ghost use mathlib.Core.Path.{_≡_};
 ghost use Rattle.calls.specs.Call.{withoutLine, Leaves};
-ghost use Rattle.calls.specs.Calls.{summary, judgement, solving, listed, housed, handedOut};
+ghost use Rattle.calls.specs.Calls.{summary, judgement, solving, listed, housed};
 ghost use Rattle.calls.specs.Play.{eventsDue, eventsDueOn};
-ghost use Rattle.opening.specs.Prologue.{behind, handedIn, answerTo};
+ghost use Rattle.opening.specs.Prologue.{behind, handedIn, handedOut, answerTo};
 use calls::Counts;
 use calls::Due;
 use calls::Judgement;
@@ -126,7 +126,8 @@ fn handed_out(filled: page::Filled) -> Written
 
 // The listing of any table of the right length, into the first bytes of out.
 pub fn write_listing(sheet: &[u8], table: &[u16], out: &mut [u8]) -> Written
-    ensures { λ r. ⌜ Leaves (listed (now (sheet .entry)) (now (table .entry)) (now (out .entry))) r (now (out .exit)) ⌝ }
+    ensures { λ r. ⌜ Leaves (listed (now (sheet .entry)) (now (table .entry)) (now (out .entry))) r
+        (now (out .exit)) ⌝ }
 {
     let reading = handed_in(sheet, table.len());
     let outcome = reading.outcome;

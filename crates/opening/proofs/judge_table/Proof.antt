@@ -1,3 +1,4 @@
+-- `opening::judge_table` meets its contract: where the table is handed in rightly, it is judged. Assumes nothing.
 use mathlib.Core.Path.{_∙_, ap}
 use mathlib.Core.List.{[]}
 use denote.Ref.{now}
@@ -7,43 +8,38 @@ use Rattle.opening.proofs.Prologue.{right, handed-refused, handed-works
 use borrow.Author.Needs.{needs}
 use Rattle.opening.proofs.judge_table.Statement.{statement}
 use Rattle.opening.proofs.judge_table.Tie as tie
-use Rattle.opening.proofs.judge_table.Reads as reads
-use Rattle.opening.proofs.judge_table.Lts as lts
-use Rattle.checker.proofs.check.Reads as check-reads
-use Rattle.opening.proofs.handed_in.Reads as handed-in-reads
 
--- src/lib.rt:89:9
-handed-in-requires : tie.Need-handed-in-requires
-handed-in-requires c κs = search needs
-
--- src/lib.rt:93:26
-enum-known-outcome : tie.Need-enum-known-outcome
-enum-known-outcome c = search needs
-
--- src/lib.rt:94:48
-enum-told : tie.Need-enum-told
-enum-told c = search needs
-
--- src/lib.rt:94:48
 check-requires : tie.Need-check-requires
-check-requires c κs = let args = c .before .before .before .before .before .before .args in let read = c .before .before .before .handed-in in
+check-requires c κs =
+    let at-handed-in = c .before .before .before in
+    let at-args = at-handed-in .before .before .before in
+    let args = at-args .args in
+    let read = at-handed-in .handed-in in
     let r = right (now (args .sheet)) (now (args .table)) (read .result) (read .ensures) (c .enum-told .given .1) in
     (r .well-formed, r .sized)
 
--- src/lib.rt:86:1
 returns : tie.Need-returns
-returns c = let args = c .before .before .before .before .before .before .before .args in let read = c .before .before .before .before .handed-in in
+returns c =
+    let at-outcome = c .before in
+    let at-handed-in = at-outcome .before .before .before in
+    let at-args = at-handed-in .before .before .before in
+    let args = at-args .args in
+    let read = at-handed-in .handed-in in
     handed-refused (now (args .sheet)) (now (args .table)) (read .result) (read .ensures) J.Refused (λ _. [])
-    (λ Γ. J.Judged (verdict Γ (now (args .table)))) (c .before .outcome .given .0 .0) (c .before .outcome .given .1)
+    (λ Γ. J.Judged (verdict Γ (now (args .table)))) (at-outcome .outcome .given .0 .0) (at-outcome .outcome .given .1)
 
--- src/lib.rt:86:1
 returns-2 : tie.Need-returns-2
-returns-2 c = let args = c .before .before .before .before .before .before .before .args in let read = c .before .before .before .before .handed-in in
-    ap J.Judged (c .check .ensures)
-    ∙ handed-works (now (args .sheet)) (now (args .table)) (read .result) (read .ensures) J.Refused (λ _. [])
-    (λ Γ. J.Judged (verdict Γ (now (args .table)))) (c .before .enum-told .given .1) tt
+returns-2 c =
+    let at-enum-told = c .before in
+    let at-handed-in = at-enum-told .before .before .before in
+    let at-args = at-handed-in .before .before .before in
+    let args = at-args .args in
+    let read = at-handed-in .handed-in in
+    ap J.Judged (c .check .ensures) ∙ handed-works (now (args .sheet)) (now (args .table)) (read .result)
+    (read .ensures) J.Refused (λ _. []) (λ Γ. J.Judged (verdict Γ (now (args .table))))
+    (at-enum-told .enum-told .given .1) tt
 
 pub judge-table-spec : {M : Type 1} → statement M
 judge-table-spec =
     tie.close
-    (tie.spec handed-in-requires enum-known-outcome enum-told check-requires returns returns-2)
+    (tie.spec (λ c κs. search needs) (λ c. search needs) (λ c. search needs) check-requires returns returns-2)

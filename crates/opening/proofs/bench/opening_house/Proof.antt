@@ -1,4 +1,5 @@
-use mathlib.Core.Path.{_≡_, sym, _∙_, ap}
+-- `opening::bench::opening_house` meets its contract: a house form is short. Assumes nothing.
+use mathlib.Core.Path.{_∙_, ap}
 use denote.Ref.{now}
 use Rattle.calls.specs.Calls.{writtenValues}
 use Rattle.calls.specs.Bench.{packedCount}
@@ -7,28 +8,22 @@ use Rattle.calls.proofs.Small.{house-small}
 use borrow.Author.Needs.{needs}
 use Rattle.opening.proofs.bench.opening_house.Statement.{statement}
 use Rattle.opening.proofs.bench.opening_house.Tie as tie
-use Rattle.opening.proofs.bench.opening_house.Reads as reads
-use Rattle.opening.proofs.bench.opening_house.Lts as lts
-use Rattle.opening.proofs.bench.packed_written.Reads as packed-written-reads
-use Rattle.opening.proofs.write_house.Reads as write-house-reads
 
--- src/bench.rt:155:20
-write-house-requires : tie.Need-write-house-requires
-write-house-requires c κs = search needs
-
--- src/bench.rt:155:5
 packed-written-requires : tie.Need-packed-written-requires
-packed-written-requires c κs = let left = c .before .before .write-house .ensures in rw (left .answer) (house-small (now (c .before .before .before .before .before .before .args .sheet)) (now (c .before .before .before .before .before .before .args .out)))
+packed-written-requires c κs =
+    let at-write-house = c .before .before in
+    let at-args = at-write-house .before .before .before .before in
+    let left = at-write-house .write-house .ensures in
+    rw (left .answer) (house-small (now (at-args .args .sheet)) (now (at-args .args .out)))
 
--- src/bench.rt:151:1
-same-length : tie.Need-same-length
-same-length c = search needs
-
--- src/bench.rt:151:1
 returns : tie.Need-returns
-returns c = let left = c .before .before .before .write-house .ensures in
-    record { answer = c .packed-written .ensures ∙ ap (λ (w : Written). packedCount (writtenValues w)) (left .answer); memory = left .memory }
+returns c =
+    let at-write-house = c .before .before .before in
+    let left = at-write-house .write-house .ensures in
+    record {
+      answer = c .packed-written .ensures ∙ ap (λ (w : Written). packedCount (writtenValues w)) (left .answer);
+      memory = left .memory;
+    }
 
 pub opening-house-spec : {M : Type 1} → statement M
-opening-house-spec =
-    tie.close (tie.spec write-house-requires packed-written-requires same-length returns)
+opening-house-spec = tie.close (tie.spec (λ c κs. search needs) packed-written-requires (λ c. search needs) returns)
