@@ -68,7 +68,8 @@ equal z w hz hw =
       | inr e ↦
           e ∙ sym (false-of-not-true (leZ z w && leZ w z) λ t.
           let p = and-true (leZ z w) (leZ w z) t in
-          clash (eqb (ofZ w32 z) (ofZ w32 w)) (eq-eqb (ofZ w32 z) (ofZ w32 w) (ap (ofZ w32) (leZ-antisym z w (p .0) (p .1)))) e)
+          clash (eqb (ofZ w32 z) (ofZ w32 w))
+          (eq-eqb (ofZ w32 z) (ofZ w32 w) (ap (ofZ w32) (leZ-antisym z w (p .0) (p .1)))) e)
     ]
 
 -- the times a and b, of 16 bits

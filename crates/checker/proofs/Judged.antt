@@ -48,7 +48,8 @@ module _ (Γ : Network) (σ : List ℕ) where
 
   broken : Decided (scenarios Γ) (Γ .rules) Rule (λ s c. Holds Γ σ s (constraint Γ c)) (firstBroken Γ σ)
   broken =
-      decided (scenarios Γ) (Γ .rules) Rule (λ s c. Holds Γ σ s (constraint Γ c)) (λ s c. doesHold Γ σ s (constraint Γ c))
+      decided (scenarios Γ) (Γ .rules) Rule (λ s c. Holds Γ σ s (constraint Γ c))
+      (λ s c. doesHold Γ σ s (constraint Γ c))
       (λ s c. doesHold-iff Γ σ s (constraint Γ c))
 
   unheard : (s : ℕ) → Decided (scenarios Γ) (Γ .events) (Unheard s) (Alike Γ σ s) (unheardFrom Γ σ s)
@@ -69,7 +70,8 @@ module _ (Γ : Network) (σ : List ℕ) where
   pub kept-of-pass : verdict Γ σ ≡ Pass → Kept
   unfolding verdict
   kept-of-pass e =
-      let p = orElse-none (firstLate Γ σ) (orElse (firstBroken Γ σ) (firstUnheard Γ σ)) (none-of-pass (firstBreach Γ σ) e) in
+      let p = orElse-none (firstLate Γ σ) (orElse (firstBroken Γ σ) (firstUnheard Γ σ))
+      (none-of-pass (firstBreach Γ σ) e) in
       let q = orElse-none (firstBroken Γ σ) (firstUnheard Γ σ) (p .1) in
       record { on-time = late .nowhere .0 (p .0); viable = broken .nowhere .0 (q .0); dynamic = none-unheard .0 (q .1) }
 
@@ -93,7 +95,8 @@ module _ (Γ : Network) (σ : List ℕ) where
   first-broken b on-time e =
       let w = broken .first b e in
       let first : FirstRule Γ σ (w .outer) (w .inner) =
-      record { scenario = w .outer-lt; place = w .inner-lt; breaks = w .breaks; before = w .before; on-time = on-time } in
+      record { scenario = w .outer-lt; place = w .inner-lt; breaks = w .breaks; before = w .before; on-time = on-time }
+      in
       rw (← w .named) first
 
   first-unheard : (b : Breach) → OnTimes → Viable → firstUnheard Γ σ ≡ some b → First Γ σ b

@@ -46,7 +46,8 @@ module _ (Γ : Network) (σ : List ℕ) (m : ℕ) where
   history-indistinct lettered {s} {r} heard a b = record {
     unknown = λ p h d. false-of-not-true (known Γ σ s p m) (λ k.
         let mine = and-both (known Γ σ s p m) (Bool·beq (truth s p) (truth s p)) k (beq-refl (truth s p)) in
-        let yours = sym (told-of-history Γ σ m lettered b p (truth s p) h) ∙ (told-of-history Γ σ m lettered a p (truth s p) h ∙ mine) in
+        let yours = sym (told-of-history Γ σ m lettered b p (truth s p) h)
+        ∙ (told-of-history Γ σ m lettered a p (truth s p) h ∙ mine) in
         clash (agree r s p) (and-true (known Γ σ r p m) (agree r s p) yours .1) (agree-comm r s p ∙ d));
   }
 
@@ -55,7 +56,8 @@ module _ (Γ : Network) (σ : List ℕ) (m : ℕ) where
     same-time : {s r : ℕ} → s < scenarios Γ → r < scenarios Γ → Indistinct Γ σ s r m
         → (u : ℕ) → u < Γ .events → at s u ≤ m → at s u ≡ at r u
     same-time {s} {r} hs hr i u h l =
-        good .dynamic s r u hs hr h .alike (record { unknown = λ p hp d. unknown-before Γ σ s p (at s u) m l (i .unknown p hp d) })
+        good .dynamic s r u hs hr h .alike
+        (record { unknown = λ p hp d. unknown-before Γ σ s p (at s u) m l (i .unknown p hp d) })
 
     -- nothing that differs is heard in r, if nothing is in s
     no-descent : {s r : ℕ} → s < scenarios Γ → r < scenarios Γ → Indistinct Γ σ s r m
@@ -79,7 +81,8 @@ module _ (Γ : Network) (σ : List ℕ) (m : ℕ) where
     }
 
     -- so what is carried one way is the same in both
-    both-ways : {s r : ℕ} (f : ℕ → Bool) → Carried f → s < scenarios Γ → r < scenarios Γ → Indistinct Γ σ s r m → f s ≡ f r
+    both-ways : {s r : ℕ} (f : ℕ → Bool) → Carried f → s < scenarios Γ → r < scenarios Γ
+        → Indistinct Γ σ s r m → f s ≡ f r
     both-ways {s} {r} f c hs hr i = same-tests (f s) (f r) (c s r hs hr i) (c r s hr hs (indistinct-comm hs hr i))
 
     known-carried : (p : ℕ) → p < Γ .signals → Carried (λ s. known Γ σ s p m)
@@ -110,7 +113,8 @@ module _ (Γ : Network) (σ : List ℕ) (m : ℕ) where
 
       pub indistinct-history : Lettered Γ → (heard : List Heard) → History Γ σ m heard s → History Γ σ m heard r
       indistinct-history lettered heard h =
-          history-of-told Γ σ m (named-of-history Γ σ m h) (λ p v l. told-of-history Γ σ m lettered h p v l ∙ indistinct-hears p v l)
+          history-of-told Γ σ m (named-of-history Γ σ m h) (λ p v l. told-of-history Γ σ m lettered h p v l
+          ∙ indistinct-hears p v l)
 
       pub indistinct-due : dueIn (Γ .events) σ m s ≡ dueIn (Γ .events) σ m r
       indistinct-due =

@@ -72,7 +72,8 @@ module _ {n : ℕ} {σ : List ℕ} {m s due u : ℕ} (here : Summing n σ m s du
   summed l = let end : u ≡ n = omega (arith, here .within) in rw end at (here .sum)
 
 -- a case's row is in a table of the network's size
-pub row-in : (Γ : Network) (σ : List ℕ) → length σ ≡ cells Γ → (s : ℕ) → s < scenarios Γ → s * Γ .events + Γ .events ≤ length σ
+pub row-in : (Γ : Network) (σ : List ℕ) → length σ ≡ cells Γ → (s : ℕ) → s < scenarios Γ
+    → s * Γ .events + Γ .events ≤ length σ
 row-in Γ σ e s h = omega (arith, e, mul-le-mul-right (Γ .events) h)
 
 pub misnamed-on : (Γ : Network) (σ : List ℕ) (m x : ℕ) → wellNamedOn Γ x ≡ false → Misnamed ≡ dueOn Γ σ m x

@@ -68,7 +68,12 @@ module _ (x l : ℕ) (v : Bool) (e : isLetter l ≡ true) where
   free-with k =
       elim (either (isLetter k)) [
         | inl f ↦
-            rw (said-with x l v e k true f, said-with x l v e k false f, either-truth (saidOn x k true) (saidOn x k false) (eqb l k) v)
+            rw (
+              said-with x l v e k true f,
+              said-with x l v e k false f,
+              either-truth (saidOn x k true)
+                  (saidOn x k false) (eqb l k) v,
+            )
             (not-or (isLetter k) (standsOn x k) (eqb l k))
         | inr f ↦ rw f
       ]
@@ -85,7 +90,8 @@ module _ (x : ℕ) (h : Heard) where
 
   misnamed-set : free x (h .letter) ≡ false → truth (added x h) misnamed ≡ true
   misnamed-set n =
-      rw (added-other n) (truth-withBit x misnamed misnamed (omega arith) (omega arith) ∙ or-true-right (truth x misnamed))
+      rw (added-other n) (truth-withBit x misnamed misnamed (omega arith) (omega arith)
+      ∙ or-true-right (truth x misnamed))
 
   module _ (f : free x (h .letter) ≡ true) where
     pub added-free : added x h ≡ withBit x (place (h .letter) (h .truth))
@@ -108,7 +114,8 @@ module _ (x : ℕ) (h : Heard) where
         (and-assoc (every (free x) ls) (not (isIn (h .letter) ls)) (distinct ls))
 
 -- the bit `misnamed` after the list
-pub named-said : (x : ℕ) (hs : List Heard) → not (truth (saidFrom x hs) misnamed) ≡ not (truth x misnamed) && fits x (lettersOf hs)
+pub named-said : (x : ℕ) (hs : List Heard) → not (truth (saidFrom x hs) misnamed) ≡ not (truth x misnamed)
+    && fits x (lettersOf hs)
 named-said x [] = sym (and-true-right (not (truth x misnamed)))
 named-said x (h ∷ hs) =
     named-said (added x h) hs

@@ -38,7 +38,8 @@ says-of-in hs h i = at-place hs (i .place) (i .place-lt) (i .is)
     at-place : (hs : List Heard) (k : ℕ) → k < length hs → getD hs k noHeard ≡ h → says hs (h .letter) (h .truth) ≡ true
     at-place [] k l e = absurd (omega arith)
     at-place (x ∷ hs) zero l e = rw (e, eq-eqb (h .letter) (h .letter) refl, beq-refl (h .truth))
-    at-place (x ∷ hs) (suc k) l e = rw (at-place hs k (omega arith) e) (or-true-right (eqb (x .letter) (h .letter) && Bool·beq (x .truth) (h .truth)))
+    at-place (x ∷ hs) (suc k) l e = rw (at-place hs k (omega arith) e)
+        (or-true-right (eqb (x .letter) (h .letter) && Bool·beq (x .truth) (h .truth)))
 
 in-of-says : (hs : List Heard) (l : ℕ) (v : Bool) → says hs l v ≡ true → In (record-of l v) hs noHeard
 in-of-says [] l v e = clash false e refl
@@ -46,8 +47,14 @@ in-of-says (x ∷ hs) l v e =
     elim (or-true (eqb (x .letter) l && Bool·beq (x .truth) v) (says hs l v) e) [
       | inl q ↦
           let w = and-true (eqb (x .letter) l) (Bool·beq (x .truth) v) q in
-          record { place = 0; place-lt = omega arith; is = same (eqb-true (x .letter) l (w .0)) (beq-true (x .truth) v (w .1)) }
-      | inr q ↦ let i = in-of-says hs l v q in record { place = suc (i .place); place-lt = omega (arith, i .place-lt); is = i .is }
+          record {
+            place = 0;
+            place-lt = omega arith;
+            is = same (eqb-true (x .letter) l (w .0))
+                (beq-true (x .truth) v (w .1));
+          }
+      | inr q ↦ let i = in-of-says hs l v q in record
+          { place = suc (i .place); place-lt = omega (arith, i .place-lt); is = i .is }
     ]
   where
     same : x .letter ≡ l → x .truth ≡ v → x ≡ record-of l v
@@ -68,7 +75,8 @@ module _ (Γ : Network) where
   defined-found l d = true-of-not-false (isDefined l) (λ e.
       let miss = none-of-firstBelow (λ p. when (eqb (letter Γ p) l) p) (Γ .signals)
       (unanswered (placeOf (Γ .signals) (Γ .letters) l) e) (d .signal) (d .below) in
-      clash (eqb (letter Γ (d .signal)) l) (eq-eqb (letter Γ (d .signal)) l (d .is)) (when-none (eqb (letter Γ (d .signal)) l) (d .signal) miss))
+      clash (eqb (letter Γ (d .signal)) l) (eq-eqb (letter Γ (d .signal)) l (d .is))
+      (when-none (eqb (letter Γ (d .signal)) l) (d .signal) miss))
 
   module _ (hs : List Heard) where
     abbrev ls : List ℕ
@@ -85,7 +93,8 @@ module _ (Γ : Network) where
           record { defined = each-mono found-defined each; once = distinct-of-test ls (p .1) },
       λ w.
           and-both all-defined (distinct ls)
-          (allDefined-every (Γ .signals) (Γ .letters) ls ∙ every-of-each isDefined ls (each-mono defined-found (w .defined)))
+          (allDefined-every (Γ .signals) (Γ .letters) ls
+          ∙ every-of-each isDefined ls (each-mono defined-found (w .defined)))
           (test-of-distinct ls (w .once)),
     )
 
@@ -102,7 +111,8 @@ module _ (Γ : Network) where
     named-of-history h = record {
       defined = record {
         each = λ i l.
-            let w = h .exact (getD hs i noHeard) .0 (record { place = i; place-lt = omega (arith, sized hs); is = refl }) in
+            let w = h .exact (getD hs i noHeard) .0
+            (record { place = i; place-lt = omega (arith, sized hs); is = refl }) in
             rw (letter-at hs i) (record { signal = w .signal; below = w .below; is = w .named });
       };
       once = h .once;
@@ -115,7 +125,8 @@ module _ (Γ : Network) where
         (λ e.
         let w = h .exact (record-of (letter Γ p) v) .0 (in-of-says hs (letter Γ p) v e) in
         let same = lettered .once (w .signal) p (w .below) l (w .named) in
-        and-both (known Γ σ s p m) (Bool·beq (truth s p) v) (rw same at (w .heard)) (rw (← w .told, same) (beq-refl (truth s p))))
+        and-both (known Γ σ s p m) (Bool·beq (truth s p) v) (rw same at (w .heard))
+        (rw (← w .told, same) (beq-refl (truth s p))))
         (λ e.
         let q = and-true (known Γ σ s p m) (Bool·beq (truth s p) v) e in
         says-of-in hs (record-of (letter Γ p) v)
@@ -127,7 +138,8 @@ module _ (Γ : Network) where
           told = beq-true (truth s p) v (q .1);
         })))
 
-    pub history-of-told : WellNamed Γ hs → ((p : ℕ) (v : Bool) → p < Γ .signals → says hs (letter Γ p) v ≡ hears Γ σ m s p v)
+    pub history-of-told : WellNamed Γ hs
+        → ((p : ℕ) (v : Bool) → p < Γ .signals → says hs (letter Γ p) v ≡ hears Γ σ m s p v)
         → History Γ σ m hs s
     history-of-told w told = record {
       once = w .once;
@@ -138,10 +150,18 @@ module _ (Γ : Network) where
             let said = rw (← is) at (says-of-in hs h i) in
             let q = and-true (known Γ σ s (d .signal) m) (Bool·beq (truth s (d .signal)) (h .truth))
             (sym (told (d .signal) (h .truth) (d .below)) ∙ said) in
-            record { signal = d .signal; below = d .below; named = is; heard = q .0; told = beq-true (truth s (d .signal)) (h .truth) (q .1) },
+            record {
+              signal = d .signal;
+              below = d .below;
+              named = is;
+              heard = q .0;
+              told = beq-true
+                  (truth s (d .signal)) (h .truth) (q .1);
+            },
         λ x.
             let e = and-both (known Γ σ s (x .signal) m) (Bool·beq (truth s (x .signal)) (h .truth)) (x .heard)
             (rw (x .told) (beq-refl (h .truth))) in
-            rw (x .named) at (in-of-says hs (letter Γ (x .signal)) (h .truth) (told (x .signal) (h .truth) (x .below) ∙ e)),
+            rw (x .named) at (in-of-says hs (letter Γ (x .signal)) (h .truth)
+            (told (x .signal) (h .truth) (x .below) ∙ e)),
       );
     }

@@ -36,11 +36,14 @@ pub place-same : (l k : ℕ) (v w : Bool) → isLetter l ≡ true → isLetter k
     → eqb (place l v) (place k w) ≡ eqb l k && Bool·beq v w
 place-same l k v w e f = go v w (letter-bounds l e) (letter-bounds k f)
   where
-    go : (v w : Bool) → (97 ≤ l) × (l ≤ 122) → (97 ≤ k) × (k ≤ 122) → eqb (place l v) (place k w) ≡ eqb l k && Bool·beq v w
+    go : (v w : Bool) → (97 ≤ l) × (l ≤ 122) → (97 ≤ k) × (k ≤ 122) → eqb (place l v) (place k w) ≡ eqb l k
+        && Bool·beq v w
     go true true h i =
-        eqb-same (place l true) (place k true) l k (λ q. omega arith) (λ q. omega arith) ∙ sym (and-true-right (eqb l k))
+        eqb-same (place l true) (place k true) l k (λ q. omega arith) (λ q. omega arith)
+        ∙ sym (and-true-right (eqb l k))
     go false false h i =
-        eqb-same (place l false) (place k false) l k (λ q. omega arith) (λ q. omega arith) ∙ sym (and-true-right (eqb l k))
+        eqb-same (place l false) (place k false) l k (λ q. omega arith) (λ q. omega arith)
+        ∙ sym (and-true-right (eqb l k))
     go true false h i = ne-eqb (place l true) (place k false) (λ q. omega arith) ∙ sym (and-false-right (eqb l k))
     go false true h i = ne-eqb (place l false) (place k true) (λ q. omega arith) ∙ sym (and-false-right (eqb l k))
 

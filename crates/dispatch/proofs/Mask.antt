@@ -111,7 +111,8 @@ module _ (Γ : Network) (lettered : Lettered Γ) where
       (λ e. wellNamedOn-iff (saidFrom 0 hs) .1 (hs, refl, well-named Γ hs .0 e))
 
 -- what is due by the mask of a list is what is due by the list
-pub due-said : (Γ : Network) (σ : List ℕ) (m : ℕ) (hs : List Heard) → Lettered Γ → dueOn Γ σ m (saidFrom 0 hs) ≡ due Γ σ m hs
+pub due-said : (Γ : Network) (σ : List ℕ) (m : ℕ) (hs : List Heard) → Lettered Γ → dueOn Γ σ m (saidFrom 0 hs)
+    ≡ due Γ σ m hs
 unfolding dueOn due
 due-said Γ σ m hs lettered =
     ap (λ (b : Bool). dueBy Γ σ m b (saidOn (saidFrom 0 hs))) (wellNamed-said Γ lettered hs)

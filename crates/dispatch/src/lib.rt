@@ -138,7 +138,8 @@ fn as_said(said: u64, letter: u8, known: bool, truth: bool) -> bool
 
 // Whether exactly what is said has been heard in s before the minute.
 fn has_heard(network: Network, table: &[u16], minute: u16, said: u64, s: usize) -> bool
-    requires { ⌜ WellFormed network × (length (now table) ≡ cells network) × Lettered network × (s < scenarios network) ⌝ }
+    requires { ⌜ WellFormed network × (length (now table) ≡ cells network) × Lettered network
+        × (s < scenarios network) ⌝ }
     ensures { λ r. ⌜ r ≡ D.hasHeard network (now (table .entry)) minute (M.saidOn said) s ⌝ }
 {
     let events = network.events;

@@ -22,15 +22,20 @@ use Rattle.layout.proofs.Lines.{Plain, IsRead, is-read, line-read}
 pub record Understood (sheet : List ℕ) (s : Section) {X : Type 0} (first : X → List ℕ) (others : X → List (List ℕ))
     (Held : Network → List X → Type 0) (Kept : List X → Type 0) (May : List X → X → Type 0) : Type 0 where
   pub may : (xs ys : List X) (x : X) → Kept (xs ++ x ∷ ys) → May xs x
-  pub reads : {Γ : Network} {xs : List X} → Held Γ xs → (fs : List (List ℕ)) → firstFailing (testsOf sheet s Γ fs) ≡ none
+  pub reads : {Γ : Network} {xs : List X} → Held Γ xs → (fs : List (List ℕ))
+      → firstFailing (testsOf sheet s Γ fs) ≡ none
       → (x : X) × (fs ≡ first x ∷ others x) × May xs x
-  pub passes : {Γ : Network} {xs : List X} → Held Γ xs → (x : X) → May xs x → firstFailing (testsOf sheet s Γ (first x ∷ others x)) ≡ none
+  pub passes : {Γ : Network} {xs : List X} → Held Γ xs → (x : X) → May xs x
+      → firstFailing (testsOf sheet s Γ (first x ∷ others x)) ≡ none
   pub plain : {Γ : Network} {xs : List X} → Held Γ xs → (x : X) → May xs x → Plain (first x ∷ others x)
-  pub adds : {Γ : Network} {xs : List X} → Held Γ xs → (x : X) → May xs x → length xs < headingOf s .most → (at : ℕ) (rest : List ℕ)
-      → drop at sheet ≡ line (first x) (others x) ++ rest → Held (withLine sheet s Γ at (first x ∷ others x)) (xs ++ x ∷ [])
+  pub adds : {Γ : Network} {xs : List X} → Held Γ xs → (x : X) → May xs x → length xs < headingOf s .most
+      → (at : ℕ) (rest : List ℕ)
+      → drop at sheet ≡ line (first x) (others x) ++ rest
+      → Held (withLine sheet s Γ at (first x ∷ others x)) (xs ++ x ∷ [])
 
 pub readLine-passes : (sheet : List ℕ) (at k : ℕ) (ts : List (List ℕ) → Tests) (next : List (List ℕ) → Progress)
-    (fs : List (List ℕ)) (rest : List ℕ) (p : Progress) → IsRead sheet at fs rest → firstFailing (ts fs) ≡ none → next fs ≡ p
+    (fs : List (List ℕ)) (rest : List ℕ) (p : Progress) → IsRead sheet at fs rest → firstFailing (ts fs) ≡ none
+    → next fs ≡ p
     → readLine sheet at k ts next ≡ p
 readLine-passes sheet at k ts next fs rest p e r n =
     let passes : firstFailing (ts (fields (lineAt sheet at))) ≡ none = rw (e .fields-are) r in
@@ -76,7 +81,8 @@ module _ {sheet : List ℕ} {s : Section} {X : Type 0} {first : X → List ℕ} 
 
   -- so many lines that were read are those of some items
   pub entries-read : (m : ℕ) (Γ : Network) (xs : List X) (at k : ℕ) → Held Γ xs → length xs + m ≤ headingOf s .most
-      → (Δ : Network) (end number : ℕ) → readEntries sheet s m Γ at k ≡ Go Δ end number → Read sheet Held text xs m at Δ end
+      → (Δ : Network) (end number : ℕ) → readEntries sheet s m Γ at k ≡ Go Δ end number
+      → Read sheet Held text xs m at Δ end
   entries-read zero Γ xs at k h few Δ end number g =
       let same-network : Γ ≡ Δ = cc in
       let same-place : at ≡ end = cc in
@@ -95,7 +101,8 @@ module _ {sheet : List ℕ} {s : Section} {X : Type 0} {first : X → List ℕ} 
       let held = w .adds h x (r .2) (omega arith) at behind t in
       let few-left : length (xs ++ x ∷ []) + m ≤ headingOf s .most = omega (arith, length-append xs (x ∷ [])) in
       let on =
-      entries-read m (withLine sheet s Γ at (first x ∷ others x)) (xs ++ x ∷ []) (afterLine sheet at) (suc k) held few-left Δ end number
+      entries-read m (withLine sheet s Γ at (first x ∷ others x)) (xs ++ x ∷ []) (afterLine sheet at) (suc k) held
+      few-left Δ end number
       (rw (r .1) at (p .then)) in
       record {
         items = x ∷ on .items;
@@ -118,7 +125,8 @@ module _ {sheet : List ℕ} {s : Section} {X : Type 0} {first : X → List ℕ} 
       let held = w .adds h x m (omega arith) at behind l in
       let few-left : length (xs ++ x ∷ []) + length ys ≤ headingOf s .most = omega (arith, length-append xs (x ∷ [])) in
       let on =
-      entries-reads ys (withLine sheet s Γ at (first x ∷ others x)) (xs ++ x ∷ []) (afterLine sheet at) (suc k) rest held
+      entries-reads ys (withLine sheet s Γ at (first x ∷ others x)) (xs ++ x ∷ []) (afterLine sheet at)
+      (suc k) rest held
       (rw append-snoc kept) few-left (r .behind) in
       record {
         network = on .network;

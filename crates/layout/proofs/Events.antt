@@ -28,7 +28,8 @@ use Rattle.layout.proofs.Entries.{Understood}
 
 module _ (sheet : List ℕ) (h : ℕ) where
   module _ {Γ : Network} {ns : List (List ℕ)} (c : Stands sheet Γ (contents h ns [] [])) where
-    name-read : (fs : List (List ℕ)) → firstFailing (eventTests sheet Γ fs) ≡ none → (n : List ℕ) × (fs ≡ n ∷ []) × NewName ns n
+    name-read : (fs : List (List ℕ)) → firstFailing (eventTests sheet Γ fs) ≡ none → (n : List ℕ) × (fs ≡ n ∷ [])
+        × NewName ns n
     unfolding eventTests
     name-read fs e =
         let t = hold (eventTests sheet Γ fs) e in
@@ -47,10 +48,12 @@ module _ (sheet : List ℕ) (h : ℕ) where
         let unknown = false-of-not-true (answers (eventOf sheet Γ n)) (λ e. m .new (event-in (c .holds) n e)) in
         none-fails (eventTests sheet Γ (n ∷ [])) (refl & m .is & ap not unknown & tt)
 
-    name-adds : (n : List ℕ) → NewName ns n → length ns < L.events → (at : ℕ) (rest : List ℕ) → drop at sheet ≡ line n [] ++ rest
+    name-adds : (n : List ℕ) → NewName ns n → length ns < L.events → (at : ℕ) (rest : List ℕ) → drop at sheet
+        ≡ line n [] ++ rest
         → Stands sheet (withLine sheet Events Γ at (n ∷ [])) (contents h (ns ++ n ∷ []) [] [])
     name-adds n m few at rest e =
-        let part = ap (take (length n)) (e ∙ append-assoc n (lineFeed ∷ []) rest) ∙ take-append-seam n (lineFeed ∷ rest) in
+        let part = ap (take (length n)) (e ∙ append-assoc n (lineFeed ∷ []) rest)
+        ∙ take-append-seam n (lineFeed ∷ rest) in
         event-added c n at m few part
 
   pub events-understood :

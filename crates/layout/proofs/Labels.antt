@@ -31,7 +31,8 @@ areLiterals-sign : (b : ℕ) (v : Bool) (s : List ℕ) → isLetter b ≡ true �
 areLiterals-sign b true s e a = rw (no-bang b e, areLiterals, e, a)
 areLiterals-sign b false s e a = rw (no-bang b e, areLiterals, e, a)
 
-plain-sign : (b : ℕ) (v : Bool) (s : List ℕ) → isLetter b ≡ true → every plain s ≡ true → every plain (signText v ++ b ∷ s) ≡ true
+plain-sign : (b : ℕ) (v : Bool) (s : List ℕ) → isLetter b ≡ true → every plain s ≡ true
+    → every plain (signText v ++ b ∷ s) ≡ true
 plain-sign b true s e a = and-both (plain b) (every plain s) (plain-letter b e) a
 plain-sign b false s e a = and-both (plain b) (every plain s) (plain-letter b e) a
 
@@ -42,16 +43,19 @@ module _ (l : Literal) (ls : List Literal) (e : every isLetter (lettersOf (l ∷
   others-are : every isLetter (lettersOf ls) ≡ true
   others-are = and-true (isLetter (l .letter)) (every isLetter (lettersOf ls)) e .1
 
-literals-literalsText : (ls : List Literal) → every isLetter (lettersOf ls) ≡ true → literals false (literalsText ls) ≡ ls
+literals-literalsText : (ls : List Literal) → every isLetter (lettersOf ls) ≡ true
+    → literals false (literalsText ls) ≡ ls
 literals-literalsText [] e = refl
 literals-literalsText (l ∷ ls) e =
     literals-sign (l .letter) (l .value) (literalsText ls) (first-is l ls e)
     ∙ ap (λ (t : List Literal). l ∷ t) (literals-literalsText ls (others-are l ls e))
 
-areLiterals-literalsText : (ls : List Literal) → every isLetter (lettersOf ls) ≡ true → areLiterals false (literalsText ls) ≡ true
+areLiterals-literalsText : (ls : List Literal) → every isLetter (lettersOf ls) ≡ true
+    → areLiterals false (literalsText ls) ≡ true
 areLiterals-literalsText [] e = refl
 areLiterals-literalsText (l ∷ ls) e =
-    areLiterals-sign (l .letter) (l .value) (literalsText ls) (first-is l ls e) (areLiterals-literalsText ls (others-are l ls e))
+    areLiterals-sign (l .letter) (l .value) (literalsText ls) (first-is l ls e)
+    (areLiterals-literalsText ls (others-are l ls e))
 
 plain-literalsText : (ls : List Literal) → every isLetter (lettersOf ls) ≡ true → every plain (literalsText ls) ≡ true
 plain-literalsText [] e = refl
@@ -60,15 +64,19 @@ plain-literalsText (l ∷ ls) e =
 
 -- what is read is written as it was; a `!` just read still stands before it
 literalsText-literals : (bang : Bool) (s : List ℕ) → areLiterals bang s ≡ true
-    → (literalsText (literals bang s) ≡ signText (not bang) ++ s) × (every isLetter (lettersOf (literals bang s)) ≡ true)
+    → (literalsText (literals bang s) ≡ signText (not bang) ++ s)
+    × (every isLetter (lettersOf (literals bang s)) ≡ true)
 literalsText-literals true [] e = clash false e refl
 literalsText-literals false [] e = (refl, refl)
 literalsText-literals bang (b ∷ s) e =
     elim (either (eqb b 33)) [
       | inl p ↦
           let q = and-true (not bang) (areLiterals true s) (rw (p, areLiterals) at e) in
-          let r = literalsText-literals true s (q .1) in
-          (rw (p, literals, not-true bang (q .0), r .0) (ap (λ (x : ℕ). x ∷ s) (sym (eqb-true b 33 p))), rw (p, literals) (r .1))
+          let r = literalsText-literals true s (q .1) in (
+            rw (p, literals, not-true bang (q .0), r .0) (ap (λ (x : ℕ). x ∷ s) (sym (eqb-true b 33 p))),
+            rw
+                (p, literals) (r .1),
+          )
       | inr p ↦
           let q = and-true (isLetter b) (areLiterals false s) (rw (p, areLiterals) at e) in
           let r = literalsText-literals false s (q .1) in

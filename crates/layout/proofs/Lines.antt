@@ -60,7 +60,8 @@ fields-last (b ∷ f) e =
 
 fields-joined : (f : List ℕ) (gs : List (List ℕ)) → Plain (f ∷ gs) → fields (joined f gs) ≡ f ∷ gs
 fields-joined f [] p = fields-last f (p .0)
-fields-joined f (g ∷ gs) p = fields-before f (joined g gs) (p .0) ∙ ap (λ (fs : List (List ℕ)). f ∷ fs) (fields-joined g gs (p .1))
+fields-joined f (g ∷ gs) p = fields-before f (joined g gs) (p .0)
+    ∙ ap (λ (fs : List (List ℕ)). f ∷ fs) (fields-joined g gs (p .1))
 
 -- what stands before a line feed
 upTo-before : (f s : List ℕ) → every plain f ≡ true → upTo lineFeed (f ++ s) ≡ f ++ upTo lineFeed s
@@ -141,4 +142,9 @@ pub line-read : (sheet : List ℕ) (at : ℕ) → endsAt sheet at ≡ true
     → drop at sheet ≡ lineOf (fields (lineAt sheet at)) ++ drop (afterLine sheet at) sheet
 line-read sheet at e =
     upTo-split lineFeed (drop at sheet) e
-    ∙ rw (← add-one (length (lineAt sheet at)), drop-drop (length (lineAt sheet at) + 1) at sheet, line-fields (lineAt sheet at))
+    ∙ rw (
+      ← add-one (length (lineAt sheet at)),
+      drop-drop (length (lineAt sheet at) + 1) at sheet,
+      line-fields
+          (lineAt sheet at),
+    )

@@ -46,7 +46,8 @@ plain-name (b ∷ s) e =
     and-both (plain b) (every plain s) (plain-letter b (p .0)) rest
   where
     letter-or-digit : (c : ℕ) → isLetter c || isDigit c ≡ true → plain c ≡ true
-    letter-or-digit c e = elim (or-true (isLetter c) (isDigit c) e) [ inl p ↦ plain-letter c p | inr p ↦ plain-digit c p ]
+    letter-or-digit c e = elim (or-true (isLetter c) (isDigit c) e)
+        [ inl p ↦ plain-letter c p | inr p ↦ plain-digit c p ]
 
 -- a field of one letter
 pub one-letter : (f : List ℕ) → isOneLetter f ≡ true → (f ≡ getD f 0 0 ∷ []) × (isLetter (getD f 0 0) ≡ true)

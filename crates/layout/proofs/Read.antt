@@ -36,8 +36,10 @@ use Rattle.layout.proofs.Text.{
 }
 
 -- a step behind another
-andThen-reads : (sheet : List ℕ) {X Y : Type 0} {Held : Network → List X → Type 0} {Held′ : Network → List Y → Type 0} {xs : List X}
-    {ys : List Y} {rest rest′ : List ℕ} (p : Progress) (next : Network → ℕ → ℕ → Progress) (r : Reads sheet Held p xs rest)
+andThen-reads : (sheet : List ℕ) {X Y : Type 0} {Held : Network → List X → Type 0} {Held′ : Network → List Y → Type 0}
+    {xs : List X}
+    {ys : List Y} {rest rest′ : List ℕ} (p : Progress) (next : Network → ℕ → ℕ → Progress)
+    (r : Reads sheet Held p xs rest)
     → Reads sheet Held′ (next (r .network) (r .at) (r .number)) ys rest′ → Reads sheet Held′ (andThen p next) ys rest′
 andThen-reads sheet p next r t = record {
   network = t .network;
@@ -59,7 +61,8 @@ module _ (sheet : List ℕ) (h : ℕ) (ns : List (List ℕ)) (xs : List Signal) 
   abbrev AtRules : Progress → List Rule → List ℕ → Type 0
   AtRules p ys rest = Reads sheet (λ Γ ys. Stands sheet Γ (contents h ns xs ys)) p ys rest
 
-  horizon-reads : (rest : List ℕ) → h ≤ L.horizon → drop 0 sheet ≡ horizonText h ++ rest → AtEvents (readHorizon sheet) [] rest
+  horizon-reads : (rest : List ℕ) → h ≤ L.horizon → drop 0 sheet ≡ horizonText h ++ rest
+      → AtEvents (readHorizon sheet) [] rest
   horizon-reads rest high t =
       let r = count-line-reads sheet horizonHeading 0 1 (λ fs. Go (empty (sectionCount fs)) (afterLine sheet 0) 2)
       refl h rest zero-le high t in
@@ -67,7 +70,8 @@ module _ (sheet : List ℕ) (h : ℕ) (ns : List (List ℕ)) (xs : List Signal) 
         network = empty h;
         at = afterLine sheet 0;
         number = 2;
-        goes = r .1 (Go (empty h) (afterLine sheet 0) 2) (ap (λ (n : ℕ). Go (empty n) (afterLine sheet 0) 2) (magnitude-decimal h));
+        goes = r .1 (Go (empty h) (afterLine sheet 0) 2)
+            (ap (λ (n : ℕ). Go (empty n) (afterLine sheet 0) 2) (magnitude-decimal h));
         held = empty-stands sheet h;
         behind = r .0;
       }
@@ -99,7 +103,8 @@ module _ (sheet : List ℕ) (h : ℕ) (ns : List (List ℕ)) (xs : List Signal) 
     at = r .at;
     number = r .number;
     goes =
-        on (toRules sheet) (readEnd sheet) (r .network) (r .at) (r .number) (Go (r .network) (r .at) (r .number)) (r .goes)
+        on (toRules sheet) (readEnd sheet) (r .network) (r .at) (r .number)
+        (Go (r .network) (r .at) (r .number)) (r .goes)
         (end-reads sheet (r .network) (r .at) (r .number) (r .behind));
     held = r .held;
     behind = r .behind;

@@ -32,7 +32,8 @@ use Rattle.layout.proofs.Entries.{Understood, entries-read, Reads, entr
 -- a count, behind its word
 module _ (h : Heading) where
   count-read : (fs : List (List ℕ)) → firstFailing (headingTests h fs) ≡ none
-      → (fs ≡ ascii (h .word) ∷ decimal (sectionCount fs) ∷ []) × (h .least ≤ sectionCount fs) × (sectionCount fs ≤ h .most)
+      → (fs ≡ ascii (h .word) ∷ decimal (sectionCount fs) ∷ []) × (h .least ≤ sectionCount fs)
+      × (sectionCount fs ≤ h .most)
   unfolding sectionTests
   count-read fs e =
       let word = ascii (h .word) in
@@ -45,7 +46,8 @@ module _ (h : Heading) where
         d .2,
       )
 
-  count-passes : (n : ℕ) → h .least ≤ n → n ≤ h .most → firstFailing (headingTests h (ascii (h .word) ∷ decimal n ∷ [])) ≡ none
+  count-passes : (n : ℕ) → h .least ≤ n → n ≤ h .most
+      → firstFailing (headingTests h (ascii (h .word) ∷ decimal n ∷ [])) ≡ none
   unfolding sectionTests
   count-passes n l m =
       none-fails (headingTests h (ascii (h .word) ∷ decimal n ∷ []))
@@ -57,7 +59,8 @@ module _ (sheet : List ℕ) (h : Heading) (at k : ℕ) (next : List (List ℕ) �
     pub fs : List (List ℕ)
     pub low : h .least ≤ sectionCount fs
     pub high : sectionCount fs ≤ h .most
-    pub text : drop at sheet ≡ line (ascii (h .word)) (decimal (sectionCount fs) ∷ []) ++ drop (afterLine sheet at) sheet
+    pub text : drop at sheet ≡ line (ascii (h .word)) (decimal (sectionCount fs) ∷ [])
+        ++ drop (afterLine sheet at) sheet
     pub then : next fs ≡ Go Δ end number
 
   pub count-line-read : (Δ : Network) (end number : ℕ) → readLine sheet at k (headingTests h) next ≡ Go Δ end number
@@ -84,7 +87,8 @@ module _ (sheet : List ℕ) (h : Heading) (at k : ℕ) (next : List (List ℕ) �
       (r .behind, λ p e. readLine-passes sheet at k (headingTests h) next fs rest p r (count-passes h n l m) e)
 
 -- the section that was read is that of some items, and the network holds them
-pub record SectionRead (sheet : List ℕ) {X : Type 0} (Held : Network → List X → Type 0) (h : Heading) (text : X → List ℕ)
+pub record SectionRead (sheet : List ℕ) {X : Type 0} (Held : Network → List X → Type 0) (h : Heading)
+    (text : X → List ℕ)
     (at : ℕ) (Γ : Network) (end : ℕ) : Type 0 where
   pub items : List X
   pub low : h .least ≤ length items
@@ -110,14 +114,16 @@ module _ {sheet : List ℕ} {s : Section} {X : Type 0} {first : X → List ℕ} 
   section-read Δ end number g =
       let c = count-line-read sheet head at k entries Δ end number g in
       let m = sectionCount (c .fs) in
-      let r = entries-read w m Γ [] (afterLine sheet at) (suc k) start (omega (arith, c .high)) Δ end number (c .then) in
+      let r = entries-read w m Γ [] (afterLine sheet at) (suc k) start (omega (arith, c .high)) Δ end number
+      (c .then) in
       let n : m ≡ length (map text (r .items)) = omega (arith, r .count, length-map (r .items) text) in
       record {
         items = r .items;
         low = omega (arith, c .low, r .count);
         high = omega (arith, c .high, r .count);
         written =
-            joins (drop at sheet) (line (ascii (head .word)) (decimal (length (map text (r .items))) ∷ [])) (drop (afterLine sheet at) sheet)
+            joins (drop at sheet) (line (ascii (head .word)) (decimal (length (map text (r .items))) ∷ []))
+            (drop (afterLine sheet at) sheet)
             (lines (map text (r .items))) (drop end sheet)
             (rw n at (c .text))
             (r .written);
@@ -127,7 +133,8 @@ module _ {sheet : List ℕ} {s : Section} {X : Type 0} {first : X → List ℕ} 
   -- where the section of ys stands, it is read
   pub section-reads : every plain (ascii (head .word)) ≡ true → (ys : List X) (rest : List ℕ) → Kept ys
       → head .least ≤ length ys → length ys ≤ head .most
-      → drop at sheet ≡ section (head .word) (map text ys) ++ rest → Reads sheet Held (readSection sheet s Γ at k) ys rest
+      → drop at sheet ≡ section (head .word) (map text ys) ++ rest
+      → Reads sheet Held (readSection sheet s Γ at k) ys rest
   section-reads p ys rest kept low high t =
       let n = length (map text ys) in
       let e : n ≡ length ys = length-map ys text in

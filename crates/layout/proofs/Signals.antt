@@ -79,7 +79,8 @@ module _ (sheet : List ℕ) (h : ℕ) (names : List (List ℕ)) where
           },
         )
 
-    signal-passes : (x : Signal) → NewSignal names xs x → firstFailing (signalTests sheet Γ ((x .letter ∷ []) ∷ x .event ∷ [])) ≡ none
+    signal-passes : (x : Signal) → NewSignal names xs x
+        → firstFailing (signalTests sheet Γ ((x .letter ∷ []) ∷ x .event ∷ [])) ≡ none
     unfolding signalTests
     signal-passes x m =
         let b = x .letter in

@@ -33,7 +33,8 @@ rulesText rs = section "rules" (map ruleLine rs)
 module _ (sheet : List ℕ) where
   -- four texts in a row, and nothing behind
   pub in-a-row : (h e s r : List ℕ) (a b c d : ℕ) → drop 0 sheet ≡ h ++ drop a sheet → drop a sheet ≡ e ++ drop b sheet
-      → drop b sheet ≡ s ++ drop c sheet → drop c sheet ≡ r ++ drop d sheet → drop d sheet ≡ [] → sheet ≡ h ++ e ++ s ++ r
+      → drop b sheet ≡ s ++ drop c sheet → drop c sheet ≡ r ++ drop d sheet → drop d sheet ≡ [] → sheet ≡ h
+      ++ e ++ s ++ r
   in-a-row h e s r a b c d p q t u v =
       let one = joins sheet h (drop a sheet) e (drop b sheet) p q in
       let two = joins sheet (h ++ e) (drop b sheet) s (drop c sheet) one t in

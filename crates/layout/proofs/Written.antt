@@ -70,7 +70,8 @@ module _ (sheet : List ℕ) where
 
   horizon-read : (Γ : Network) (at k : ℕ) → readHorizon sheet ≡ Go Γ at k → HorizonRead Γ at
   horizon-read Γ at k e =
-      let c = count-line-read sheet horizonHeading 0 1 (λ fs. Go (empty (sectionCount fs)) (afterLine sheet 0) 2) Γ at k e in
+      let c = count-line-read sheet horizonHeading 0 1 (λ fs. Go (empty (sectionCount fs)) (afterLine sheet 0) 2) Γ at
+      k e in
       let h = sectionCount (c .fs) in
       let then = c .then in
       let same-network : empty h ≡ Γ = cc in
@@ -85,29 +86,34 @@ module _ (sheet : List ℕ) where
   -- from one section to the next, and at last all four
   module _ {Γ₁ Γ₂ Γ₃ Γ₄ : Network} {a b c d : ℕ} (short : length sheet ≤ longest) (end : drop d sheet ≡ []) where
     from-rules : (h : HorizonRead Γ₁ a) (es : EventsRead (h .horizon) a Γ₂ b)
-        (ss : SignalsRead (h .horizon) (es .items) b Γ₃ c) → RulesRead (h .horizon) (es .items) (ss .items) c Γ₄ d → Layout sheet
+        (ss : SignalsRead (h .horizon) (es .items) b Γ₃ c) → RulesRead (h .horizon) (es .items) (ss .items) c Γ₄ d
+        → Layout sheet
     from-rules h es ss rs = record {
       contents = contents (h .horizon) (es .items) (ss .items) (rs .items);
       keeps = keeps (rs .held) (h .high) (es .low) (es .high) (ss .high) (rs .high);
       written =
-          in-a-row sheet (horizonText (h .horizon)) (eventsText (es .items)) (signalsText (ss .items)) (rulesText (rs .items)) a b c d
+          in-a-row sheet (horizonText (h .horizon)) (eventsText (es .items)) (signalsText (ss .items))
+          (rulesText (rs .items)) a b c d
           (h .written) (es .written) (ss .written) (rs .written) end;
       short = short;
     }
 
-    from-signals : (h : HorizonRead Γ₁ a) (es : EventsRead (h .horizon) a Γ₂ b) → SignalsRead (h .horizon) (es .items) b Γ₃ c
+    from-signals : (h : HorizonRead Γ₁ a) (es : EventsRead (h .horizon) a Γ₂ b)
+        → SignalsRead (h .horizon) (es .items) b Γ₃ c
         → (l m : ℕ) → readSection sheet Rules Γ₃ c l ≡ Go Γ₄ d m → Layout sheet
     from-signals h es ss l m t =
         from-rules h es ss
         (section-read (rules-understood sheet (h .horizon) (es .items) (ss .items)) Γ₃ c l (ss .held) Γ₄ d m t)
 
-    from-events : (h : HorizonRead Γ₁ a) → EventsRead (h .horizon) a Γ₂ b → (k l m : ℕ) → readSection sheet Signals Γ₂ b k ≡ Go Γ₃ c l
+    from-events : (h : HorizonRead Γ₁ a) → EventsRead (h .horizon) a Γ₂ b → (k l m : ℕ)
+        → readSection sheet Signals Γ₂ b k ≡ Go Γ₃ c l
         → readSection sheet Rules Γ₃ c l ≡ Go Γ₄ d m → Layout sheet
     from-events h es k l m r t =
         from-signals h es
         (section-read (signals-understood sheet (h .horizon) (es .items)) Γ₂ b k (es .held) Γ₃ c l r) l m t
 
-    from-horizon : HorizonRead Γ₁ a → (j k l m : ℕ) → readSection sheet Events Γ₁ a j ≡ Go Γ₂ b k → readSection sheet Signals Γ₂ b k ≡ Go Γ₃ c l
+    from-horizon : HorizonRead Γ₁ a → (j k l m : ℕ) → readSection sheet Events Γ₁ a j ≡ Go Γ₂ b k
+        → readSection sheet Signals Γ₂ b k ≡ Go Γ₃ c l
         → readSection sheet Rules Γ₃ c l ≡ Go Γ₄ d m → Layout sheet
     from-horizon h j k l m q r t =
         from-events h (section-read (events-understood sheet (h .horizon)) Γ₁ a j (h .held) Γ₂ b k q) k l m r t

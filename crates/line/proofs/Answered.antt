@@ -21,7 +21,8 @@ use Rattle.line.specs.declared.entry.EntryLine.the-variants as R
 use Rattle.line.proofs.Refusals.{line-ends, line-is}
 
 -- an answer is a refusal, or what the line holds
-pub entry-answer-refused : (o : Option Cause) (x : Entry) (n : ℕ) (c : Cause) → entryAnswer o x n ≡ R.Refused c → o ≡ some c
+pub entry-answer-refused : (o : Option Cause) (x : Entry) (n : ℕ) (c : Cause) → entryAnswer o x n ≡ R.Refused c
+    → o ≡ some c
 entry-answer-refused none x n c e = zero-is-one cc
 entry-answer-refused (some d) x n c e = cc
 
@@ -67,7 +68,8 @@ module _ (sheet : List ℕ) (Γ : Network) (line : List ℕ) where
   rule-parts = refl
 
 -- a line that ends at e is read by its fields
-pub entry-ends : (sheet : List ℕ) (Γ : Network) (rest : List ℕ) (e : ℕ) → e ≡ length (upTo lineFeed rest) → (e ≡ length rest → ⊥)
+pub entry-ends : (sheet : List ℕ) (Γ : Network) (rest : List ℕ) (e : ℕ) → e ≡ length (upTo lineFeed rest)
+    → (e ≡ length rest → ⊥)
     → (s t : Section) → t ≡ s → entryBy (take e rest) s sheet Γ ≡ entryAt rest t sheet Γ
 entry-ends sheet Γ rest e is n s t q =
     ap (λ (l : List ℕ). entryBy l s sheet Γ) (line-is rest e is) ∙ sym (rw (line-ends rest e is n))
@@ -82,7 +84,8 @@ module _ (sheet : List ℕ) (s : Section) (Γ : Network) (at : ℕ) where
   answerAt = entryAt (partAt sheet at) s sheet (parts sheet Γ fs)
 
   pub entry-at : answerAt
-      ≡ entryAnswer (firstFailing (lineTests (drop at sheet) (testsOf sheet s Γ))) (entryOf sheet s Γ fs) (length (lineAt sheet at))
+      ≡ entryAnswer (firstFailing (lineTests (drop at sheet) (testsOf sheet s Γ))) (entryOf sheet s Γ fs)
+      (length (lineAt sheet at))
   entry-at =
       ap (λ (l : List ℕ). entryAt l s sheet (parts sheet Γ fs)) (take-drop sheet at)
       ∙ rw (tests-parts sheet Γ fs s, entry-parts sheet Γ fs s)

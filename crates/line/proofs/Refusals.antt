@@ -91,7 +91,8 @@ module _ (sheet : List ℕ) (Γ : Network) (fs : List (List ℕ)) where
   unfolding eventTests
   event-count n = rw (ne-eqb (length fs) 1 n)
 
-  pub event-ill : length fs ≡ 1 → isName (field 0 fs) ≡ false → firstFailing (eventTests sheet Γ fs) ≡ some C.IllFormedName
+  pub event-ill : length fs ≡ 1 → isName (field 0 fs) ≡ false → firstFailing (eventTests sheet Γ fs)
+      ≡ some C.IllFormedName
   unfolding eventTests
   event-ill n e = rw (eq-eqb (length fs) 1 n, e)
 
@@ -110,16 +111,19 @@ module _ (sheet : List ℕ) (Γ : Network) (fs : List (List ℕ)) where
   unfolding signalTests
   signal-count n = rw (ne-eqb (length fs) 2 n)
 
-  pub signal-tests : {named fresh defined : Bool} → length fs ≡ 2 → named ≡ isOneLetter (field 0 fs) && isName (field 1 fs)
+  pub signal-tests : {named fresh defined : Bool} → length fs ≡ 2 → named ≡ isOneLetter (field 0 fs)
+      && isName (field 1 fs)
       → fresh ≡ not (answers (placeOf (Γ .signals) (Γ .letters) (getD (field 0 fs) 0 0)) || isObservation Γ
       (eventOf sheet Γ (field 1 fs)))
       → defined ≡ answers (eventOf sheet Γ (field 1 fs))
-      → firstFailing (signalTests sheet Γ fs) ≡ firstFailing ((named, C.IllFormedName) ∷ (fresh, C.Duplicate) ∷ (defined, C.Undefined) ∷ [])
+      → firstFailing (signalTests sheet Γ fs)
+      ≡ firstFailing ((named, C.IllFormedName) ∷ (fresh, C.Duplicate) ∷ (defined, C.Undefined) ∷ [])
   unfolding signalTests
   signal-tests {named} {fresh} {defined} n a b d =
       rw (eq-eqb (length fs) 2 n)
       (sym (three-same named fresh defined (isOneLetter (field 0 fs) && isName (field 1 fs))
-      (not (answers (placeOf (Γ .signals) (Γ .letters) (getD (field 0 fs) 0 0)) || isObservation Γ (eventOf sheet Γ (field 1 fs))))
+      (not (answers (placeOf (Γ .signals) (Γ .letters) (getD (field 0 fs) 0 0))
+      || isObservation Γ (eventOf sheet Γ (field 1 fs))))
       (answers (eventOf sheet Γ (field 1 fs))) C.IllFormedName C.Duplicate C.Undefined a b d))
 
   -- a rule
@@ -167,7 +171,8 @@ by-minutes false b x z e = zero-is-one cc
 by-minutes true false x z e = zero-is-one cc
 by-minutes true true x z e = (refl, refl, cc)
 
-by-beyond : (a b : Bool) (x : ℤ) → cond a (cond b (M.Minutes x) M.Beyond) M.IllFormed ≡ M.Beyond → (a ≡ true) × (b ≡ false)
+by-beyond : (a b : Bool) (x : ℤ) → cond a (cond b (M.Minutes x) M.Beyond) M.IllFormed ≡ M.Beyond → (a ≡ true)
+    × (b ≡ false)
 by-beyond false b x e = zero-is-one cc
 by-beyond true false x e = (refl, refl)
 by-beyond true true x e = zero-is-one cc
@@ -194,7 +199,8 @@ module _ (f : List ℕ) where
 
 -- the ends and the label of a rule: the tests by what was found out, and what they say of the label where they pass
 module _ (sheet : List ℕ) (Γ : Network) (from to label t : List ℕ) (is : literals false t ≡ labelOf label) where
-  pub ends-tests : {a b : Found} {named defined unlike : Bool} → a ≡ foundOf (eventOf sheet Γ from) → b ≡ foundOf (eventOf sheet Γ to)
+  pub ends-tests : {a b : Found} {named defined unlike : Bool} → a ≡ foundOf (eventOf sheet Γ from) → b
+      ≡ foundOf (eventOf sheet Γ to)
       → named ≡ isName from && (isName to && isLabel label)
       → defined ≡ isFound a && (isFound b && allDefined (Γ .signals) (Γ .letters) (lettersOf (literals false t)))
       → unlike ≡ distinct (lettersOf (literals false t))

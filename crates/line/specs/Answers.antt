@@ -88,7 +88,8 @@ module _ (line : List ℕ) (made : (List (List ℕ) → Tests) → Tests) where
       sectionAnswer (firstFailing (made (sectionTests word lo hi))) (sectionCount (fields line)) (length line)
 
   abbrev pub entryUnder : Section → List ℕ → Network → EntryLine
-  entryUnder s sheet Γ = entryAnswer (firstFailing (made (testsOf sheet s Γ))) (entryOf sheet s Γ (fields line)) (length line)
+  entryUnder s sheet Γ = entryAnswer (firstFailing (made (testsOf sheet s Γ))) (entryOf sheet s Γ (fields line))
+      (length line)
 
 -- of a line by its fields alone
 module _ (line : List ℕ) where

@@ -60,7 +60,8 @@ module _ (sheet : List ℕ) where
 
   abbrev pub ruleOf : Network → List (List ℕ) → Constraint
   ruleOf Γ fs =
-      constraintOf Γ (Option·getD (kindOf (field 0 fs)) Max) (field 1 fs) (field 2 fs) (valueOf (field 3 fs)) (field 4 fs)
+      constraintOf Γ (Option·getD (kindOf (field 0 fs)) Max) (field 1 fs) (field 2 fs) (valueOf (field 3 fs))
+      (field 4 fs)
 
   -- the tests of a section's lines
   abbrev pub testsOf : Section → Network → List (List ℕ) → Tests

@@ -24,7 +24,8 @@ module _ (k : ℕ) (letters : List ℕ) where
   asked-once : (p : ℕ) (l : Literal) (ls : List Literal) → isIn (l .letter) (lettersOf ls) ≡ false → (v w : Bool)
       → isAt k letters v p l ≡ true → asks k letters w p ls ≡ false
   asked-once p l ls n v w e =
-      asks-none k letters w (l .letter) p ls (place-is k letters (l .letter) p (at-place k letters v p l e .0) .letter) n
+      asks-none k letters w (l .letter) p ls (place-is k letters (l .letter) p (at-place k letters v p l e .0) .letter)
+      n
 
   asks-apart : (p : ℕ) (ls : List Literal) → distinct (lettersOf ls) ≡ true → asks k letters true p ls ≡ true
       → asks k letters false p ls ≡ false
@@ -33,7 +34,8 @@ module _ (k : ℕ) (letters : List ℕ) where
       let w = and-true (not (isIn (l .letter) (lettersOf ls))) (distinct (lettersOf ls)) d in
       let new = not-true (isIn (l .letter) (lettersOf ls)) (w .0) in
       or-neither (isAt k letters false p l) (asks k letters false p ls)
-      (false-of-not-true (isAt k letters false p l) (λ h. first new h (or-true (isAt k letters true p l) (asks k letters true p ls) e)))
+      (false-of-not-true (isAt k letters false p l)
+      (λ h. first new h (or-true (isAt k letters true p l) (asks k letters true p ls) e)))
       (elim (or-true (isAt k letters true p l) (asks k letters true p ls) e) [
         | inl h ↦ asked-once p l ls new true false h
         | inr h ↦ asks-apart p ls (w .1) h
@@ -48,5 +50,6 @@ module _ (k : ℕ) (letters : List ℕ) where
       → distinct (lettersOf ls) ≡ true → Apart (maskOf k letters ls)
   mask-apart ls few d n = record {
     apart = λ p h e.
-        sum-is k letters false ls few d n .truths p h ∙ asks-apart p ls n (sym (sum-is k letters true ls few d n .truths p h) ∙ e);
+        sum-is k letters false ls few d n .truths p h
+        ∙ asks-apart p ls n (sym (sum-is k letters true ls few d n .truths p h) ∙ e);
   }

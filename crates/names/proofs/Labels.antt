@@ -26,7 +26,8 @@ use Rattle.names.specs.Defined.{placeOf, allDefined, weight, weights}
 -- one weight more, which the sum does not have yet
 stepAt : ℕ → ℕ → ℕ → Bool
 stepAt k m p =
-    truth m p || (ltb (m + 2 ^ p) (2 ^ k) && allBelow L.signals (λ q. Bool·beq (truth (m + 2 ^ p) q) (eqb q p || truth m q)))
+    truth m p || (ltb (m + 2 ^ p) (2 ^ k)
+    && allBelow L.signals (λ q. Bool·beq (truth (m + 2 ^ p) q) (eqb q p || truth m q)))
 
 steps-hold : allBelow 5 (λ k. allBelow (2 ^ k) (λ m. allBelow k (stepAt k m))) ≡ true
 unfolding stepAt
@@ -59,9 +60,11 @@ nothing-true : (p : ℕ) → p < L.signals → truth 0 p ≡ false
 nothing-true p h = not-true (truth 0 p) (true-of-allBelow (λ p. not (truth 0 p)) L.signals refl p h)
 
 -- letters are defined where each is
-pub allDefined-every : (k : ℕ) (letters bs : List ℕ) → allDefined k letters bs ≡ every (λ b. answers (placeOf k letters b)) bs
+pub allDefined-every : (k : ℕ) (letters bs : List ℕ) → allDefined k letters bs
+    ≡ every (λ b. answers (placeOf k letters b)) bs
 allDefined-every k letters [] = refl
-allDefined-every k letters (b ∷ bs) = ap (λ (t : Bool). answers (placeOf k letters b) && t) (allDefined-every k letters bs)
+allDefined-every k letters (b ∷ bs) = ap (λ (t : Bool). answers (placeOf k letters b) && t)
+    (allDefined-every k letters bs)
 
 module _ (k : ℕ) (letters : List ℕ) where
   -- a letter stands where it was found
@@ -91,7 +94,8 @@ module _ (k : ℕ) (letters : List ℕ) where
     pub truths : (p : ℕ) → p < L.signals → truth (weights k letters v ls) p ≡ asks v p ls
 
   -- a letter that stands nowhere else is asked for nowhere else
-  pub asks-none : (v : Bool) (b p : ℕ) (ls : List Literal) → getD letters p 0 ≡ b → isIn b (lettersOf ls) ≡ false → asks v p ls ≡ false
+  pub asks-none : (v : Bool) (b p : ℕ) (ls : List Literal) → getD letters p 0 ≡ b → isIn b (lettersOf ls) ≡ false
+      → asks v p ls ≡ false
   asks-none v b p [] h e = refl
   asks-none v b p (l ∷ ls) h e =
       let w = or-false (eqb b (l .letter)) (isIn b (lettersOf ls)) e in
@@ -109,14 +113,16 @@ module _ (k : ℕ) (letters : List ℕ) where
             | inr y ↦ rw y (and-false (Bool·beq v (l .value)))
           ]
 
-  sum-cons : (v : Bool) (l : Literal) (ls : List Literal) (p : ℕ) → k ≤ L.signals → placeOf k letters (l .letter) ≡ some p
+  sum-cons : (v : Bool) (l : Literal) (ls : List Literal) (p : ℕ) → k ≤ L.signals
+      → placeOf k letters (l .letter) ≡ some p
       → isIn (l .letter) (lettersOf ls) ≡ false → SumIs v ls → SumIs v (l ∷ ls)
   sum-cons v l ls p kh e n w =
       let at = place-is (l .letter) p e in
       let rest = weights k letters v ls in
       elim (either (Bool·beq v (l .value))) [
         | inl y ↦
-            let none-yet : truth rest p ≡ false = w .truths p (omega (arith, at .below)) ∙ asks-none v (l .letter) p ls (at .letter) n in
+            let none-yet : truth rest p ≡ false = w .truths p (omega (arith, at .below))
+            ∙ asks-none v (l .letter) p ls (at .letter) n in
             let more = one-more k rest p kh (w .below) (at .below) none-yet in
             let is : weights k letters v (l ∷ ls) ≡ rest + 2 ^ p = rw (y, e, weight) (omega arith) in
             record {
@@ -135,7 +141,8 @@ module _ (k : ℕ) (letters : List ℕ) where
       let a = and-true (answers (placeOf k letters (l .letter))) (allDefined k letters (lettersOf ls)) d in
       let b = and-true (not (isIn (l .letter) (lettersOf ls))) (distinct (lettersOf ls)) n in
       let p = answered (placeOf k letters (l .letter)) (a .0) in
-      sum-cons v l ls (p .0) kh (p .1) (not-true (isIn (l .letter) (lettersOf ls)) (b .0)) (sum-is v ls kh (a .1) (b .1))
+      sum-cons v l ls (p .0) kh (p .1) (not-true (isIn (l .letter) (lettersOf ls)) (b .0))
+      (sum-is v ls kh (a .1) (b .1))
 
 -- the sums of at most four signals fit a byte
 pub scenarios-fit : (k : ℕ) → k ≤ L.signals → 2 ^ k ≤ 16

@@ -38,10 +38,12 @@ module _ (k : ℕ) (letters : List ℕ) where
     pub place : placeOf k letters (literal .letter) ≡ some p
     pub value : literal .value ≡ v
 
-  at-here : (v : Bool) (p : ℕ) (l : Literal) → placeOf k letters (l .letter) ≡ some p → l .value ≡ v → isAt k letters v p l ≡ true
+  at-here : (v : Bool) (p : ℕ) (l : Literal) → placeOf k letters (l .letter) ≡ some p → l .value ≡ v
+      → isAt k letters v p l ≡ true
   at-here v p l e h = rw (e, isAt, h) (and-both (Bool·beq v v) (eqb p p) (beq-refl v) (eq-eqb p p refl))
 
-  pub at-place : (v : Bool) (p : ℕ) (l : Literal) → isAt k letters v p l ≡ true → (placeOf k letters (l .letter) ≡ some p) × (l .value ≡ v)
+  pub at-place : (v : Bool) (p : ℕ) (l : Literal) → isAt k letters v p l ≡ true
+      → (placeOf k letters (l .letter) ≡ some p) × (l .value ≡ v)
   at-place v p l e = by-place (placeOf k letters (l .letter)) refl e
     where
       by-place : (o : Option ℕ) → placeOf k letters (l .letter) ≡ o
@@ -56,7 +58,8 @@ module _ (k : ℕ) (letters : List ℕ) where
       → asks k letters (l .value) p ls ≡ true
   asks-member l p (List·Memᴰ·head {x} {xs} e) h =
       or-left (isAt k letters (l .value) p x) (asks k letters (l .value) p xs)
-      (at-here (l .value) p x (ap (λ (y : Literal). placeOf k letters (y .letter)) (sym e) ∙ h) (ap (λ (y : Literal). y .value) (sym e)))
+      (at-here (l .value) p x (ap (λ (y : Literal). placeOf k letters (y .letter)) (sym e) ∙ h)
+      (ap (λ (y : Literal). y .value) (sym e)))
   asks-member l p (List·Memᴰ·tail {x} {xs} m) h =
       or-right (isAt k letters (l .value) p x) (asks k letters (l .value) p xs) (asks-member l p m h)
 
@@ -80,19 +83,22 @@ module _ (k : ℕ) (letters : List ℕ) where
     pub agrees-of-satisfies : satisfies s ℓ ≡ true → Agrees s ls
     unfolding satisfies
     agrees-of-satisfies e = record {
-      each = λ l m p h. by-value (l .value) p (asks-member l p m h) (omega (arith, place-is k letters (l .letter) p h .below));
+      each = λ l m p h. by-value (l .value) p (asks-member l p m h)
+          (omega (arith, place-is k letters (l .letter) p h .below));
     }
       where
         by-value : (v : Bool) (p : ℕ) → asks k letters v p ls ≡ true → p < L.signals → truth s p ≡ v
         by-value true p a below =
             let w = and-true (not (truth (ℓ .positive) p) || truth s p) (not (truth (ℓ .negative) p) || not (truth s p))
             (true-of-allBelow (asked s ℓ) L.signals e p below) in
-            implied (truth (ℓ .positive) p) (truth s p) (w .0) (sum-is k letters true ls few defined unlike .truths p below ∙ a)
+            implied (truth (ℓ .positive) p) (truth s p) (w .0)
+            (sum-is k letters true ls few defined unlike .truths p below ∙ a)
         by-value false p a below =
             let w = and-true (not (truth (ℓ .positive) p) || truth s p) (not (truth (ℓ .negative) p) || not (truth s p))
             (true-of-allBelow (asked s ℓ) L.signals e p below) in
             not-true (truth s p)
-            (implied (truth (ℓ .negative) p) (not (truth s p)) (w .1) (sum-is k letters false ls few defined unlike .truths p below ∙ a))
+            (implied (truth (ℓ .negative) p) (not (truth s p)) (w .1)
+            (sum-is k letters false ls few defined unlike .truths p below ∙ a))
 
     pub satisfies-of-agrees : Agrees s ls → satisfies s ℓ ≡ true
     unfolding satisfies

@@ -62,4 +62,5 @@ sums-hold = refl
 pub truths-sum : (k m : ℕ) → k ≤ L.signals → m < 2 ^ k → sumBelow k (weightIn m) ≡ m
 truths-sum k m few h =
     eqb-true (sumBelow k (weightIn m)) m
-    (true-of-allBelow (isSum k) (2 ^ k) (true-of-allBelow (λ k. allBelow (2 ^ k) (isSum k)) 5 sums-hold k (omega arith)) m h)
+    (true-of-allBelow (isSum k) (2 ^ k)
+    (true-of-allBelow (λ k. allBelow (2 ^ k) (isSum k)) 5 sums-hold k (omega arith)) m h)

@@ -77,7 +77,8 @@ literals-cons false bang b s = refl
 module _ (bang : Bool) (f : List ℕ) (i : ℕ) where
   pub literals-turn : i < length f
       → areLiterals bang (drop i f) ≡ mayFollow bang (getD f i 0) && areLiterals (eqb (getD f i 0) 33) (drop (i + 1) f)
-  literals-turn h = ap (areLiterals bang) (drop-here f i h) ∙ literals-cons (eqb (getD f i 0) 33) bang (getD f i 0) (drop (i + 1) f)
+  literals-turn h = ap (areLiterals bang) (drop-here f i h)
+      ∙ literals-cons (eqb (getD f i 0) 33) bang (getD f i 0) (drop (i + 1) f)
 
   pub literals-on : i < length f → mayFollow bang (getD f i 0) ≡ true
       → areLiterals bang (drop i f) ≡ areLiterals (eqb (getD f i 0) 33) (drop (i + 1) f)
@@ -99,8 +100,16 @@ letters-bang [] a b = refl
 letters-bang (x ∷ s) a b = by-bang (eqb x 33)
   where
     by-bang : (t : Bool)
-        → lettersOf (elim t [ true ↦ literals true s | false ↦ record { letter = x; value = not a } ∷ literals false s ])
-        ≡ lettersOf (elim t [ true ↦ literals true s | false ↦ record { letter = x; value = not b } ∷ literals false s ])
+        → lettersOf (elim t [
+          | true ↦ literals true s
+          | false ↦ record { letter = x; value = not a }
+              ∷ literals false s
+        ])
+        ≡ lettersOf (elim t [
+          | true ↦ literals true s
+          | false ↦ record { letter = x; value = not b }
+              ∷ literals false s
+        ])
     by-bang true = refl
     by-bang false = refl
 
@@ -156,11 +165,13 @@ module _ (t : List ℕ) (i : ℕ) where
 
 -- the sum of the weights, byte by byte
 weights-cons : (k : ℕ) (letters : List ℕ) (v bang : Bool) (b : ℕ) (s : List ℕ)
-    → weights k letters v (literals bang (b ∷ s)) ≡ addedBy k letters v bang b + weights k letters v (literals (eqb b 33) s)
+    → weights k letters v (literals bang (b ∷ s))
+    ≡ addedBy k letters v bang b + weights k letters v (literals (eqb b 33) s)
 weights-cons k letters v bang b s = by-bang (eqb b 33)
   where
     by-bang : (t : Bool)
-        → weights k letters v (elim t [ true ↦ literals true s | false ↦ record { letter = b; value = not bang } ∷ literals false s ])
+        → weights k letters v
+        (elim t [ true ↦ literals true s | false ↦ record { letter = b; value = not bang } ∷ literals false s ])
         ≡ cond t 0 (cond (Bool·beq v (not bang)) (weight k letters b) 0) + weights k letters v (literals t s)
     by-bang true = omega arith
     by-bang false = refl

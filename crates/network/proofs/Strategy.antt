@@ -50,10 +50,12 @@ module _ (Γ : Network) (σ : List ℕ) (s p m : ℕ) where
   is-unknown h = lt-leb _ _ h
 
 -- once known, known for good; so what is unknown was unknown before
-pub unknown-before : (Γ : Network) (σ : List ℕ) (s p i m : ℕ) → i ≤ m → known Γ σ s p m ≡ false → known Γ σ s p i ≡ false
+pub unknown-before : (Γ : Network) (σ : List ℕ) (s p i m : ℕ) → i ≤ m → known Γ σ s p m ≡ false
+    → known Γ σ s p i ≡ false
 unknown-before Γ σ s p i m h e = is-unknown Γ σ s p i (omega (arith, from-unknown Γ σ s p m e))
 
 -- what is observed at one time is known from one time on
 pub knownFrom-same : (Γ : Network) (σ : List ℕ) (s r p : ℕ)
-    → time (Γ .events) σ s (observation Γ p) ≡ time (Γ .events) σ r (observation Γ p) → knownFrom Γ σ s p ≡ knownFrom Γ σ r p
+    → time (Γ .events) σ s (observation Γ p) ≡ time (Γ .events) σ r (observation Γ p) → knownFrom Γ σ s p
+    ≡ knownFrom Γ σ r p
 knownFrom-same Γ σ s r p e = omega arith

@@ -34,7 +34,8 @@ module _ (f : ℕ → Bool) where
 module _ (f : ℕ → ℕ) where
   pub le-maxBelow : (n k : ℕ) → k < n → f k ≤ maxBelow n f
   le-maxBelow zero k h = absurd (omega arith)
-  le-maxBelow (suc n) k h = elim (eq-or-ne k n) [ inl q ↦ rw q (omega arith) | inr q ↦ omega (arith, le-maxBelow n k (omega arith)) ]
+  le-maxBelow (suc n) k h = elim (eq-or-ne k n)
+      [ inl q ↦ rw q (omega arith) | inr q ↦ omega (arith, le-maxBelow n k (omega arith)) ]
 
   pub maxBelow-le : (n m : ℕ) → ((k : ℕ) → k < n → f k ≤ m) → maxBelow n f ≤ m
   maxBelow-le zero m h = omega arith

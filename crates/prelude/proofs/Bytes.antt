@@ -31,9 +31,11 @@ module _ (f : ℕ → Bool) where
   true-of-every [] e b i = clash false i refl
   true-of-every (a ∷ bs) e b i =
       let p = and-true (f a) (every f bs) e in
-      elim (or-true (eqb b a) (isIn b bs) i) [ inl q ↦ rw (eqb-true b a q) (p .0) | inr q ↦ true-of-every bs (p .1) b q ]
+      elim (or-true (eqb b a) (isIn b bs) i)
+      [ inl q ↦ rw (eqb-true b a q) (p .0) | inr q ↦ true-of-every bs (p .1) b q ]
 
   pub every-true : (bs : List ℕ) → ((b : ℕ) → isIn b bs ≡ true → f b ≡ true) → every f bs ≡ true
   every-true [] h = refl
   every-true (a ∷ bs) h =
-      and-both (f a) (every f bs) (h a (rw (eq-eqb a a refl))) (every-true bs λ b i. h b (rw i (or-true-right (eqb b a))))
+      and-both (f a) (every f bs) (h a (rw (eq-eqb a a refl)))
+      (every-true bs λ b i. h b (rw i (or-true-right (eqb b a))))

@@ -20,8 +20,21 @@ cell-of n (suc m) i h =
     elim (lt-or-ge i (n * m)) [
       | inl p ↦
           let w = cell-of n m i p in
-          record { row = w .row; column = w .column; row-lt = omega (arith, w .row-lt); column-lt = w .column-lt; place = w .place }
-      | inr p ↦ record { row = m; column = i - n * m; row-lt = omega arith; column-lt = omega arith; place = omega arith }
+          record {
+            row = w .row;
+            column = w .column;
+            row-lt = omega (arith, w .row-lt);
+            column-lt = w .column-lt;
+            place = w .place;
+          }
+      | inr p ↦ record {
+        row = m;
+        column = i - n * m;
+        row-lt = omega arith;
+        column-lt = omega arith;
+        place =
+            omega arith;
+      }
     ]
 
 pub cell-lt : (n m s u : ℕ) → s < m → u < n → s * n + u < n * m

@@ -49,7 +49,8 @@ module _ {A : Type 0} (f : ℕ → Option A) where
   gatherFrom-more i zero j e = ap (λ (k : ℕ). ahead (f k) []) (omega arith)
   gatherFrom-more i (suc n) j e = rw (gatherFrom-more (suc i) n j (omega arith)) (behind (f i))
     where
-      behind : (o : Option A) → ahead o (gatherFrom (suc i) n f ++ ahead (f j) []) ≡ ahead o (gatherFrom (suc i) n f) ++ ahead (f j) []
+      behind : (o : Option A) → ahead o (gatherFrom (suc i) n f ++ ahead (f j) []) ≡ ahead o (gatherFrom (suc i) n f)
+          ++ ahead (f j) []
       behind none = refl
       behind (some x) = refl
 
@@ -71,7 +72,12 @@ module _ {A : Type 0} (f : ℕ → Option A) where
     pub is : f number ≡ some x
 
   abbrev later : (i n : ℕ) (x : A) → Answer (suc i) n x → Answer i (suc n) x
-  later i n x a = record { number = a .number; from = omega (arith, a .from); below = omega (arith, a .below); is = a .is }
+  later i n x a = record {
+    number = a .number;
+    from = omega (arith, a .from);
+    below = omega (arith, a .below);
+    is = a .is;
+  }
 
   module _ (d : A) where
     -- what stands in the list is an answer

@@ -29,7 +29,8 @@ module _ {A : Type 0} (f : ℕ → Option A) (d : A) (key : A → ℕ) where
       next-key = keyed (next .number) x (next .is)
 
       least : (p : ℕ) → p < length (x ∷ xs) → key x ≤ key (getD (x ∷ xs) p d)
-      least p h = elim (eq-or-ne p 0) [ inl e ↦ rw e (omega arith) | inr e ↦ omega (arith, l .ordered 0 p (omega arith) h) ]
+      least p h = elim (eq-or-ne p 0)
+          [ inl e ↦ rw e (omega arith) | inr e ↦ omega (arith, l .ordered 0 p (omega arith) h) ]
 
       silence : Silent f i (next .number)
       silence = record {

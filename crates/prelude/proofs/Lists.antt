@@ -81,7 +81,8 @@ every-of-each f bs e = at bs (λ i h. e .each i h)
     at [] h = refl
     at (b ∷ bs) h = and-both (f b) (every f bs) (h 0 (omega arith)) (at bs (λ i l. h (suc i) (omega arith)))
 
-pub each-mono : {A : Type 0} {P Q : A → Type 0} {xs : List A} {d : A} → ((x : A) → P x → Q x) → Each P xs d → Each Q xs d
+pub each-mono : {A : Type 0} {P Q : A → Type 0} {xs : List A} {d : A} → ((x : A) → P x → Q x) → Each P xs d
+    → Each Q xs d
 each-mono {xs = xs} {d = d} f e = record { each = λ i h. f (getD xs i d) (e .each i h) }
 
 -- the test for what stands in a list
@@ -103,7 +104,8 @@ isIn-at b (c ∷ bs) (suc i) h e =
 pub distinct-of-test : (bs : List ℕ) → distinct bs ≡ true → Distinct bs 0
 distinct-of-test bs e = record { once = at bs e }
   where
-    at : (bs : List ℕ) → distinct bs ≡ true → (i j : ℕ) → i < length bs → j < length bs → getD bs i 0 ≡ getD bs j 0 → i ≡ j
+    at : (bs : List ℕ) → distinct bs ≡ true → (i j : ℕ) → i < length bs → j < length bs → getD bs i 0
+        ≡ getD bs j 0 → i ≡ j
     at [] e i j h k z = absurd (omega arith)
     at (b ∷ bs) e zero zero h k z = refl
     at (b ∷ bs) e zero (suc j) h k z =
@@ -121,7 +123,8 @@ test-of-distinct [] o = refl
 test-of-distinct (b ∷ bs) o =
     and-both (not (isIn b bs)) (distinct bs)
     (new (either (isIn b bs)))
-    (test-of-distinct bs (record { once = λ i j h k e. omega (arith, o .once (suc i) (suc j) (omega arith) (omega arith) e) }))
+    (test-of-distinct bs
+    (record { once = λ i j h k e. omega (arith, o .once (suc i) (suc j) (omega arith) (omega arith) e) }))
   where
     new : (isIn b bs ≡ true) ⊎ (isIn b bs ≡ false) → not (isIn b bs) ≡ true
     new (inl p) =

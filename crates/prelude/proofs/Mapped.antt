@@ -10,12 +10,14 @@ use Rattle.prelude.specs.Lists.{Each}
 use Rattle.prelude.proofs.Bounded.{length-tabulate, getD-tabulate}
 
 module _ {A B : Type 0} where
-  pub getD-map : (f : A → B) (d : A) (e : B) (xs : List A) (i : ℕ) → i < length xs → getD (map f xs) i e ≡ f (getD xs i d)
+  pub getD-map : (f : A → B) (d : A) (e : B) (xs : List A) (i : ℕ) → i < length xs → getD (map f xs) i e
+      ≡ f (getD xs i d)
   getD-map f d e [] i h = absurd (omega arith)
   getD-map f d e (x ∷ xs) zero h = refl
   getD-map f d e (x ∷ xs) (suc i) h = getD-map f d e xs i (omega arith)
 
-  pub each-map : (f : A → B) (P : B → Type 0) (d : A) (e : B) (xs : List A) → Each (λ x. P (f x)) xs d → Each P (map f xs) e
+  pub each-map : (f : A → B) (P : B → Type 0) (d : A) (e : B) (xs : List A) → Each (λ x. P (f x)) xs d
+      → Each P (map f xs) e
   each-map f P d e xs w = record {
     each = λ i h.
         let l : i < length xs = omega (arith, length-map xs f) in
@@ -39,7 +41,8 @@ module _ {A B : Type 0} (f : A → B) (g : ℕ → A) where
   map-tabulate n = map-tabulateFrom 0 n
 
 -- the first n of a list are what stands at the first n places
-pub take-tabulate : {A : Type 0} (d : A) (n : ℕ) (xs : List A) → n ≤ length xs → take n xs ≡ tabulate n (λ i. getD xs i d)
+pub take-tabulate : {A : Type 0} (d : A) (n : ℕ) (xs : List A) → n ≤ length xs → take n xs
+    ≡ tabulate n (λ i. getD xs i d)
 take-tabulate {A} d n xs h =
     let f : ℕ → A = λ i. getD xs i d in
     let size = length-take-le n xs h in

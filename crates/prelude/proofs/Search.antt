@@ -43,7 +43,8 @@ module _ {A : Type 0} (f : ℕ → Option A) where
   turn-hit : (i n m : ℕ) (a : A) → n - i ≡ suc m → f i ≡ some a → firstFrom i (n - i) f ≡ some a
   turn-hit i n m a l e = rw (l, e)
 
-  turn-miss : (i n : ℕ) → n - i ≡ suc (n - (i + 1)) → f i ≡ none → firstFrom i (n - i) f ≡ firstFrom (i + 1) (n - (i + 1)) f
+  turn-miss : (i n : ℕ) → n - i ≡ suc (n - (i + 1)) → f i ≡ none → firstFrom i (n - i) f
+      ≡ firstFrom (i + 1) (n - (i + 1)) f
   turn-miss i n l e = rw (l, e, add-one)
 
   turn-none : (i n : ℕ) → n ≤ i → firstFrom i (n - i) f ≡ none

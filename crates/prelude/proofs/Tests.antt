@@ -97,4 +97,5 @@ eq-or-ne a b = elim (either (eqb a b)) [ inl p ↦ inl (eqb-true a b p) | inr q 
 
 -- equalities that hold together are one test
 pub eqb-same : (a b c d : ℕ) → (a ≡ b → c ≡ d) → (c ≡ d → a ≡ b) → eqb a b ≡ eqb c d
-eqb-same a b c d f g = same-tests (eqb a b) (eqb c d) (λ t. eq-eqb c d (f (eqb-true a b t))) (λ t. eq-eqb a b (g (eqb-true c d t)))
+eqb-same a b c d f g = same-tests (eqb a b) (eqb c d) (λ t. eq-eqb c d (f (eqb-true a b t)))
+    (λ t. eq-eqb a b (g (eqb-true c d t)))

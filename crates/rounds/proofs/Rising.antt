@@ -91,7 +91,13 @@ pub nonexpansive : (Γ : Network) → Nonexpansive (cells Γ) (propagate Γ)
 nonexpansive Γ = record {
   sized = λ σ _. length-propagate Γ σ;
   near = λ e τ σ _ _ o. over-by-cell Γ e (propagate Γ τ) (propagate Γ σ) (length-propagate Γ σ)
-      (λ s u hs hu. omega (arith, time-propagate Γ σ s u hs hu, time-propagate Γ τ s u hs hu, raised-near Γ e σ τ o s u));
+      (λ s u hs hu. omega (
+        arith,
+        time-propagate Γ σ s u hs hu,
+        time-propagate Γ τ s u hs hu,
+        raised-near Γ e
+            σ τ o s u,
+      ));
 }
 
 pub rising : (Γ : Network) → Rising (cells Γ) (propagate Γ)

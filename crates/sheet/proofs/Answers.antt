@@ -28,7 +28,8 @@ module _ (sheet : List ℕ) where
   end-comes : (Γ : Network) (at k : ℕ) → At sheet NoMore Γ at k → Ends (readEnd sheet Γ at k)
   end-comes Γ at k a = by-bytes (follows sheet at) refl
     where
-      by-bytes : (b : Bool) → follows sheet at ≡ b → Ends (stopOr k (firstFailing ((not b, C.TrailingBytes) ∷ [])) (Go Γ at k))
+      by-bytes : (b : Bool) → follows sheet at ≡ b
+          → Ends (stopOr k (firstFailing ((not b, C.TrailingBytes) ∷ [])) (Go Γ at k))
       by-bytes true e = stops sheet NoMore Γ at k a C.TrailingBytes (inl (ap not e, refl))
       by-bytes false e =
           all-hold sheet (a .above)

@@ -18,7 +18,8 @@ use Rattle.line.specs.Tests.{Tests, sectionCount}
 use Rattle.line.specs.Sections.{withLine}
 use Rattle.line.specs.declared.Section.{Section}
 use Rattle.line.specs.declared.Section.the-variants.{Events, Signals, Rules}
-use Rattle.sheet.specs.Reading.{Progress, Stop, Go, stopOr, andThen, readEntries, readSection, readHorizon, follows}
+use Rattle.sheet.specs.Reading.{Progress, Stop, Go, stopOr, andThen, readEntries, readSection, readHorizon}
+use Rattle.sheet.specs.Reading.{follows}
 use Rattle.sheet.specs.Place.{Due, Horizon, Heading, Entry, NoMore, behind, entries, Place, testsAt, dueAfter}
 use Rattle.sheet.specs.Place.{definedAfter}
 use Rattle.sheet.specs.Place.{next, place, tests}
@@ -116,7 +117,8 @@ module _ (sheet : List ℕ) where
   sections-come =
       then-comes (λ at. Heading Rules) (λ at. NoMore) (toSignals sheet) (readSection sheet Rules)
       (then-comes (λ at. Heading Signals) (λ at. Heading Rules) (toEvents sheet) (readSection sheet Signals)
-      (then-comes (λ at. Heading Events) (λ at. Heading Signals) (readHorizon sheet) (readSection sheet Events) horizon-comes
+      (then-comes (λ at. Heading Events) (λ at. Heading Signals) (readHorizon sheet) (readSection sheet Events)
+      horizon-comes
       (section-comes Events))
       (section-comes Signals))
       (section-comes Rules)

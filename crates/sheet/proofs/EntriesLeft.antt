@@ -43,7 +43,8 @@ module _ {sheet : List ℕ} {s : Section} {p : Progress} where
   pub reads-stop : (left : ℕ) (Γ : Network) (at k : ℕ) (c : Cause) → EntriesLeft sheet s p left Γ at k → 0 < left
       → refusalAt sheet at k (testsOf sheet s Γ) ≡ some c → Stop (refusal c k) ≡ p
   reads-stop zero Γ at k c w h e = absurd (omega arith)
-  reads-stop (suc m) Γ at k c w h e = sym (readLine-stop sheet at k (testsOf sheet s Γ) (behind sheet s m Γ at k) c e) ∙ w .rest
+  reads-stop (suc m) Γ at k c w h e = sym (readLine-stop sheet at k (testsOf sheet s Γ) (behind sheet s m Γ at k) c e)
+      ∙ w .rest
 
   pub reads-on : (left : ℕ) (Γ : Network) (at k : ℕ) → EntriesLeft sheet s p left Γ at k → 0 < left
       → refusalAt sheet at k (testsOf sheet s Γ) ≡ none
@@ -55,7 +56,8 @@ module _ {sheet : List ℕ} {s : Section} {p : Progress} where
       record {
         rest = rw (one, add-one, ← d, ← q)
             (sym (readLine-on sheet at k (testsOf sheet s Γ) (behind sheet s m Γ at k) e) ∙ w .rest);
-        stage = rw (one, add-one, ← d, ← q) (stage-keeps sheet s m Γ at k (w .stage) (passes sheet at k (testsOf sheet s Γ) e));
+        stage = rw (one, add-one, ← d, ← q)
+            (stage-keeps sheet s m Γ at k (w .stage) (passes sheet at k (testsOf sheet s Γ) e));
       }
 
   pub reads-end : {left : ℕ} {Γ : Network} {at k : ℕ} → EntriesLeft sheet s p left Γ at k → left ≤ 0 → Go Γ at k ≡ p

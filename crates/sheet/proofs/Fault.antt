@@ -55,18 +55,21 @@ module _ (sheet : List ℕ) where
   -- so "on one line the lowest number" decides
   pub fault-lowest : (r : Refusal) (f : FirstFault sheet r) (d : Cause) → Fails (tests sheet (f .above)) d
       → numberOf (r .cause) ≤ numberOf d
-  fault-lowest r f d g = first-fails-lowest 1 10 (tests sheet (f .above)) (r .cause) d (tests-in-order sheet (f .above)) (f .fault) g
+  fault-lowest r f d g = first-fails-lowest 1 10 (tests sheet (f .above)) (r .cause) d
+      (tests-in-order sheet (f .above)) (f .fault) g
 
   -- a fault's number and line: 1 with line 0, or 2 to 10 with a line from 1 on
   pub first-fault-range : (r : Refusal) → FirstFault sheet r → (1 < numberOf (r .cause)) × (numberOf (r .cause) ≤ 10)
-  first-fault-range r f = first-fails-between 1 10 (tests sheet (f .above)) (r .cause) (tests-in-order sheet (f .above)) (f .fault)
+  first-fault-range r f = first-fails-between 1 10 (tests sheet (f .above)) (r .cause)
+      (tests-in-order sheet (f .above)) (f .fault)
 
   -- a fault stands at most one line behind as many lines as the sheet has bytes
   pub first-fault-near : (r : Refusal) → FirstFault sheet r → r .line ≤ suc (length sheet)
   first-fault-near r f =
       elim (lines-inside sheet (f .above) (f .pass)) [
         | inl i ↦ omega (arith, i .0, i .1, f .line)
-        | inr o ↦ fails-not-hold (tests sheet (f .above)) (r .cause) (f .fault) (over-holds sheet (place sheet (f .above)) o)
+        | inr o ↦ fails-not-hold (tests sheet (f .above)) (r .cause) (f .fault)
+            (over-holds sheet (place sheet (f .above)) o)
       ]
 
 -- a sheet is refused with its fault and with no other refusal

@@ -54,7 +54,8 @@ module _ (sheet : List ℕ) where
   due-in-order Horizon Γ at = omega arith & omega arith & omega arith & omega arith & omega arith
   due-in-order (Heading s) Γ at = omega arith & omega arith & omega arith & omega arith & omega arith
   due-in-order (Entry Events m) Γ at = omega arith & omega arith & omega arith & omega arith & omega arith
-  due-in-order (Entry Signals m) Γ at = omega arith & omega arith & omega arith & omega arith & omega arith & omega arith
+  due-in-order (Entry Signals m) Γ at = omega arith & omega arith & omega arith & omega arith & omega arith
+      & omega arith
   due-in-order (Entry Rules m) Γ at =
       omega arith & omega arith & omega arith & omega arith & omega arith & omega arith & omega arith & omega arith
   due-in-order NoMore Γ at = omega arith & omega arith

@@ -36,7 +36,8 @@ module _ (sheet : List ℕ) where
         | inr n ↦ over-on (place sheet j) (over-from k j o (omega arith))
       ]
 
-  pub all-hold : (k : ℕ) → Over (place sheet k) → ((j : ℕ) → j < k → Hold (tests sheet j)) → (j : ℕ) → Hold (tests sheet j)
+  pub all-hold : (k : ℕ) → Over (place sheet k) → ((j : ℕ) → j < k → Hold (tests sheet j)) → (j : ℕ)
+      → Hold (tests sheet j)
   all-hold k o pass j =
       elim (lt-or-ge j k) [
         | inl l ↦ pass j l

@@ -18,7 +18,8 @@ first-field l =
     omega (arith, endOf-le 0 l some, endOf-is 0 (fields l) some)
 
 -- a line that ends lies inside the sheet, with its line feed
-pub line-inside : (sheet : List ℕ) (at : ℕ) → endsAt sheet at ≡ true → at + (length (lineAt sheet at) + 1) ≤ length sheet
+pub line-inside : (sheet : List ℕ) (at : ℕ) → endsAt sheet at ≡ true
+    → at + (length (lineAt sheet at) + 1) ≤ length sheet
 line-inside sheet at e =
     let h = upTo-lt-of-isIn lineFeed (drop at sheet) e in
     omega (arith, length-drop at sheet)
@@ -36,5 +37,6 @@ only-field (b ∷ s) h =
       | inr e ↦
           let n = ap length (fields-byte b s e) in
           let one : length (fields s) ≡ 1 = omega (arith, length-intoFirst b (fields s)) in
-          ap (field 0) (fields-byte b s e) ∙ only-byte b (fields s) (1-le-fields s) ∙ ap (λ (f : List ℕ). b ∷ f) (only-field s one)
+          ap (field 0) (fields-byte b s e) ∙ only-byte b (fields s) (1-le-fields s)
+          ∙ ap (λ (f : List ℕ). b ∷ f) (only-field s one)
     ]

@@ -48,7 +48,8 @@ module _ (sheet : List ℕ) (at k : ℕ) (ts : List (List ℕ) → Tests) where
     pub ends : endsAt sheet at ≡ true
     pub accepted : firstFailing (ts fs) ≡ none
 
-  passing-line : (b : Bool) → firstFailing ((b, C.MissingLine) ∷ ts fs) ≡ none → (b ≡ true) × (firstFailing (ts fs) ≡ none)
+  passing-line : (b : Bool) → firstFailing ((b, C.MissingLine) ∷ ts fs) ≡ none → (b ≡ true)
+      × (firstFailing (ts fs) ≡ none)
   passing-line true e = (refl, e)
   passing-line false e = some-not-none C.MissingLine e
 
@@ -81,7 +82,8 @@ module _ (sheet : List ℕ) (s : Section) (P : ℕ → Network → ℕ → ℕ �
       (m : ℕ) (Γ : Network) (at k : ℕ) → P (suc m) Γ at k → Passes sheet at k (testsOf sheet s Γ)
       → P m (withLine sheet s Γ at (fields (lineAt sheet at))) (afterLine sheet at) (suc k)
 
-  pub entries-keep : Keeps → (m : ℕ) (Γ Δ : Network) (at k b j : ℕ) → P m Γ at k → readEntries sheet s m Γ at k ≡ Go Δ b j → P 0 Δ b j
+  pub entries-keep : Keeps → (m : ℕ) (Γ Δ : Network) (at k b j : ℕ) → P m Γ at k → readEntries sheet s m Γ at k
+      ≡ Go Δ b j → P 0 Δ b j
   entries-keep keep zero Γ Δ at k b j h e =
       let network : Γ ≡ Δ = cc in
       let place : at ≡ b = cc in

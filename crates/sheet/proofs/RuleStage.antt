@@ -37,7 +37,8 @@ neg-limits (suc m) h = h
 
 limits-of : (f : List ℕ) → magnitude f ≤ L.horizon → InLimits (valueOf f)
 limits-of f h =
-    by-cond InLimits (isNegative f) (negℤ (pos (magnitude f))) (pos (magnitude f)) (λ e. neg-limits (magnitude f) h) (λ e. h)
+    by-cond InLimits (isNegative f) (negℤ (pos (magnitude f))) (pos (magnitude f))
+    (λ e. neg-limits (magnitude f) h) (λ e. h)
 
 module _ (sheet : List ℕ) {m : ℕ} {Γ : Network} {at k : ℕ} where
   -- a rule
@@ -52,7 +53,8 @@ module _ (sheet : List ℕ) {m : ℕ} {Γ : Network} {at k : ℕ} where
       let c = ruleOf sheet Γ fs in
       let ends = and-true (answers (eventOf sheet Γ (field 1 fs)))
       (answers (eventOf sheet Γ (field 2 fs)) && allDefined (Γ .signals) (Γ .letters) (lettersOf ls)) (holds 4) in
-      let rest = and-true (answers (eventOf sheet Γ (field 2 fs))) (allDefined (Γ .signals) (Γ .letters) (lettersOf ls)) (ends .1) in
+      let rest = and-true (answers (eventOf sheet Γ (field 2 fs)))
+      (allDefined (Γ .signals) (Γ .letters) (lettersOf ls)) (ends .1) in
       let few = w .signals in
       let room = w .rules in
       let kept = w .arrays .constraints in
@@ -80,7 +82,14 @@ module _ (sheet : List ℕ) {m : ℕ} {Γ : Network} {at k : ℕ} where
                 | inr x ↦
                     let y = w .proper d (omega arith) in
                     rw (getD-set-other (Γ .constraints) (Γ .rules) d c noConstraint x)
-                    (record { from = y .from; to = y .to; bound = y .bound; positive = y .positive; negative = y .negative })
+                    (record {
+                      from = y .from;
+                      to = y .to;
+                      bound = y .bound;
+                      positive = y .positive;
+                      negative = y
+                          .negative;
+                    })
               ];
         };
         named = record { inside = g .named .inside; short = g .named .short };

@@ -87,7 +87,8 @@ module _ (sheet : List ℕ) (s : Section) (at k : ℕ) (rest : List ℕ) (is : r
   abbrev lines : List (List ℕ) → Progress
   lines fs = readEntries sheet s (sectionCount fs) Γ (afterLine sheet at) (suc k)
 
-  pub section-stops : (c : Cause) → headingAt rest (headingOf s) ≡ S.Refused c → Stop (refusal c k) ≡ readSection sheet s Γ at k
+  pub section-stops : (c : Cause) → headingAt rest (headingOf s) ≡ S.Refused c → Stop (refusal c k)
+      ≡ readSection sheet s Γ at k
   section-stops c e = section-stop sheet at k (headingOf s) rest is lines c e
 
   -- its line passes, with count m and of length n, and then m lines are read
@@ -122,7 +123,8 @@ module _ (sheet : List ℕ) where
   pub horizon-goes : (m n : ℕ) → headingAt sheet horizonHeading ≡ S.Count m n
       → HorizonGoes m n
   horizon-goes m n e =
-      let w = section-read sheet 0 1 horizonHeading sheet refl (λ fs. Go (empty (sectionCount fs)) (afterLine sheet 0) 2) m n e in
+      let w = section-read sheet 0 1 horizonHeading sheet refl
+      (λ fs. Go (empty (sectionCount fs)) (afterLine sheet 0) 2) m n e in
       let count = w .count in
       let after : n + 1 ≡ afterLine sheet 0 = omega (arith, w .after) in
       record {
@@ -137,6 +139,8 @@ module _ (sheet : List ℕ) where
   pub read-too-long : longest < length sheet → answered (Stop (refusal C.TooLong 0)) ≡ read sheet
   read-too-long h = ap answered (sym (too-long sheet h))
 
-  pub read-whole : (a b c d : Progress) → length sheet ≤ longest → a ≡ readHorizon sheet → b ≡ andThen a (readSection sheet Events)
-      → c ≡ andThen b (readSection sheet Signals) → d ≡ andThen c (readSection sheet Rules) → answered (andThen d (readEnd sheet)) ≡ read sheet
+  pub read-whole : (a b c d : Progress) → length sheet ≤ longest → a ≡ readHorizon sheet → b
+      ≡ andThen a (readSection sheet Events)
+      → c ≡ andThen b (readSection sheet Signals) → d ≡ andThen c (readSection sheet Rules)
+      → answered (andThen d (readEnd sheet)) ≡ read sheet
   read-whole a b c d h i j k l = rw (in-length sheet h, l, k, j, i)

@@ -31,7 +31,8 @@ use Rattle.sheet.proofs.Stages.{came-le}
 module _ (sheet : List ℕ) {m : ℕ} {Γ : Network} {at k : ℕ} where
   -- a signal
   pub stage-signal : Stage sheet (toCome Signals (suc m)) Γ at k → Passes sheet at k (signalTests sheet Γ)
-      → Stage sheet (toCome Signals m) (withLine sheet Signals Γ at (fields (lineAt sheet at))) (afterLine sheet at) (suc k)
+      → Stage sheet (toCome Signals m) (withLine sheet Signals Γ at (fields (lineAt sheet at)))
+      (afterLine sheet at) (suc k)
   unfolding signalTests
   stage-signal g p =
       let w = g .forming in

@@ -73,13 +73,17 @@ module _ (sheet : List ℕ) {Γ : Network} {at k : ℕ} where
       by-section : (s : Section) → headingOf s .least ≤ m → m ≤ headingOf s .most → Stage sheet (whole s) Γ at k
           → Stage sheet (toCome s m) Γ (afterLine sheet at) (suc k)
       by-section Events lo hi g =
-          stage-on hi (omega arith) (omega arith) (omega (arith, andMore-is (Γ .events) m)) (line-inside sheet at p) on g
-      by-section Signals lo hi g = stage-on (omega arith) hi (omega arith) (g .forming .some-event) (line-inside sheet at p) on g
-      by-section Rules lo hi g = stage-on (omega arith) (omega arith) hi (g .forming .some-event) (line-inside sheet at p) on g
+          stage-on hi (omega arith) (omega arith) (omega (arith, andMore-is (Γ .events) m))
+          (line-inside sheet at p) on g
+      by-section Signals lo hi g = stage-on (omega arith) hi (omega arith) (g .forming .some-event)
+          (line-inside sheet at p) on g
+      by-section Rules lo hi g = stage-on (omega arith) (omega arith) hi (g .forming .some-event)
+          (line-inside sheet at p) on g
 
   -- an event
   pub stage-event : {m : ℕ} → Stage sheet (toCome Events (suc m)) Γ at k → Passes sheet at k (eventTests sheet Γ)
-      → Stage sheet (toCome Events m) (withEvent Γ at (length (field 0 (fields (lineAt sheet at))))) (afterLine sheet at) (suc k)
+      → Stage sheet (toCome Events m) (withEvent Γ at (length (field 0 (fields (lineAt sheet at)))))
+      (afterLine sheet at) (suc k)
   unfolding eventTests
   stage-event {m} g p =
       let f = field 0 (fields (lineAt sheet at)) in
@@ -122,13 +126,18 @@ module _ (sheet : List ℕ) {Γ : Network} {at k : ℕ} where
                     )
                     (omega arith)
                 | inr q ↦
-                    rw (getD-set-other (Γ .starts) (Γ .events) u at 0 q, getD-set-other (Γ .lengths) (Γ .events) u (length f) 0 q)
+                    rw (
+                      getD-set-other (Γ .starts) (Γ .events) u at 0 q,
+                      getD-set-other (Γ .lengths) (Γ .events) u
+                          (length f) 0 q,
+                    )
                     (g .named .inside u (omega arith))
               ];
           short = λ u h.
               elim (eq-or-ne u (Γ .events)) [
                 | inl q ↦ rw (q, getD-set-same (Γ .lengths) (Γ .events) (length f) 0 (omega arith)) (name-short f fits)
-                | inr q ↦ rw (getD-set-other (Γ .lengths) (Γ .events) u (length f) 0 q) (g .named .short u (omega arith))
+                | inr q ↦ rw (getD-set-other (Γ .lengths) (Γ .events) u (length f) 0 q)
+                    (g .named .short u (omega arith))
               ];
         };
         inside = here;

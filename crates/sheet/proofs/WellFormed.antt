@@ -33,7 +33,8 @@ use Rattle.sheet.proofs.Stages.{stage-section}
 use Rattle.sheet.proofs.EntriesLeft.{Before, stage-keeps}
 
 module _ (sheet : List ℕ) where
-  pub stage-empty : (h at k : ℕ) → h ≤ L.horizon → at ≤ length sheet → k ≤ suc at → Stage sheet (whole Events) (empty h) at k
+  pub stage-empty : (h at k : ℕ) → h ≤ L.horizon → at ≤ length sheet → k ≤ suc at
+      → Stage sheet (whole Events) (empty h) at k
   stage-empty h at k b i l = record {
     forming = record {
       horizon = b;
@@ -62,7 +63,8 @@ module _ (sheet : List ℕ) where
       let place : afterLine sheet 0 ≡ at = by-go (w .then) .1 in
       let line : 2 ≡ k = by-go (w .then) .2 in
       rw (← network, ← place, ← line)
-      (stage-empty (sectionCount fs) (afterLine sheet 0) 2 (c .most) (line-inside sheet 0 (w .passed .ends)) (omega arith))
+      (stage-empty (sectionCount fs) (afterLine sheet 0) 2 (c .most) (line-inside sheet 0 (w .passed .ends))
+      (omega arith))
     where
       by-go : {Γ Δ : Network} {a b j k : ℕ} → Go Γ a j ≡ Go Δ b k → (Γ ≡ Δ) × (a ≡ b) × (j ≡ k)
       by-go e = (cc, cc, cc)
@@ -97,13 +99,15 @@ module _ (sheet : List ℕ) where
       (section-ready Signals (toEvents sheet) (toSignals sheet) refl
       (section-ready Events (readHorizon sheet) (toEvents sheet) refl (horizon-ready (readHorizon sheet) refl)))
 
-  read-stage : (Γ : Network) (at k : ℕ) → progress sheet ≡ Go Γ at k → (b : ℕ) × (j : ℕ) × Stage sheet (toCome Rules 0) Γ b j
+  read-stage : (Γ : Network) (at k : ℕ) → progress sheet ≡ Go Γ at k → (b : ℕ) × (j : ℕ)
+      × Stage sheet (toCome Rules 0) Γ b j
   read-stage Γ at k e =
       let w = came (toRules sheet) (readEnd sheet) Γ at k (within-length sheet Γ at k e .1) in
       let same = ended (w .network) Γ (w .at) (w .line) at k (w .then) in
       (w .at, w .line, rw same at (sections-ready (w .network) (w .at) (w .line) (w .first)))
 
-pub read-well-formed : (sheet : List ℕ) (Γ : Network) (at k : ℕ) → progress sheet ≡ Go Γ at k → WellFormed Γ × Named sheet Γ
+pub read-well-formed : (sheet : List ℕ) (Γ : Network) (at k : ℕ) → progress sheet ≡ Go Γ at k → WellFormed Γ
+    × Named sheet Γ
 read-well-formed sheet Γ at k e =
     let g = read-stage sheet Γ at k e .2 in (g .forming, g .named)
 

@@ -75,7 +75,8 @@ module _ (sheet : List ℕ) where
       elim (leb (length sheet) longest) [
         | false ↦ Stop (refusal C.TooLong 0)
         | true ↦
-            andThen (andThen (andThen (andThen readHorizon (readSection Events)) (readSection Signals)) (readSection Rules))
+            andThen (andThen (andThen (andThen readHorizon (readSection Events)) (readSection Signals))
+            (readSection Rules))
             readEnd
       ]
 

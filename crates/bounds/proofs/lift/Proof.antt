@@ -18,26 +18,8 @@ abbrev μ-loop : tie.MeasureT-loop
 loop-holds : tie.Need-loop-holds Inv-loop μ-loop
 loop-holds c = (omega arith, wrote-none _ _ _)
 
-mul-o : tie.Need-mul-o Inv-loop μ-loop
-mul-o c = search needs
-
-element-copy-out-o : tie.Need-element-copy-out-o Inv-loop μ-loop
-element-copy-out-o c = search needs
-
 add-o : tie.Need-add-o Inv-loop μ-loop
 add-o c = omega (arith, c .before .before .before .pre .0 (c .before .before .loop .u) (c .before .loop-test .taken))
-
-mul-o-2 : tie.Need-mul-o-2 Inv-loop μ-loop
-mul-o-2 c = search needs
-
-element-write-o : tie.Need-element-write-o Inv-loop μ-loop
-element-write-o c = search needs
-
-add-u : tie.Need-add-u Inv-loop μ-loop
-add-u c = search needs
-
-loop-less : tie.Need-loop-less Inv-loop μ-loop
-loop-less c = search needs
 
 loop-again : tie.Need-loop-again Inv-loop μ-loop
 loop-again c = (omega arith, wrote-next _ _ _ (c .before .before .loop .inv .1) (omega arith) (omega arith) refl)
@@ -48,16 +30,5 @@ returns c = row-of-wrote _ (c .before .loop .inv .1) (c .loop-test .left) (c .be
 pub lift-spec : {M : Type 1} → statement M
 lift-spec =
     tie.close
-    (tie.spec
-    Inv-loop
-    μ-loop
-    loop-holds
-    mul-o
-    element-copy-out-o
-    add-o
-    mul-o-2
-    element-write-o
-    add-u
-    loop-less
-    loop-again
-    returns)
+    (tie.spec Inv-loop μ-loop loop-holds (λ c. search needs) (λ c. search needs) add-o (λ c. search needs)
+    (λ c. search needs) (λ c. search needs) (λ c. search needs) loop-again returns)

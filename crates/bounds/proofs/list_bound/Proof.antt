@@ -49,12 +49,6 @@ append-requires c κs =
       room _ _ _ _ _ _ i (z .args .frame .events) (lists-are l) (z .pre .2) (scenario-in l),
     )
 
-add-s : tie.Need-add-s Inv-loop μ-loop
-add-s c = search needs
-
-loop-less : tie.Need-loop-less Inv-loop μ-loop
-loop-less c = search needs
-
 loop-again : tie.Need-loop-again Inv-loop μ-loop
 loop-again c =
     let l = c .before .before in
@@ -79,13 +73,5 @@ returns c =
 pub list-bound-spec : {M : Type 1} → statement M
 list-bound-spec =
     tie.close
-    (tie.spec
-    Inv-loop
-    μ-loop
-    loop-holds
-    covers-requires
-    append-requires
-    add-s
-    loop-less
-    loop-again
-    returns)
+    (tie.spec Inv-loop μ-loop loop-holds covers-requires append-requires (λ c. search needs) (λ c. search needs)
+    loop-again returns)

@@ -5,9 +5,6 @@ use Rattle.bounds.proofs.Halves.{lower-bound}
 use Rattle.bounds.proofs.list_lower.Statement.{statement}
 use Rattle.bounds.proofs.list_lower.Tie as tie
 
-lower-weight-requires : tie.Need-lower-weight-requires
-lower-weight-requires c κs = search needs
-
 list-bound-requires : tie.Need-list-bound-requires
 list-bound-requires c κs =
     let lower-weight = c .before .before .lower-weight in
@@ -26,4 +23,4 @@ returns c =
     rw (lower-read (z .args .c .bound) (z .pre .0 .bound) (lower-weight .ensures)) at (c .list-bound .ensures)
 
 pub list-lower-spec : {M : Type 1} → statement M
-list-lower-spec = tie.close (tie.spec lower-weight-requires list-bound-requires returns)
+list-lower-spec = tie.close (tie.spec (λ c κs. search needs) list-bound-requires returns)

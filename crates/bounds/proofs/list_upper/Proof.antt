@@ -5,9 +5,6 @@ use Rattle.bounds.proofs.Halves.{upper-bound}
 use Rattle.bounds.proofs.list_upper.Statement.{statement}
 use Rattle.bounds.proofs.list_upper.Tie as tie
 
-upper-weight-requires : tie.Need-upper-weight-requires
-upper-weight-requires c κs = search needs
-
 list-bound-requires : tie.Need-list-bound-requires
 list-bound-requires c κs =
     let upper-weight = c .before .before .upper-weight in
@@ -26,4 +23,4 @@ returns c =
     rw (upper-read (z .args .c .bound) (z .pre .0 .bound) (upper-weight .ensures)) at (c .list-bound .ensures)
 
 pub list-upper-spec : {M : Type 1} → statement M
-list-upper-spec = tie.close (tie.spec upper-weight-requires list-bound-requires returns)
+list-upper-spec = tie.close (tie.spec (λ c κs. search needs) list-bound-requires returns)

@@ -39,15 +39,6 @@ sum-few c =
     let z = c .before .before .before in
     omega (arith, z .pre .1 .weights (bound c), z .pre .3 (source (z .args .lists .now) (bound c)) (source-in c))
 
-mul-count : tie.Need-mul-count Inv-loop μ-loop
-mul-count c = search needs
-
-element-copy-out-count : tie.Need-element-copy-out-count Inv-loop μ-loop
-element-copy-out-count c = search needs
-
-mul-base : tie.Need-mul-base Inv-loop μ-loop
-mul-base c = search needs
-
 loop-holds : tie.Need-loop-holds Inv-loop μ-loop
 loop-holds c = (omega arith, record { sized = c .before .pre .4; is = λ u b. omega arith })
 
@@ -122,9 +113,6 @@ element-write-o c = target-in (c .before .before .before .before .before .before
 add-j : tie.Need-add-j Inv-loop μ-loop
 add-j c = omega (arith, room (c .before .before .before .before .before .before))
 
-loop-less : tie.Need-loop-less Inv-loop μ-loop
-loop-less c = search needs
-
 loop-again : tie.Need-loop-again Inv-loop μ-loop
 loop-again c =
     let test = c .before .before .before .before .before .before .loop-test in
@@ -146,34 +134,8 @@ returns c =
 pub raise-by-bounds-spec : {M : Type 1} → statement M
 raise-by-bounds-spec =
     tie.close
-    (tie.spec
-    Inv-loop
-    μ-loop
-    mul-count
-    element-copy-out-count
-    mul-base
-    loop-holds
-    add-e
-    mul-e
-    mul-target
-    element-copy-out-target
-    cast-target
-    add-source
-    mul-source
-    element-copy-out-source
-    cast-source
-    mul-larger
-    element-copy-out-larger
-    mul-larger-2
-    element-copy-out-larger-2
-    add-larger
-    mul-larger-3
-    element-copy-out-larger-3
-    add-larger-2
-    larger-requires
-    mul-o
-    element-write-o
-    add-j
-    loop-less
-    loop-again
+    (tie.spec Inv-loop μ-loop (λ c. search needs) (λ c. search needs) (λ c. search needs) loop-holds add-e mul-e
+    mul-target element-copy-out-target cast-target add-source mul-source element-copy-out-source cast-source
+    mul-larger element-copy-out-larger mul-larger-2 element-copy-out-larger-2 add-larger mul-larger-3
+    element-copy-out-larger-3 add-larger-2 larger-requires mul-o element-write-o add-j (λ c. search needs) loop-again
     returns)

@@ -5,9 +5,6 @@ use Rattle.bounds.proofs.Weights.{less-fits, less-cast, less-value}
 use Rattle.bounds.proofs.upper_weight.Statement.{statement}
 use Rattle.bounds.proofs.upper_weight.Tie as tie
 
-cast-result : tie.Need-cast-result
-cast-result c = search needs
-
 sub-result : tie.Need-sub-result
 sub-result c = less-fits (c .args .limit) (c .pre)
 
@@ -18,4 +15,4 @@ returns : tie.Need-returns
 returns c = less-value (c .args .limit) (c .pre)
 
 pub upper-weight-spec : {M : Type 1} → statement M
-upper-weight-spec = tie.close (tie.spec cast-result sub-result cast-result-2 returns)
+upper-weight-spec = tie.close (tie.spec (λ c. search needs) sub-result cast-result-2 returns)

@@ -6,23 +6,8 @@ use Rattle.checker.proofs.Differences.{held-fits, max-kept, min-kept, f
 use Rattle.checker.proofs.admits.Statement.{statement}
 use Rattle.checker.proofs.admits.Tie as tie
 
-cast-difference : tie.Need-cast-difference
-cast-difference c = search needs
-
-cast-difference-2 : tie.Need-cast-difference-2
-cast-difference-2 c = search needs
-
 sub-difference : tie.Need-sub-difference
 sub-difference c = held-fits (c .args .a) (c .args .b) (omega arith) (omega arith)
-
-enum-told : tie.Need-enum-told
-enum-told c = search needs
-
-enum-told-2 : tie.Need-enum-told-2
-enum-told-2 c = search needs
-
-enum-told-3 : tie.Need-enum-told-3
-enum-told-3 c = search needs
 
 returns : tie.Need-returns
 returns c =
@@ -45,13 +30,5 @@ returns-3 c =
 pub admits-spec : {M : Type 1} → statement M
 admits-spec =
     tie.close
-    (tie.spec
-    cast-difference
-    cast-difference-2
-    sub-difference
-    enum-told
-    enum-told-2
-    enum-told-3
-    returns
-    returns-2
-    returns-3)
+    (tie.spec (λ c. search needs) (λ c. search needs) sub-difference (λ c. search needs) (λ c. search needs)
+    (λ c. search needs) returns returns-2 returns-3)

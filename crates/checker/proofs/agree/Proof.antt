@@ -4,11 +4,8 @@ use Rattle.network.proofs.Masks.{agree-bits}
 use Rattle.checker.proofs.agree.Statement.{statement}
 use Rattle.checker.proofs.agree.Tie as tie
 
-shr-result : tie.Need-shr-result
-shr-result c = search needs
-
 returns : tie.Need-returns
 returns c = agree-bits (c .args .s) (c .args .r) (c .args .p) (c .pre .0) (c .pre .1) (c .pre .2)
 
 pub agree-spec : {M : Type 1} → statement M
-agree-spec = tie.close (tie.spec shr-result returns)
+agree-spec = tie.close (tie.spec (λ c. search needs) returns)

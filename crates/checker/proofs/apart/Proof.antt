@@ -45,14 +45,8 @@ known-after-requires c κs =
     let in-loop = c .before .before .before in
     in-loop .before .before .before .pre .0 .inside (in-loop .before .loop .p) (in-loop .loop-test .taken)
 
-sooner-requires : tie.Need-sooner-requires Inv-loop μ-loop
-sooner-requires c κs = search needs
-
 add-p : tie.Need-add-p Inv-loop μ-loop
 add-p c = omega (arith, c .before .before .before .before .before .pre .0 .few)
-
-loop-less : tie.Need-loop-less Inv-loop μ-loop
-loop-less c = search needs
 
 loop-again : tie.Need-loop-again Inv-loop μ-loop
 loop-again c =
@@ -82,16 +76,5 @@ returns c =
 pub apart-spec : {M : Type 1} → statement M
 apart-spec =
     tie.close
-    (tie.spec
-    Inv-loop
-    μ-loop
-    loop-holds
-    agree-requires
-    mul-observation
-    element-copy-out-observation
-    known-after-requires
-    sooner-requires
-    add-p
-    loop-less
-    loop-again
-    returns)
+    (tie.spec Inv-loop μ-loop loop-holds agree-requires mul-observation element-copy-out-observation
+    known-after-requires (λ c κs. search needs) add-p (λ c. search needs) loop-again returns)

@@ -18,17 +18,12 @@ no-late c =
     (sym (c .before .before .first-late .ensures) ∙ c .enum-told .given .1)
 
 no-broken : (c : tie.After-enum-told2)
-    → let a = c .before .before .before .before .before .before .before .args in firstBroken (a .network) (now (a .table)) ≡ none
+    → let a = c .before .before .before .before .before .before .before .args in firstBroken (a .network)
+    (now (a .table)) ≡ none
 no-broken c =
     let a = c .before .before .before .before .before .before .before .args in
     none-of-pass (firstBroken (a .network) (now (a .table)))
     (sym (c .before .before .first-broken .ensures) ∙ c .enum-told2 .given .1)
-
-first-late-requires : tie.Need-first-late-requires
-first-late-requires c κs = search needs
-
-enum-known-late : tie.Need-enum-known-late
-enum-known-late c = search needs
 
 returns : tie.Need-returns
 unfolding verdict
@@ -36,15 +31,6 @@ returns c =
     let a = c .before .before .before .before .before .args in
     let found = sym (c .before .before .before .first-late .ensures) ∙ c .before .late .given .1 in
     rw (some-of-breached (firstLate (a .network) (now (a .table))) _ found)
-
-enum-told : tie.Need-enum-told
-enum-told c = search needs
-
-first-broken-requires : tie.Need-first-broken-requires
-first-broken-requires c κs = search needs
-
-enum-known-broken : tie.Need-enum-known-broken
-enum-known-broken c = search needs
 
 returns-2 : tie.Need-returns-2
 unfolding verdict
@@ -54,15 +40,6 @@ returns-2 c =
     let broken = some-of-breached (firstBroken (a .network) (now (a .table))) _ found in
     rw (no-late (c .before .before .before .before), broken)
 
-enum-told-2 : tie.Need-enum-told-2
-enum-told-2 c = search needs
-
-first-unheard-requires : tie.Need-first-unheard-requires
-first-unheard-requires c κs = search needs
-
-enum-known-unheard : tie.Need-enum-known-unheard
-enum-known-unheard c = search needs
-
 returns-3 : tie.Need-returns-3
 unfolding verdict
 returns-3 c =
@@ -71,9 +48,6 @@ returns-3 c =
     let found = sym (c .before .before .before .first-unheard .ensures) ∙ c .before .unheard .given .1 in
     let unheard = some-of-breached (firstUnheard (a .network) (now (a .table))) _ found in
     rw (no-late (at .before .before .before), no-broken at, unheard)
-
-enum-told-3 : tie.Need-enum-told-3
-enum-told-3 c = search needs
 
 returns-4 : tie.Need-returns-4
 unfolding verdict
@@ -87,17 +61,6 @@ returns-4 c =
 pub check-spec : {M : Type 1} → statement M
 check-spec =
     tie.close
-    (tie.spec
-    first-late-requires
-    enum-known-late
-    returns
-    enum-told
-    first-broken-requires
-    enum-known-broken
-    returns-2
-    enum-told-2
-    first-unheard-requires
-    enum-known-unheard
-    returns-3
-    enum-told-3
-    returns-4)
+    (tie.spec (λ c κs. search needs) (λ c. search needs) returns (λ c. search needs) (λ c κs. search needs)
+    (λ c. search needs) returns-2 (λ c. search needs) (λ c κs. search needs) (λ c. search needs) returns-3
+    (λ c. search needs) returns-4)

@@ -70,26 +70,15 @@ keeps-requires c κs =
     in-reach (start .args .t1) (now (start .args .table)) (start .pre) s (in-loop .before .loop .c) (omega arith)
     (in-loop .loop-test .taken)
 
-add-c : tie.Need-add-c Inv-loop μ-loop Inv-broken μ-broken
-add-c c = search needs
-
-loop-less : tie.Need-loop-less Inv-loop μ-loop Inv-broken μ-broken
-loop-less c = search needs
-
 loop-again : tie.Need-loop-again Inv-loop μ-loop Inv-broken μ-broken
 loop-again c =
     let in-loop = c .before .before .before in
     let kept = sym (tested (c .before)) ∙ not-false _ (c .if1 .left) in
     seeking-on (in-loop .before .loop .inv) (in-loop .loop-test .taken) (rw kept)
 
-add-s : tie.Need-add-s Inv-loop μ-loop Inv-broken μ-broken
-add-s c = search needs
-
-broken-less : tie.Need-broken-less Inv-loop μ-loop Inv-broken μ-broken
-broken-less c = search needs
-
 broken-again : tie.Need-broken-again Inv-loop μ-loop Inv-broken μ-broken
-broken-again c = past-row (c .before .before .before .broken .inv) (c .before .loop .inv) refl (omega arith) (c .loop-test .left)
+broken-again c = past-row (c .before .before .before .broken .inv) (c .before .loop .inv) refl (omega arith)
+    (c .loop-test .left)
 
 returns : tie.Need-returns Inv-loop μ-loop Inv-broken μ-broken
 returns c = nothing-found (c .before .broken .inv) (omega arith)
@@ -105,22 +94,6 @@ returns-2 c =
 pub first-broken-spec : {M : Type 1} → statement M
 first-broken-spec =
     tie.close
-    (tie.spec
-    Inv-loop
-    μ-loop
-    Inv-broken
-    μ-broken
-    scenario-count-requires
-    broken-holds
-    loop-holds
-    mul-constraint
-    element-copy-out-constraint
-    keeps-requires
-    add-c
-    loop-less
-    loop-again
-    add-s
-    broken-less
-    broken-again
-    returns
-    returns-2)
+    (tie.spec Inv-loop μ-loop Inv-broken μ-broken scenario-count-requires broken-holds loop-holds mul-constraint
+    element-copy-out-constraint keeps-requires (λ c. search needs) (λ c. search needs) loop-again (λ c. search needs)
+    (λ c. search needs) broken-again returns returns-2)

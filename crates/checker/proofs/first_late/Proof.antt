@@ -41,7 +41,8 @@ tested : (c : tie.After-on-time Inv-loop μ-loop Inv-late μ-late)
     → let start = c .before .before .before .before .before .before .before .before in
     let s = c .before .before .before .before .before .late .s in
     let u = c .before .before .before .loop .u in
-    c .on-time .result ≡ onTime (start .args .network .horizon) u (time (start .args .network .events) (now (start .args .table)) s u)
+    c .on-time .result ≡ onTime (start .args .network .horizon) u
+    (time (start .args .network .events) (now (start .args .table)) s u)
 tested c = c .on-time .ensures ∙ ap (onTime _ (c .before .before .before .loop .u)) (c .before .time-of .ensures)
 
 scenario-count-requires : tie.Need-scenario-count-requires Inv-loop μ-loop Inv-late μ-late
@@ -60,29 +61,15 @@ time-of-requires c κs =
     cell-in (start .args .network) (now (start .args .table)) (start .pre .1) s (c .before .loop .u) (omega arith)
     (c .loop-test .taken)
 
-on-time-requires : tie.Need-on-time-requires Inv-loop μ-loop Inv-late μ-late
-on-time-requires c κs = search needs
-
-add-u : tie.Need-add-u Inv-loop μ-loop Inv-late μ-late
-add-u c = search needs
-
-loop-less : tie.Need-loop-less Inv-loop μ-loop Inv-late μ-late
-loop-less c = search needs
-
 loop-again : tie.Need-loop-again Inv-loop μ-loop Inv-late μ-late
 loop-again c =
     let in-loop = c .before .before .before in
     let kept = sym (tested (c .before)) ∙ not-false _ (c .if1 .left) in
     seeking-on (in-loop .before .loop .inv) (in-loop .loop-test .taken) (rw kept)
 
-add-s : tie.Need-add-s Inv-loop μ-loop Inv-late μ-late
-add-s c = search needs
-
-late-less : tie.Need-late-less Inv-loop μ-loop Inv-late μ-late
-late-less c = search needs
-
 late-again : tie.Need-late-again Inv-loop μ-loop Inv-late μ-late
-late-again c = past-row (c .before .before .before .late .inv) (c .before .loop .inv) refl (omega arith) (c .loop-test .left)
+late-again c = past-row (c .before .before .before .late .inv) (c .before .loop .inv) refl (omega arith)
+    (c .loop-test .left)
 
 returns : tie.Need-returns Inv-loop μ-loop Inv-late μ-late
 returns c = nothing-found (c .before .late .inv) (omega arith)
@@ -98,21 +85,6 @@ returns-2 c =
 pub first-late-spec : {M : Type 1} → statement M
 first-late-spec =
     tie.close
-    (tie.spec
-    Inv-loop
-    μ-loop
-    Inv-late
-    μ-late
-    scenario-count-requires
-    late-holds
-    loop-holds
-    time-of-requires
-    on-time-requires
-    add-u
-    loop-less
-    loop-again
-    add-s
-    late-less
-    late-again
-    returns
-    returns-2)
+    (tie.spec Inv-loop μ-loop Inv-late μ-late scenario-count-requires late-holds loop-holds time-of-requires
+    (λ c κs. search needs) (λ c. search needs) (λ c. search needs) loop-again (λ c. search needs) (λ c. search needs)
+    late-again returns returns-2)

@@ -84,24 +84,16 @@ time-of-requires c κs =
     cell-in (start .args .network) (now (start .args .table)) (start .pre .1) s (c .before .loop2 .u) (omega arith)
     (c .loop2-test .taken)
 
-cast-if1 : tie.Need-cast-if1 Inv-loop2 μ-loop2 Inv-loop μ-loop Inv-unheard μ-unheard
-cast-if1 c = search needs
-
 time-of-requires-2 :
     tie.Need-time-of-requires-2 Inv-loop2 μ-loop2 Inv-loop μ-loop Inv-unheard μ-unheard
 time-of-requires-2 c κs =
     let in-loop = c .before .before in
-    let start = c .before .before .before .before .before .before .before .before .before .before .before .before .before in
+    let start = c .before .before .before .before .before .before .before .before .before .before .before
+    .before .before in
     let r = c .before .before .before .before .before .before .before .loop .r in
     let u = in-loop .before .loop2 .u in
     cell-in (start .args .network) (now (start .args .table)) (start .pre .1) r u (omega arith)
     (in-loop .loop2-test .taken)
-
-add-u : tie.Need-add-u Inv-loop2 μ-loop2 Inv-loop μ-loop Inv-unheard μ-unheard
-add-u c = search needs
-
-loop2-less : tie.Need-loop2-less Inv-loop2 μ-loop2 Inv-loop μ-loop Inv-unheard μ-unheard
-loop2-less c = search needs
 
 loop2-again : tie.Need-loop2-again Inv-loop2 μ-loop2 Inv-loop μ-loop Inv-unheard μ-unheard
 loop2-again c =
@@ -112,25 +104,14 @@ loop2-again c =
     (λ w. rw (alike-told here (w .left)))
     (c .if1 .came))
 
-add-r : tie.Need-add-r Inv-loop2 μ-loop2 Inv-loop μ-loop Inv-unheard μ-unheard
-add-r c = search needs
-
-loop-less : tie.Need-loop-less Inv-loop2 μ-loop2 Inv-loop μ-loop Inv-unheard μ-unheard
-loop-less c = search needs
-
 loop-again : tie.Need-loop-again Inv-loop2 μ-loop2 Inv-loop μ-loop Inv-unheard μ-unheard
 loop-again c =
     let at-loop = c .before .before .before .before .before in
     past-row (at-loop .loop .inv) (c .before .loop2 .inv) refl (omega arith) (c .loop2-test .left)
 
-add-s : tie.Need-add-s Inv-loop2 μ-loop2 Inv-loop μ-loop Inv-unheard μ-unheard
-add-s c = search needs
-
-unheard-less : tie.Need-unheard-less Inv-loop2 μ-loop2 Inv-loop μ-loop Inv-unheard μ-unheard
-unheard-less c = search needs
-
 unheard-again : tie.Need-unheard-again Inv-loop2 μ-loop2 Inv-loop μ-loop Inv-unheard μ-unheard
-unheard-again c = past-row (c .before .before .before .unheard .inv) (c .before .loop .inv) refl (omega arith) (omega arith)
+unheard-again c = past-row (c .before .before .before .unheard .inv) (c .before .loop .inv) refl (omega arith)
+    (omega arith)
 
 returns : tie.Need-returns Inv-loop2 μ-loop2 Inv-loop μ-loop Inv-unheard μ-unheard
 returns c = nothing-found (c .before .unheard .inv) (omega arith)
@@ -139,7 +120,8 @@ returns-2 : tie.Need-returns-2 Inv-loop2 μ-loop2 Inv-loop μ-loop Inv-unheard �
 returns-2 c =
     let here = compared (c .before .before .before) in
     let theirs = c .before .time-of2 in
-    let unheard = not-alike here (theirs .result) (theirs .ensures) (c .before .before .if1 .taken) (not-true _ (c .if2 .taken)) in
+    let unheard = not-alike here (theirs .result) (theirs .ensures) (c .before .before .if1 .taken)
+    (not-true _ (c .if2 .taken)) in
     let in-loop2 = c .before .before .before .before in
     let at-loop = in-loop2 .before .before .before .before .before in
     let at-unheard = at-loop .before .before in
@@ -151,29 +133,7 @@ returns-2 c =
 pub first-unheard-spec : {M : Type 1} → statement M
 first-unheard-spec =
     tie.close
-    (tie.spec
-    Inv-loop2
-    μ-loop2
-    Inv-loop
-    μ-loop
-    Inv-unheard
-    μ-unheard
-    scenario-count-requires
-    unheard-holds
-    loop-holds
-    apart-requires
-    loop2-holds
-    time-of-requires
-    cast-if1
-    time-of-requires-2
-    add-u
-    loop2-less
-    loop2-again
-    add-r
-    loop-less
-    loop-again
-    add-s
-    unheard-less
-    unheard-again
-    returns
-    returns-2)
+    (tie.spec Inv-loop2 μ-loop2 Inv-loop μ-loop Inv-unheard μ-unheard scenario-count-requires unheard-holds loop-holds
+    apart-requires loop2-holds time-of-requires (λ c. search needs) time-of-requires-2 (λ c. search needs)
+    (λ c. search needs) loop2-again (λ c. search needs) (λ c. search needs) loop-again (λ c. search needs)
+    (λ c. search needs) unheard-again returns returns-2)

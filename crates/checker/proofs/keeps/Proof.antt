@@ -13,20 +13,8 @@ use Rattle.network.specs.Strategy.{time}
 use Rattle.checker.proofs.keeps.Statement.{statement}
 use Rattle.checker.proofs.keeps.Tie as tie
 
-covers-requires : tie.Need-covers-requires
-covers-requires c κs = search needs
-
 returns : tie.Need-returns
 returns c = λ Γ _. rw (sym (c .before .covers .ensures Γ) ∙ not-true _ (c .if1 .taken))
-
-time-of-requires : tie.Need-time-of-requires
-time-of-requires c κs = search needs
-
-time-of-requires-2 : tie.Need-time-of-requires-2
-time-of-requires-2 c κs = search needs
-
-admits-requires : tie.Need-admits-requires
-admits-requires c κs = search needs
 
 returns-2 : tie.Need-returns-2
 returns-2 c =
@@ -50,10 +38,5 @@ returns-2 c =
 pub keeps-spec : {M : Type 1} → statement M
 keeps-spec =
     tie.close
-    (tie.spec
-    covers-requires
-    returns
-    time-of-requires
-    time-of-requires-2
-    admits-requires
+    (tie.spec (λ c κs. search needs) returns (λ c κs. search needs) (λ c κs. search needs) (λ c κs. search needs)
     returns-2)

@@ -17,9 +17,6 @@ lettered c =
     let l = c .before .before .args .heard .letter in
     letter-between l (c .before .if1 .left) (ltb-false 122 l (c .if2 .left))
 
-with-requires : tie.Need-with-requires
-with-requires c κs = search needs
-
 returns : tie.Need-returns
 returns c =
     let a = c .before .before .args in
@@ -29,9 +26,6 @@ returns c =
 
 stands-requires : tie.Need-stands-requires
 stands-requires c κs = lettered c
-
-with-requires-2 : tie.Need-with-requires-2
-with-requires-2 c κs = search needs
 
 returns-2 : tie.Need-returns-2
 returns-2 c =
@@ -60,12 +54,5 @@ returns-3 c =
 pub add-spec : {M : Type 1} → statement M
 add-spec =
     tie.close
-    (tie.spec
-    with-requires
-    returns
-    stands-requires
-    with-requires-2
-    returns-2
-    place-requires
-    with-requires-3
-    returns-3)
+    (tie.spec (λ c κs. search needs) returns stands-requires (λ c κs. search needs) returns-2 place-requires
+    with-requires-3 returns-3)

@@ -15,7 +15,8 @@ tested : (c : tie.After-has2)
     → let a = c .before .before .before .before .args in
     let p = c .before .before .has .result in
     let n = c .has2 .result in
-    asSaid (a .said) (a .letter) (a .known) (a .truth) ≡ cond (not (a .known)) (not p && not n) (cond (a .truth) (p && not n) (not p && n))
+    asSaid (a .said) (a .letter) (a .known) (a .truth)
+    ≡ cond (not (a .known)) (not p && not n) (cond (a .truth) (p && not n) (not p && n))
 tested c =
     let at-has = c .before .before in
     let a = at-has .before .before .args in
@@ -23,14 +24,8 @@ tested c =
     (at-has .has .ensures ∙ ap (truth (a .said)) (at-has .before .place .ensures))
     (c .has2 .ensures ∙ ap (truth (a .said)) (c .before .place2 .ensures))
 
-place-requires : tie.Need-place-requires
-place-requires c κs = search needs
-
 has-requires : tie.Need-has-requires
 has-requires c κs = rw (c .place .ensures) (place-fits (c .before .args .letter) true (c .before .pre))
-
-place-requires-2 : tie.Need-place-requires-2
-place-requires-2 c κs = search needs
 
 has-requires-2 : tie.Need-has-requires-2
 has-requires-2 c κs =
@@ -44,7 +39,13 @@ returns-2 : tie.Need-returns-2
 returns-2 c = rw (tested (c .before .before), c .before .if1 .taken, c .if2 .left)
 
 returns-3 : tie.Need-returns-3
-returns-3 c = rw (tested (c .before .before .before), c .before .before .if1 .left, c .before .if3 .taken, c .if4 .taken)
+returns-3 c = rw (
+  tested (c .before .before .before),
+  c .before .before .if1 .left,
+  c .before .if3 .taken,
+  c
+      .if4 .taken,
+)
 
 returns-4 : tie.Need-returns-4
 returns-4 c = rw (tested (c .before .before .before), c .before .before .if1 .left, c .before .if3 .taken, c .if4 .left)
@@ -58,14 +59,5 @@ returns-6 c = rw (tested (c .before .before .before), c .before .before .if1 .le
 pub as-said-spec : {M : Type 1} → statement M
 as-said-spec =
     tie.close
-    (tie.spec
-    place-requires
-    has-requires
-    place-requires-2
-    has-requires-2
-    returns
-    returns-2
-    returns-3
-    returns-4
-    returns-5
-    returns-6)
+    (tie.spec (λ c κs. search needs) has-requires (λ c κs. search needs) has-requires-2 returns returns-2 returns-3
+    returns-4 returns-5 returns-6)

@@ -19,43 +19,37 @@ Inv-loop Γ σ m x n k cases s₀ s = Hearing Γ σ m x s
 abbrev μ-loop : tie.MeasureT-loop
 μ-loop Γ σ m x n k cases s₀ s = scenarios Γ - s
 
-well-named-requires : tie.Need-well-named-requires Inv-loop μ-loop
-well-named-requires c κs = search needs
-
 returns : tie.Need-returns Inv-loop μ-loop
 returns c =
     let at-named = c .before in
     let a = at-named .before .before .args in
-    misnamed-on (a .network) (now (a .table)) (a .minute) (a .said) (sym (at-named .well-named .ensures) ∙ not-true _ (c .if1 .taken))
-
-scenario-count-requires : tie.Need-scenario-count-requires Inv-loop μ-loop
-scenario-count-requires c κs = search needs
+    misnamed-on (a .network) (now (a .table)) (a .minute) (a .said) (sym (at-named .well-named .ensures)
+    ∙ not-true _ (c .if1 .taken))
 
 loop-holds : tie.Need-loop-holds Inv-loop μ-loop
 loop-holds c =
     let at-if = c .before in
-    record { named = sym (at-if .before .well-named .ensures) ∙ not-false _ (at-if .if1 .left); search = searching-start _ _ }
-
-has-heard-requires : tie.Need-has-heard-requires Inv-loop μ-loop
-has-heard-requires c κs = search needs
+    record {
+      named = sym (at-if .before .well-named .ensures)
+          ∙ not-false _ (at-if .if1 .left);
+      search = searching-start _ _;
+    }
 
 due-in-requires : tie.Need-due-in-requires Inv-loop μ-loop
 due-in-requires c κs =
     let at-loop = c .before .before .before in
-    let start = at-loop .before .before .before .before .before in
-    (start .pre .0 .events, row-in (start .args .network) (now (start .args .table)) (start .pre .1) (at-loop .loop .s) (omega arith))
+    let start = at-loop .before .before .before .before .before in (
+      start .pre .0 .events,
+      row-in (start .args .network) (now (start .args .table)) (start .pre .1) (at-loop .loop .s)
+          (omega arith),
+    )
 
 returns-2 : tie.Need-returns-2 Inv-loop μ-loop
 returns-2 c =
     let at-heard = c .before .before in
     let inv = at-heard .before .before .loop .inv in
-    ap Events (c .due-in .ensures) ∙ heard-on inv (omega arith) (rw (← at-heard .has-heard .ensures) (c .before .if2 .taken))
-
-add-s : tie.Need-add-s Inv-loop μ-loop
-add-s c = search needs
-
-loop-less : tie.Need-loop-less Inv-loop μ-loop
-loop-less c = search needs
+    ap Events (c .due-in .ensures)
+    ∙ heard-on inv (omega arith) (rw (← at-heard .has-heard .ensures) (c .before .if2 .taken))
 
 loop-again : tie.Need-loop-again Inv-loop μ-loop
 loop-again c =
@@ -69,17 +63,5 @@ returns-3 c = never-on (c .before .loop .inv) (omega arith)
 pub due-spec : {M : Type 1} → statement M
 due-spec =
     tie.close
-    (tie.spec
-    Inv-loop
-    μ-loop
-    well-named-requires
-    returns
-    scenario-count-requires
-    loop-holds
-    has-heard-requires
-    due-in-requires
-    returns-2
-    add-s
-    loop-less
-    loop-again
-    returns-3)
+    (tie.spec Inv-loop μ-loop (λ c κs. search needs) returns (λ c κs. search needs) loop-holds (λ c κs. search needs)
+    due-in-requires returns-2 (λ c. search needs) (λ c. search needs) loop-again returns-3)

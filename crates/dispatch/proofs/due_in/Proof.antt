@@ -18,23 +18,8 @@ abbrev μ-loop : tie.MeasureT-loop
 loop-holds : tie.Need-loop-holds Inv-loop μ-loop
 loop-holds c = record { within = omega arith; sum = refl }
 
-time-of-requires : tie.Need-time-of-requires Inv-loop μ-loop
-time-of-requires c κs = search needs
-
-cast-due : tie.Need-cast-due Inv-loop μ-loop
-cast-due c = search needs
-
-shl-due : tie.Need-shl-due Inv-loop μ-loop
-shl-due c = search needs
-
 add-due : tie.Need-add-due Inv-loop μ-loop
 add-due c = record { fits = summing-fits (c .before .before .before .loop .inv) (omega arith) }
-
-add-u : tie.Need-add-u Inv-loop μ-loop
-add-u c = search needs
-
-loop-less : tie.Need-loop-less Inv-loop μ-loop
-loop-less c = search needs
 
 loop-again : tie.Need-loop-again Inv-loop μ-loop
 loop-again c =
@@ -52,15 +37,5 @@ returns c = summed (c .before .loop .inv) (c .loop-test .left)
 pub due-in-spec : {M : Type 1} → statement M
 due-in-spec =
     tie.close
-    (tie.spec
-    Inv-loop
-    μ-loop
-    loop-holds
-    time-of-requires
-    cast-due
-    shl-due
-    add-due
-    add-u
-    loop-less
-    loop-again
-    returns)
+    (tie.spec Inv-loop μ-loop loop-holds (λ c κs. search needs) (λ c. search needs) (λ c. search needs) add-due
+    (λ c. search needs) (λ c. search needs) loop-again returns)

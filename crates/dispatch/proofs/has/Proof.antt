@@ -7,11 +7,8 @@ use lib.Dec.{eqb}
 use Rattle.dispatch.proofs.has.Statement.{statement}
 use Rattle.dispatch.proofs.has.Tie as tie
 
-shr-result : tie.Need-shr-result
-shr-result c = search needs
-
 returns : tie.Need-returns
 returns c = ap (λ (x : ℕ). eqb x 1) (and-mask (c .args .mask / 2 ^ c .args .bit) 1)
 
 pub has-spec : {M : Type 1} → statement M
-has-spec = tie.close (tie.spec shr-result returns)
+has-spec = tie.close (tie.spec (λ c. search needs) returns)

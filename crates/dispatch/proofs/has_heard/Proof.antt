@@ -38,15 +38,6 @@ tested c =
 loop-holds : tie.Need-loop-holds Inv-loop μ-loop
 loop-holds c = passing-start _ _
 
-mul-observation : tie.Need-mul-observation Inv-loop μ-loop
-mul-observation c = search needs
-
-element-copy-out-observation : tie.Need-element-copy-out-observation Inv-loop μ-loop
-element-copy-out-observation c = search needs
-
-element-copy-out-letter : tie.Need-element-copy-out-letter Inv-loop μ-loop
-element-copy-out-letter c = search needs
-
 known-after-requires : tie.Need-known-after-requires Inv-loop μ-loop
 known-after-requires c κs =
     let in-loop = c .before .before in
@@ -57,12 +48,6 @@ known-after-requires c κs =
     cell-in (a .t1) (now (a .table)) (asked .1) (a .s) (observation (a .t1) p) (asked .3)
     (asked .0 .observed p (in-loop .loop-test .taken))
 
-cast-has : tie.Need-cast-has Inv-loop μ-loop
-cast-has c = search needs
-
-has-requires : tie.Need-has-requires Inv-loop μ-loop
-has-requires c κs = search needs
-
 as-said-requires : tie.Need-as-said-requires Inv-loop μ-loop
 as-said-requires c κs =
     let in-loop = c .before .before .before .before in
@@ -71,18 +56,14 @@ as-said-requires c κs =
 returns : tie.Need-returns Inv-loop μ-loop
 returns c =
     let in-loop = c .before .before .before .before .before .before in
-    sym (failed-at (in-loop .before .loop .inv) (in-loop .loop-test .taken) (sym (tested (c .before)) ∙ not-true _ (c .if1 .taken)))
-
-add-p : tie.Need-add-p Inv-loop μ-loop
-add-p c = search needs
-
-loop-less : tie.Need-loop-less Inv-loop μ-loop
-loop-less c = search needs
+    sym (failed-at (in-loop .before .loop .inv) (in-loop .loop-test .taken) (sym (tested (c .before))
+    ∙ not-true _ (c .if1 .taken)))
 
 loop-again : tie.Need-loop-again Inv-loop μ-loop
 loop-again c =
     let in-loop = c .before .before .before .before .before .before in
-    passing-on (in-loop .before .loop .inv) (in-loop .loop-test .taken) (sym (tested (c .before)) ∙ not-false _ (c .if1 .left))
+    passing-on (in-loop .before .loop .inv) (in-loop .loop-test .taken) (sym (tested (c .before))
+    ∙ not-false _ (c .if1 .left))
 
 returns-2 : tie.Need-returns-2 Inv-loop μ-loop
 returns-2 c = sym (passed-all (c .before .loop .inv) (c .loop-test .left))
@@ -90,19 +71,6 @@ returns-2 c = sym (passed-all (c .before .loop .inv) (c .loop-test .left))
 pub has-heard-spec : {M : Type 1} → statement M
 has-heard-spec =
     tie.close
-    (tie.spec
-    Inv-loop
-    μ-loop
-    loop-holds
-    mul-observation
-    element-copy-out-observation
-    element-copy-out-letter
-    known-after-requires
-    cast-has
-    has-requires
-    as-said-requires
-    returns
-    add-p
-    loop-less
-    loop-again
-    returns-2)
+    (tie.spec Inv-loop μ-loop loop-holds (λ c. search needs) (λ c. search needs) (λ c. search needs)
+    known-after-requires (λ c. search needs) (λ c κs. search needs) as-said-requires returns (λ c. search needs)
+    (λ c. search needs) loop-again returns-2)

@@ -7,17 +7,11 @@ use Rattle.dispatch.proofs.place.Tie as tie
 sub-l : tie.Need-sub-l
 sub-l c = letter-bounds (c .args .letter) (c .pre) .0
 
-cast-l : tie.Need-cast-l
-cast-l c = search needs
-
 returns : tie.Need-returns
 returns c = rw (c .if1 .taken)
-
-add-result : tie.Need-add-result
-add-result c = search needs
 
 returns-2 : tie.Need-returns-2
 returns-2 c = rw (c .if1 .left)
 
 pub place-spec : {M : Type 1} → statement M
-place-spec = tie.close (tie.spec sub-l cast-l returns add-result returns-2)
+place-spec = tie.close (tie.spec sub-l (λ c. search needs) returns (λ c. search needs) returns-2)

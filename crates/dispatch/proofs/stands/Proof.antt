@@ -5,17 +5,11 @@ use Rattle.dispatch.proofs.Letters.{place-fits}
 use Rattle.dispatch.proofs.stands.Statement.{statement}
 use Rattle.dispatch.proofs.stands.Tie as tie
 
-place-requires : tie.Need-place-requires
-place-requires c κs = search needs
-
 has-requires : tie.Need-has-requires
 has-requires c κs = rw (c .place .ensures) (place-fits (c .before .args .letter) true (c .before .pre))
 
 returns : tie.Need-returns
 returns c = rw (← c .before .before .place .ensures, ← c .before .has .ensures, c .if1 .taken)
-
-place-requires-2 : tie.Need-place-requires-2
-place-requires-2 c κs = search needs
 
 has-requires-2 : tie.Need-has-requires-2
 has-requires-2 c κs =
@@ -36,4 +30,4 @@ returns-2 c =
 pub stands-spec : {M : Type 1} → statement M
 stands-spec =
     tie.close
-    (tie.spec place-requires has-requires returns place-requires-2 has-requires-2 returns-2)
+    (tie.spec (λ c κs. search needs) has-requires returns (λ c κs. search needs) has-requires-2 returns-2)

@@ -28,9 +28,6 @@ lettered c =
 loop-holds : tie.Need-loop-holds Inv-loop μ-loop
 loop-holds c = naming-start _ _
 
-element-copy-out-letter : tie.Need-element-copy-out-letter Inv-loop μ-loop
-element-copy-out-letter c = search needs
-
 stands-requires : tie.Need-stands-requires Inv-loop μ-loop
 stands-requires c κs = lettered c
 
@@ -39,15 +36,6 @@ place-requires c κs = lettered (c .before .before)
 
 has-requires : tie.Need-has-requires Inv-loop μ-loop
 has-requires c κs = rw (c .place .ensures) (place-fits _ true (lettered (c .before .before .before)))
-
-add-requires : tie.Need-add-requires Inv-loop μ-loop
-add-requires c κs = search needs
-
-add-p : tie.Need-add-p Inv-loop μ-loop
-add-p c = search needs
-
-loop-less : tie.Need-loop-less Inv-loop μ-loop
-loop-less c = search needs
 
 loop-again : tie.Need-loop-again Inv-loop μ-loop
 loop-again c =
@@ -67,16 +55,5 @@ returns c = naming-end (c .before .loop .inv) (c .loop-test .left)
 pub well-named-spec : {M : Type 1} → statement M
 well-named-spec =
     tie.close
-    (tie.spec
-    Inv-loop
-    μ-loop
-    loop-holds
-    element-copy-out-letter
-    stands-requires
-    place-requires
-    has-requires
-    add-requires
-    add-p
-    loop-less
-    loop-again
-    returns)
+    (tie.spec Inv-loop μ-loop loop-holds (λ c. search needs) stands-requires place-requires has-requires
+    (λ c κs. search needs) (λ c. search needs) (λ c. search needs) loop-again returns)

@@ -6,11 +6,8 @@ use Rattle.dispatch.proofs.Bits.{one-shifted}
 use Rattle.dispatch.proofs.with.Statement.{statement}
 use Rattle.dispatch.proofs.with.Tie as tie
 
-shl-result : tie.Need-shl-result
-shl-result c = search needs
-
 returns : tie.Need-returns
 returns c = ap (bitOr (c .args .mask)) (one-shifted (c .args .bit) 64 (c .pre))
 
 pub with-spec : {M : Type 1} → statement M
-with-spec = tie.close (tie.spec shl-result returns)
+with-spec = tie.close (tie.spec (λ c. search needs) returns)

@@ -5,9 +5,6 @@ use Rattle.network.proofs.Signed.{sum-fits, sum-cast, sum-value}
 use Rattle.network.proofs.biased.Statement.{statement}
 use Rattle.network.proofs.biased.Tie as tie
 
-cast-result : tie.Need-cast-result
-cast-result c = search needs
-
 add-result : tie.Need-add-result
 add-result c = sum-fits (c .args .bound) (c .pre)
 
@@ -18,4 +15,4 @@ returns : tie.Need-returns
 returns c = sum-value (c .args .bound) (c .pre)
 
 pub biased-spec : {M : Type 1} → statement M
-biased-spec = tie.close (tie.spec cast-result add-result cast-result-2 returns)
+biased-spec = tie.close (tie.spec (λ c. search needs) add-result cast-result-2 returns)

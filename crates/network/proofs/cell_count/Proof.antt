@@ -7,9 +7,6 @@ use lib.Pow.{pow-mono}
 use Rattle.network.proofs.cell_count.Statement.{statement}
 use Rattle.network.proofs.cell_count.Tie as tie
 
-scenario-count-requires : tie.Need-scenario-count-requires
-scenario-count-requires c κs = search needs
-
 mul-result : tie.Need-mul-result
 mul-result c =
     let few : c .scenario-count .result ≤ 16 =
@@ -20,4 +17,4 @@ returns : tie.Need-returns
 returns c = rw (c .scenario-count .ensures)
 
 pub cell-count-spec : {M : Type 1} → statement M
-cell-count-spec = tie.close (tie.spec scenario-count-requires mul-result returns)
+cell-count-spec = tie.close (tie.spec (λ c κs. search needs) mul-result returns)

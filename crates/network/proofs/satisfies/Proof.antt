@@ -5,12 +5,6 @@ use Rattle.network.proofs.Masks.{satisfies-bits}
 use Rattle.network.proofs.satisfies.Statement.{statement}
 use Rattle.network.proofs.satisfies.Tie as tie
 
-cast-positive : tie.Need-cast-positive
-cast-positive c = search needs
-
-cast-negative : tie.Need-cast-negative
-cast-negative c = search needs
-
 returns : tie.Need-returns
 returns c =
     let start = c .before .before .before in
@@ -28,4 +22,4 @@ returns-2 c =
     )
 
 pub satisfies-spec : {M : Type 1} → statement M
-satisfies-spec = tie.close (tie.spec cast-positive cast-negative returns returns-2)
+satisfies-spec = tie.close (tie.spec (λ c. search needs) (λ c. search needs) returns returns-2)

@@ -5,11 +5,8 @@ use lib.Pow.{pow-mono}
 use Rattle.network.proofs.scenario_count.Statement.{statement}
 use Rattle.network.proofs.scenario_count.Tie as tie
 
-shl-result : tie.Need-shl-result
-shl-result c = search needs
-
 returns : tie.Need-returns
 returns c = omega (arith, pow-mono {i = c .args .signals} {j = 4} (omega arith))
 
 pub scenario-count-spec : {M : Type 1} → statement M
-scenario-count-spec = tie.close (tie.spec shl-result returns)
+scenario-count-spec = tie.close (tie.spec (λ c. search needs) returns)

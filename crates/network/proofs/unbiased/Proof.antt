@@ -5,12 +5,6 @@ use Rattle.network.proofs.Signed.{less-fits, less-value}
 use Rattle.network.proofs.unbiased.Statement.{statement}
 use Rattle.network.proofs.unbiased.Tie as tie
 
-cast-result : tie.Need-cast-result
-cast-result c = search needs
-
-cast-result-2 : tie.Need-cast-result-2
-cast-result-2 c = search needs
-
 sub-result : tie.Need-sub-result
 sub-result c = less-fits (c .args .v) (omega arith)
 
@@ -18,4 +12,4 @@ returns : tie.Need-returns
 returns c = less-value (c .args .v) (omega arith)
 
 pub unbiased-spec : {M : Type 1} → statement M
-unbiased-spec = tie.close (tie.spec cast-result cast-result-2 sub-result returns)
+unbiased-spec = tie.close (tie.spec (λ c. search needs) (λ c. search needs) sub-result returns)

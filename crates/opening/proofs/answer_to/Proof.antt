@@ -6,21 +6,6 @@ use Rattle.calls.specs.declared.Due.the-variants as D
 use Rattle.opening.proofs.answer_to.Statement.{statement}
 use Rattle.opening.proofs.answer_to.Tie as tie
 
-enum-known-dispatched : tie.Need-enum-known-dispatched
-enum-known-dispatched c = search needs
-
-enum-told : tie.Need-enum-told
-enum-told c = search needs
-
-without-line-requires : tie.Need-without-line-requires
-without-line-requires c κs = search needs
-
-enum-told-2 : tie.Need-enum-told-2
-enum-told-2 c = search needs
-
-without-line-requires-2 : tie.Need-without-line-requires-2
-without-line-requires-2 c κs = search needs
-
 returns : tie.Need-returns
 returns c = ap answerTo (sym (c .before .dispatched .given .1))
 
@@ -33,12 +18,5 @@ returns-3 c = ap D.Refused (c .without-line2 .ensures) ∙ ap answerTo (sym (c .
 pub answer-to-spec : {M : Type 1} → statement M
 answer-to-spec =
     tie.close
-    (tie.spec
-    enum-known-dispatched
-    enum-told
-    without-line-requires
-    enum-told-2
-    without-line-requires-2
-    returns
-    returns-2
-    returns-3)
+    (tie.spec (λ c. search needs) (λ c. search needs) (λ c κs. search needs) (λ c. search needs) (λ c κs. search needs)
+    returns returns-2 returns-3)

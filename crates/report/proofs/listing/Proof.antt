@@ -8,15 +8,6 @@ use borrow.Author.Needs.{needs}
 use Rattle.report.proofs.listing.Statement.{statement}
 use Rattle.report.proofs.listing.Tie as tie
 
-write-listing-requires : tie.Need-write-listing-requires
-write-listing-requires c κs = search needs
-
-count-requires : tie.Need-count-requires
-count-requires c κs = search needs
-
-same-length : tie.Need-same-length
-same-length c = search needs
-
 returns : tie.Need-returns
 returns c =
     let args = c .before .before .before .before .before .before .before .before .before .args in
@@ -25,4 +16,4 @@ returns c =
     rw (c .count .ensures) (within, sym (length-take-le _ _ within))
 
 pub listing-spec : {M : Type 1} → statement M
-listing-spec = tie.close (tie.spec write-listing-requires count-requires same-length returns)
+listing-spec = tie.close (tie.spec (λ c κs. search needs) (λ c κs. search needs) (λ c. search needs) returns)

@@ -107,12 +107,16 @@ raise-by-bounds-requires c κs =
 
 lower-requires : tie.Need-lower-requires Inv-loop μ-loop
 lower-requires c κs =
-    let lift = c .before .before .before .before .lift in
-    (λ u l. omega (arith, c .before .raise-by-bounds .ensures .is u l, lift .ensures .is u l), c .before .raise-by-bounds .ensures .sized)
+    let lift = c .before .before .before .before .lift in (
+      λ u l. omega (arith, c .before .raise-by-bounds .ensures .is u l, lift .ensures .is u l),
+      c .before
+          .raise-by-bounds .ensures .sized,
+    )
 
 loop-holds : tie.Need-loop-holds Inv-loop μ-loop
 loop-holds c =
-    let pre = c .before .before .before .before .before .before .before .before .before .before .before .before .before .pre in
+    let pre = c .before .before .before .before .before .before .before .before .before .before .before .before
+    .before .pre in
     let a = start c .args in (
       omega arith,
       omega (arith, pre .0),
@@ -142,9 +146,6 @@ raise-by-scenario-requires c κs =
 
 add-d : tie.Need-add-d Inv-loop μ-loop
 add-d c = omega (arith, d-in (c .before .before))
-
-loop-less : tie.Need-loop-less Inv-loop μ-loop
-loop-less c = search needs
 
 loop-again : tie.Need-loop-again Inv-loop μ-loop
 loop-again c =
@@ -198,20 +199,6 @@ returns c =
 pub raise-row-spec : {M : Type 1} → statement M
 raise-row-spec =
     tie.close
-    (tie.spec
-    Inv-loop
-    μ-loop
-    read-row-requires
-    first-known-requires
-    lift-requires
-    raise-by-bounds-requires
-    lower-requires
-    loop-holds
-    mul-raise-by-scenario
-    array-read-raise-by-scenario
-    raise-by-scenario-requires
-    add-d
-    loop-less
-    loop-again
-    store-row-requires
-    returns)
+    (tie.spec Inv-loop μ-loop read-row-requires first-known-requires lift-requires raise-by-bounds-requires
+    lower-requires loop-holds mul-raise-by-scenario array-read-raise-by-scenario raise-by-scenario-requires add-d
+    (λ c. search needs) loop-again store-row-requires returns)

@@ -61,9 +61,6 @@ add-s c =
     let pre = c .before .before .before .before .before .before .pre in
     omega (arith, c .before .before .before .before .loop-test .taken, scenarios-in (pre .0))
 
-loop-less : tie.Need-loop-less Inv-loop μ-loop
-loop-less c = search needs
-
 loop-again : tie.Need-loop-again Inv-loop μ-loop
 loop-again c =
     let loop = c .before .before .before .before .before .loop in
@@ -72,9 +69,6 @@ loop-again c =
 
 greatest-requires : tie.Need-greatest-requires Inv-loop μ-loop
 greatest-requires c κs = highest-few (c .before .before)
-
-array-read-if2 : tie.Need-array-read-if2 Inv-loop μ-loop
-array-read-if2 c = search needs
 
 returns : tie.Need-returns Inv-loop μ-loop
 unfolding greatest
@@ -121,17 +115,5 @@ returns-3 c =
 pub round-spec : {M : Type 1} → statement M
 round-spec =
     tie.close
-    (tie.spec
-    Inv-loop
-    μ-loop
-    loop-holds
-    raise-row-requires
-    add-s
-    loop-less
-    loop-again
-    greatest-requires
-    array-read-if2
-    returns
-    greatest-requires-2
-    returns-2
-    returns-3)
+    (tie.spec Inv-loop μ-loop loop-holds raise-row-requires add-s (λ c. search needs) loop-again greatest-requires
+    (λ c. search needs) returns greatest-requires-2 returns-2 returns-3)

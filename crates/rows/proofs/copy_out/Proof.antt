@@ -62,9 +62,6 @@ add-s c =
     let test = c .before .before .before .before .loop-test in
     omega (arith, pre .0, test .taken)
 
-loop-less : tie.Need-loop-less Inv-loop μ-loop
-loop-less c = search needs
-
 loop-again : tie.Need-loop-again Inv-loop μ-loop
 loop-again c =
     let test = c .before .before .before .before .loop-test in
@@ -95,14 +92,5 @@ returns c =
 pub copy-out-spec : {M : Type 1} → statement M
 copy-out-spec =
     tie.close
-    (tie.spec
-    Inv-loop
-    μ-loop
-    loop-holds
-    copy-row-requires
-    add-a
-    add-s
-    loop-less
-    loop-again
-    same-length
+    (tie.spec Inv-loop μ-loop loop-holds copy-row-requires add-a add-s (λ c. search needs) loop-again same-length
     returns)

@@ -18,32 +18,8 @@ abbrev μ-loop : tie.MeasureT-loop
 loop-holds : tie.Need-loop-holds Inv-loop μ-loop
 loop-holds c = (omega arith, wrote-none _ _ _)
 
-mul-out : tie.Need-mul-out Inv-loop μ-loop
-mul-out c = search needs
-
-add-out : tie.Need-add-out Inv-loop μ-loop
-add-out c = search needs
-
-mul-out-2 : tie.Need-mul-out-2 Inv-loop μ-loop
-mul-out-2 c = search needs
-
-element-copy-out-out : tie.Need-element-copy-out-out Inv-loop μ-loop
-element-copy-out-out c = search needs
-
-add-out-2 : tie.Need-add-out-2 Inv-loop μ-loop
-add-out-2 c = search needs
-
-mul-out-3 : tie.Need-mul-out-3 Inv-loop μ-loop
-mul-out-3 c = search needs
-
 slice-write-out : tie.Need-slice-write-out Inv-loop μ-loop
 slice-write-out c = omega (arith, c .before .before .loop .inv .1 .sized)
-
-add-u : tie.Need-add-u Inv-loop μ-loop
-add-u c = search needs
-
-loop-less : tie.Need-loop-less Inv-loop μ-loop
-loop-less c = search needs
 
 loop-again : tie.Need-loop-again Inv-loop μ-loop
 loop-again c = (omega arith, wrote-next _ _ _ (c .before .before .loop .inv .1) refl (omega arith) refl)
@@ -59,19 +35,6 @@ returns c =
 pub copy-row-spec : {M : Type 1} → statement M
 copy-row-spec =
     tie.close
-    (tie.spec
-    Inv-loop
-    μ-loop
-    loop-holds
-    mul-out
-    add-out
-    mul-out-2
-    element-copy-out-out
-    add-out-2
-    mul-out-3
-    slice-write-out
-    add-u
-    loop-less
-    loop-again
-    same-length
-    returns)
+    (tie.spec Inv-loop μ-loop loop-holds (λ c. search needs) (λ c. search needs) (λ c. search needs)
+    (λ c. search needs) (λ c. search needs) (λ c. search needs) slice-write-out (λ c. search needs)
+    (λ c. search needs) loop-again same-length returns)

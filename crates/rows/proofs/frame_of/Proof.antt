@@ -6,9 +6,6 @@ use Rattle.rows.proofs.Packed.{sixteen}
 use Rattle.rows.proofs.frame_of.Statement.{statement}
 use Rattle.rows.proofs.frame_of.Tie as tie
 
-shl-t3 : tie.Need-shl-t3
-shl-t3 c = search needs
-
 returns : tie.Need-returns
 returns c =
     let z = c .before .before .args .network in
@@ -21,4 +18,4 @@ returns c =
     }
 
 pub frame-of-spec : {M : Type 1} → statement M
-frame-of-spec = tie.close (tie.spec shl-t3 returns)
+frame-of-spec = tie.close (tie.spec (λ c. search needs) returns)

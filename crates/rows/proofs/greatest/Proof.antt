@@ -16,15 +16,6 @@ Inv-loop x m₀ u₀ m u = (u ≤ 16) × (m ≡ maxBelow u (λ k. getD x k 0))
 abbrev μ-loop : tie.MeasureT-loop
 μ-loop x m₀ u₀ m u = 16 - u
 
-loop-holds : tie.Need-loop-holds Inv-loop μ-loop
-loop-holds c = search needs
-
-mul-larger : tie.Need-mul-larger Inv-loop μ-loop
-mul-larger c = search needs
-
-element-copy-out-larger : tie.Need-element-copy-out-larger Inv-loop μ-loop
-element-copy-out-larger c = search needs
-
 larger-requires : tie.Need-larger-requires Inv-loop μ-loop
 larger-requires c κs =
     let z = c .before .before .before in
@@ -33,12 +24,6 @@ larger-requires c κs =
       rw (loop .inv .1) (maxBelow-le _ u 32767 (λ k l. z .pre k (omega arith))),
       z .pre u (c .before .loop-test .taken),
     )
-
-add-u : tie.Need-add-u Inv-loop μ-loop
-add-u c = search needs
-
-loop-less : tie.Need-loop-less Inv-loop μ-loop
-loop-less c = search needs
 
 loop-again : tie.Need-loop-again Inv-loop μ-loop
 loop-again c =
@@ -53,14 +38,5 @@ returns c =
 pub greatest-spec : {M : Type 1} → statement M
 greatest-spec =
     tie.close
-    (tie.spec
-    Inv-loop
-    μ-loop
-    loop-holds
-    mul-larger
-    element-copy-out-larger
-    larger-requires
-    add-u
-    loop-less
-    loop-again
-    returns)
+    (tie.spec Inv-loop μ-loop (λ c. search needs) (λ c. search needs) (λ c. search needs) larger-requires
+    (λ c. search needs) (λ c. search needs) loop-again returns)

@@ -5,12 +5,6 @@ use Rattle.rows.proofs.Compare.{signed-lt, signed-ge}
 use Rattle.rows.proofs.larger.Statement.{statement}
 use Rattle.rows.proofs.larger.Tie as tie
 
-cast-if1 : tie.Need-cast-if1
-cast-if1 c = search needs
-
-cast-if1-2 : tie.Need-cast-if1-2
-cast-if1-2 c = search needs
-
 returns : tie.Need-returns
 returns c =
     let z = c .before in
@@ -22,4 +16,4 @@ returns-2 c =
     omega (arith, signed-ge (z .args .a) (z .args .b) (z .pre .0) (z .pre .1) (c .if1 .left))
 
 pub larger-spec : {M : Type 1} → statement M
-larger-spec = tie.close (tie.spec cast-if1 cast-if1-2 returns returns-2)
+larger-spec = tie.close (tie.spec (λ c. search needs) (λ c. search needs) returns returns-2)

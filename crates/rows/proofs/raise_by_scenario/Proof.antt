@@ -17,24 +17,6 @@ abbrev μ-loop : tie.MeasureT-loop
 loop-holds : tie.Need-loop-holds Inv-loop μ-loop
 loop-holds c = (omega arith, wrote-none _ _ _)
 
-mul-larger : tie.Need-mul-larger Inv-loop μ-loop
-mul-larger c = search needs
-
-element-copy-out-larger : tie.Need-element-copy-out-larger Inv-loop μ-loop
-element-copy-out-larger c = search needs
-
-mul-lesser : tie.Need-mul-lesser Inv-loop μ-loop
-mul-lesser c = search needs
-
-add-lesser : tie.Need-add-lesser Inv-loop μ-loop
-add-lesser c = search needs
-
-mul-lesser-2 : tie.Need-mul-lesser-2 Inv-loop μ-loop
-mul-lesser-2 c = search needs
-
-element-copy-out-lesser : tie.Need-element-copy-out-lesser Inv-loop μ-loop
-element-copy-out-lesser c = search needs
-
 lesser-requires : tie.Need-lesser-requires Inv-loop μ-loop
 lesser-requires c κs =
     let pre = c .before .before .before .before .pre in
@@ -46,18 +28,6 @@ larger-requires c κs =
     let loop = c .before .before .before .before .loop in
     let high = pre .3 (loop .u) (c .before .before .before .loop-test .taken) in
     (omega (arith, unwritten _ (loop .inv .1), high), omega (arith, c .lesser .ensures, pre .2))
-
-mul-o : tie.Need-mul-o Inv-loop μ-loop
-mul-o c = search needs
-
-element-write-o : tie.Need-element-write-o Inv-loop μ-loop
-element-write-o c = search needs
-
-add-u : tie.Need-add-u Inv-loop μ-loop
-add-u c = search needs
-
-loop-less : tie.Need-loop-less Inv-loop μ-loop
-loop-less c = search needs
 
 loop-again : tie.Need-loop-again Inv-loop μ-loop
 loop-again c =
@@ -73,21 +43,6 @@ returns c = row-of-wrote _ (c .before .loop .inv .1) (c .loop-test .left) (c .be
 pub raise-by-scenario-spec : {M : Type 1} → statement M
 raise-by-scenario-spec =
     tie.close
-    (tie.spec
-    Inv-loop
-    μ-loop
-    loop-holds
-    mul-larger
-    element-copy-out-larger
-    mul-lesser
-    add-lesser
-    mul-lesser-2
-    element-copy-out-lesser
-    lesser-requires
-    larger-requires
-    mul-o
-    element-write-o
-    add-u
-    loop-less
-    loop-again
-    returns)
+    (tie.spec Inv-loop μ-loop loop-holds (λ c. search needs) (λ c. search needs) (λ c. search needs)
+    (λ c. search needs) (λ c. search needs) (λ c. search needs) lesser-requires larger-requires (λ c. search needs)
+    (λ c. search needs) (λ c. search needs) (λ c. search needs) loop-again returns)

@@ -18,24 +18,6 @@ abbrev μ-loop : tie.MeasureT-loop
 loop-holds : tie.Need-loop-holds Inv-loop μ-loop
 loop-holds c = (omega arith, wrote-none _ _ _)
 
-mul-larger : tie.Need-mul-larger Inv-loop μ-loop
-mul-larger c = search needs
-
-element-copy-out-larger : tie.Need-element-copy-out-larger Inv-loop μ-loop
-element-copy-out-larger c = search needs
-
-mul-larger-2 : tie.Need-mul-larger-2 Inv-loop μ-loop
-mul-larger-2 c = search needs
-
-element-copy-out-larger-2 : tie.Need-element-copy-out-larger-2 Inv-loop μ-loop
-element-copy-out-larger-2 c = search needs
-
-mul-larger-3 : tie.Need-mul-larger-3 Inv-loop μ-loop
-mul-larger-3 c = search needs
-
-element-copy-out-larger-3 : tie.Need-element-copy-out-larger-3 Inv-loop μ-loop
-element-copy-out-larger-3 c = search needs
-
 sub-larger : tie.Need-sub-larger Inv-loop μ-loop
 sub-larger c =
     let pre = c .before .before .before .before .before .pre in
@@ -48,18 +30,6 @@ larger-requires c κs =
     let u = loop .u in
     let test = c .before .before .before .loop-test in
     (omega (arith, unwritten _ (loop .inv .1), pre .3 u (test .taken)), omega (arith, pre .1 u (test .taken)))
-
-mul-climb : tie.Need-mul-climb Inv-loop μ-loop
-mul-climb c = search needs
-
-element-write-climb : tie.Need-element-write-climb Inv-loop μ-loop
-element-write-climb c = search needs
-
-add-u : tie.Need-add-u Inv-loop μ-loop
-add-u c = search needs
-
-loop-less : tie.Need-loop-less Inv-loop μ-loop
-loop-less c = search needs
 
 loop-again : tie.Need-loop-again Inv-loop μ-loop
 loop-again c =
@@ -75,21 +45,6 @@ returns c = row-of-wrote _ (c .before .loop .inv .1) (c .loop-test .left) (c .be
 pub raise-climb-spec : {M : Type 1} → statement M
 raise-climb-spec =
     tie.close
-    (tie.spec
-    Inv-loop
-    μ-loop
-    loop-holds
-    mul-larger
-    element-copy-out-larger
-    mul-larger-2
-    element-copy-out-larger-2
-    mul-larger-3
-    element-copy-out-larger-3
-    sub-larger
-    larger-requires
-    mul-climb
-    element-write-climb
-    add-u
-    loop-less
-    loop-again
-    returns)
+    (tie.spec Inv-loop μ-loop loop-holds (λ c. search needs) (λ c. search needs) (λ c. search needs)
+    (λ c. search needs) (λ c. search needs) (λ c. search needs) sub-larger larger-requires (λ c. search needs)
+    (λ c. search needs) (λ c. search needs) (λ c. search needs) loop-again returns)

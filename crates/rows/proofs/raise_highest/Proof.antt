@@ -17,18 +17,6 @@ abbrev μ-loop : tie.MeasureT-loop
 loop-holds : tie.Need-loop-holds Inv-loop μ-loop
 loop-holds c = (omega arith, wrote-none _ _ _)
 
-mul-larger : tie.Need-mul-larger Inv-loop μ-loop
-mul-larger c = search needs
-
-element-copy-out-larger : tie.Need-element-copy-out-larger Inv-loop μ-loop
-element-copy-out-larger c = search needs
-
-mul-larger-2 : tie.Need-mul-larger-2 Inv-loop μ-loop
-mul-larger-2 c = search needs
-
-element-copy-out-larger-2 : tie.Need-element-copy-out-larger-2 Inv-loop μ-loop
-element-copy-out-larger-2 c = search needs
-
 larger-requires : tie.Need-larger-requires Inv-loop μ-loop
 larger-requires c κs =
     let z = c .before .before .before .before in
@@ -36,18 +24,6 @@ larger-requires c κs =
     let u = loop .u in
     let test = c .before .before .loop-test in
     (omega (arith, unwritten _ (loop .inv .1), z .pre .2 u (test .taken)), z .pre .0 u (test .taken))
-
-mul-highest : tie.Need-mul-highest Inv-loop μ-loop
-mul-highest c = search needs
-
-element-write-highest : tie.Need-element-write-highest Inv-loop μ-loop
-element-write-highest c = search needs
-
-add-u : tie.Need-add-u Inv-loop μ-loop
-add-u c = search needs
-
-loop-less : tie.Need-loop-less Inv-loop μ-loop
-loop-less c = search needs
 
 loop-again : tie.Need-loop-again Inv-loop μ-loop
 loop-again c =
@@ -63,18 +39,6 @@ returns c = row-of-wrote _ (c .before .loop .inv .1) (c .loop-test .left) (c .be
 pub raise-highest-spec : {M : Type 1} → statement M
 raise-highest-spec =
     tie.close
-    (tie.spec
-    Inv-loop
-    μ-loop
-    loop-holds
-    mul-larger
-    element-copy-out-larger
-    mul-larger-2
-    element-copy-out-larger-2
-    larger-requires
-    mul-highest
-    element-write-highest
-    add-u
-    loop-less
-    loop-again
-    returns)
+    (tie.spec Inv-loop μ-loop loop-holds (λ c. search needs) (λ c. search needs) (λ c. search needs)
+    (λ c. search needs) larger-requires (λ c. search needs) (λ c. search needs) (λ c. search needs)
+    (λ c. search needs) loop-again returns)

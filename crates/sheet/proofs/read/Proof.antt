@@ -35,14 +35,8 @@ at-rules d =
     section-ready (sheet-3 d) Signals (progressOf (d .before .read-after .result)) (progressOf (d .read-after2 .result))
     (d .read-after2 .ensures) (at-signals (d .before))
 
-rejected-requires : tie.Need-rejected-requires
-rejected-requires c κs = search needs
-
 returns : tie.Need-returns
 returns c = c .rejected .ensures ∙ read-too-long (c .before .before .before .args .sheet .now) (c .before .if1 .taken)
-
-read-horizon-requires : tie.Need-read-horizon-requires
-read-horizon-requires c κs = search needs
 
 read-after-requires : tie.Need-read-after-requires
 read-after-requires c κs = (c .before .if1 .left, at-events c)
@@ -52,9 +46,6 @@ read-after-requires-2 c κs = (c .before .before .if1 .left, at-signals c)
 
 read-after-requires-3 : tie.Need-read-after-requires-3
 read-after-requires-3 c κs = (c .before .before .before .if1 .left, at-rules c)
-
-end-of-requires : tie.Need-end-of-requires
-end-of-requires c κs = search needs
 
 returns-2 : tie.Need-returns-2
 returns-2 c =
@@ -71,12 +62,5 @@ returns-2 c =
 pub read-spec : {M : Type 1} → statement M
 read-spec =
     tie.close
-    (tie.spec
-    rejected-requires
-    returns
-    read-horizon-requires
-    read-after-requires
-    read-after-requires-2
-    read-after-requires-3
-    end-of-requires
-    returns-2)
+    (tie.spec (λ c κs. search needs) returns (λ c κs. search needs) read-after-requires read-after-requires-2
+    read-after-requires-3 (λ c κs. search needs) returns-2)

@@ -8,11 +8,8 @@ use Rattle.solver.proofs.keep.Tie as tie
 returns : tie.Need-returns
 returns c = inl (refl, refl)
 
-copy-requires : tie.Need-copy-requires
-copy-requires c κs = search needs
-
 returns-2 : tie.Need-returns-2
 returns-2 c = inr (refl, c .copy .ensures)
 
 pub keep-spec : {M : Type 1} → statement M
-keep-spec = tie.close (tie.spec returns copy-requires returns-2)
+keep-spec = tie.close (tie.spec returns (λ c κs. search needs) returns-2)

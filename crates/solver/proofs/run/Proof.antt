@@ -15,21 +15,17 @@ use Rattle.solver.proofs.run.Statement.{statement}
 use Rattle.solver.proofs.run.Tie as tie
 
 abbrev Inv-loop : tie.InvT-loop
-Inv-loop a₀ budget frame counts lists cells b₀ base₀ at₀ mark₀ w₀ since₀ v₀ turns₀ rounds₀ a b base at mark w since v turns rounds =
+Inv-loop a₀ budget frame counts lists cells b₀ base₀ at₀ mark₀ w₀ since₀ v₀ turns₀ rounds₀ a b base at mark w since v
+    turns rounds =
     (rounds ≤ budget) × (length b ≡ 256) × (length mark ≡ 256) × (length since ≡ 256) × (v .cell < 256)
     × Underway frame counts lists a₀ base a at rounds
 
 abbrev μ-loop : tie.MeasureT-loop
-μ-loop a₀ budget frame counts lists cells b₀ base₀ at₀ mark₀ w₀ since₀ v₀ turns₀ rounds₀ a b base at mark w since v turns rounds = budget - rounds
+μ-loop a₀ budget frame counts lists cells b₀ base₀ at₀ mark₀ w₀ since₀ v₀ turns₀ rounds₀ a b base at mark w since v
+    turns rounds = budget - rounds
 
 cells-of-requires : tie.Need-cells-of-requires Inv-loop μ-loop
 cells-of-requires c κs = scenarios-in (c .pre .0)
-
-first-watch-requires : tie.Need-first-watch-requires Inv-loop μ-loop
-first-watch-requires c κs = search needs
-
-first-pace-requires : tie.Need-first-pace-requires Inv-loop μ-loop
-first-pace-requires c κs = search needs
 
 loop-holds : tie.Need-loop-holds Inv-loop μ-loop
 loop-holds c =
@@ -41,17 +37,11 @@ add-rounds c =
     let fits = c .before .before .before .before .before .before .fits in
     omega (arith, c .loop-test .taken, fits .budget)
 
-wrapping-add-u32-requires : tie.Need-wrapping-add-u32-requires Inv-loop μ-loop
-wrapping-add-u32-requires c κs = search needs
-
 round-requires : tie.Need-round-requires Inv-loop μ-loop
 round-requires c κs =
     let loop = c .before .before .before .before .loop in
     let pre = c .before .before .before .before .before .before .before .before .before .pre in
     (pre .0, loop .inv .5 .from-base .times, loop .inv .1)
-
-enum-told : tie.Need-enum-told Inv-loop μ-loop
-enum-told c = search needs
 
 returns : tie.Need-returns Inv-loop μ-loop
 returns c =
@@ -63,9 +53,6 @@ returns c =
           (rounded-as (c .enum-told .given .1) (c .before .before .round .ensures Γ C)),
     )
 
-enum-told-2 : tie.Need-enum-told-2 Inv-loop μ-loop
-enum-told-2 c = search needs
-
 returns-2 : tie.Need-returns-2 Inv-loop μ-loop
 returns-2 c =
     let loop-test = c .before .before .before .before .before .before .loop-test in
@@ -75,9 +62,6 @@ returns-2 c =
       λ Γ C. ended-resting (all-of G) Γ C _ _ (omega (arith, loop-test .taken))
           (rounded-as (c .enum-told2 .given .1) (c .before .before .round .ensures Γ C)),
     )
-
-enum-told-3 : tie.Need-enum-told-3 Inv-loop μ-loop
-enum-told-3 c = search needs
 
 sub-watch : tie.Need-sub-watch Inv-loop μ-loop
 sub-watch c =
@@ -174,9 +158,6 @@ add-at c =
     (copy .ensures) (keep .ensures) in
     omega (arith, K .order, loop-test .taken, c .pass-over .ensures .0, fits .budget)
 
-after-tries-requires : tie.Need-after-tries-requires Inv-loop μ-loop
-after-tries-requires c κs = search needs
-
 sub-finish : tie.Need-sub-finish Inv-loop μ-loop
 sub-finish c =
     let back = c .before .before .before .before .before .before .before .before .before .before in
@@ -272,36 +253,8 @@ returns-4 c =
 pub run-spec : {M : Type 1} → statement M
 run-spec =
     tie.close
-    (tie.spec
-    Inv-loop
-    μ-loop
-    cells-of-requires
-    first-watch-requires
-    first-pace-requires
-    loop-holds
-    add-rounds
-    wrapping-add-u32-requires
-    round-requires
-    enum-told
-    returns
-    enum-told-2
-    returns-2
-    enum-told-3
-    sub-watch
-    watch-requires
-    follow-requires
-    copy-requires
-    keep-requires
-    sub-pass-over
-    sub-pass-over-2
-    pass-over-requires
-    add-rounds-2
-    add-at
-    after-tries-requires
-    sub-finish
-    finish-requires
-    add-rounds-3
-    returns-3
-    loop-less
-    loop-again
-    returns-4)
+    (tie.spec Inv-loop μ-loop cells-of-requires (λ c κs. search needs) (λ c κs. search needs) loop-holds add-rounds
+    (λ c κs. search needs) round-requires (λ c. search needs) returns (λ c. search needs) returns-2
+    (λ c. search needs) sub-watch watch-requires follow-requires copy-requires keep-requires sub-pass-over
+    sub-pass-over-2 pass-over-requires add-rounds-2 add-at (λ c κs. search needs) sub-finish finish-requires
+    add-rounds-3 returns-3 loop-less loop-again returns-4)

@@ -9,9 +9,6 @@ use Rattle.solver.proofs.Solving.{solved-spent, run-as, cells-framed, c
 use Rattle.solver.proofs.solve.Statement.{statement}
 use Rattle.solver.proofs.solve.Tie as tie
 
-frame-of-requires : tie.Need-frame-of-requires
-frame-of-requires c κs = search needs
-
 list-constraints-requires : tie.Need-list-constraints-requires
 list-constraints-requires c κs =
     let pre = c .before .before .before .before .pre in
@@ -23,19 +20,11 @@ run-requires c κs =
     let list-constraints = c .before .before .before .list-constraints in
     (record { network = _; compiled = list-constraints .ensures }, zero-times _ _)
 
-enum-known-ended : tie.Need-enum-known-ended
-enum-known-ended c = search needs
-
-enum-known-ended-2 : tie.Need-enum-known-ended-2
-enum-known-ended-2 c = search needs
-
-enum-known-ended-3 : tie.Need-enum-known-ended-3
-enum-known-ended-3 c = search needs
-
 copy-out-requires : tie.Need-copy-out-requires
 copy-out-requires c κs =
     let back = c .before .before .before .before .before .before .before .before .before .before in
-    let list-constraints = c .before .before .before .before .before .before .before .before .before .list-constraints in
+    let list-constraints = c .before .before .before .before .before .before .before .before .before
+    .list-constraints in
     let pre = back .before .before .before .before .pre in
     let F = list-constraints .ensures .framed in
     let W = pre .0 in
@@ -81,15 +70,5 @@ returns-3 c =
 pub solve-spec : {M : Type 1} → statement M
 solve-spec =
     tie.close
-    (tie.spec
-    frame-of-requires
-    list-constraints-requires
-    run-requires
-    enum-known-ended
-    enum-known-ended-2
-    enum-known-ended-3
-    copy-out-requires
-    returns
-    returns-2
-    same-length
-    returns-3)
+    (tie.spec (λ c κs. search needs) list-constraints-requires run-requires (λ c. search needs) (λ c. search needs)
+    (λ c. search needs) copy-out-requires returns returns-2 same-length returns-3)

@@ -15,18 +15,6 @@ within d at t h =
     let part = take (length t - at) (drop at t) in
     omega (arith, upTo-le d part, length-take (length t - at) (drop at t))
 
-sub-until : tie.Need-sub-until
-sub-until c = search needs
-
-part-until-start : tie.Need-part-until-start
-part-until-start c = search needs
-
-part-until-end : tie.Need-part-until-end
-part-until-end c = search needs
-
-until-requires : tie.Need-until-requires
-until-requires c κs = search needs
-
 add-result : tie.Need-add-result
 add-result c =
     let start = c .before .before .before in
@@ -40,4 +28,4 @@ returns c =
 pub end-of-spec : {M : Type 1} → statement M
 end-of-spec =
     tie.close
-    (tie.spec sub-until part-until-start part-until-end until-requires add-result returns)
+    (tie.spec (λ c. search needs) (λ c. search needs) (λ c. search needs) (λ c κs. search needs) add-result returns)

@@ -11,23 +11,11 @@ use Rattle.dispatch.proofs.HeardText.{said-heard, said-other}
 use Rattle.dispatch.proofs.text.said.Statement.{statement}
 use Rattle.dispatch.proofs.text.said.Tie as tie
 
-is-heard-requires : tie.Need-is-heard-requires
-is-heard-requires c κs = search needs
-
-with-requires : tie.Need-with-requires
-with-requires c κs = search needs
-
 returns : tie.Need-returns
 returns c =
     let at-test = c .before .before in
     let other = sym (at-test .is-heard .ensures) ∙ not-true _ (c .before .if1 .taken) in
     c .with .ensures ∙ sym (said-other (at-test .before .before .args .text .now) other)
-
-literals-of-requires : tie.Need-literals-of-requires
-literals-of-requires c κs = search needs
-
-said-by-requires : tie.Need-said-by-requires
-said-by-requires c κs = search needs
 
 returns-2 : tie.Need-returns-2
 returns-2 c =
@@ -39,10 +27,5 @@ returns-2 c =
 pub said-spec : {M : Type 1} → statement M
 said-spec =
     tie.close
-    (tie.spec
-    is-heard-requires
-    with-requires
-    returns
-    literals-of-requires
-    said-by-requires
+    (tie.spec (λ c κs. search needs) (λ c κs. search needs) returns (λ c κs. search needs) (λ c κs. search needs)
     returns-2)

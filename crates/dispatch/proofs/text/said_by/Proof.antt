@@ -17,18 +17,6 @@ abbrev μ-loop : tie.MeasureT-loop
 loop-holds : tie.Need-loop-holds Inv-loop μ-loop
 loop-holds c = saying-start _
 
-shared-slice-read-b : tie.Need-shared-slice-read-b Inv-loop μ-loop
-shared-slice-read-b c = search needs
-
-add-requires : tie.Need-add-requires Inv-loop μ-loop
-add-requires c κs = search needs
-
-add-i : tie.Need-add-i Inv-loop μ-loop
-add-i c = search needs
-
-loop-less : tie.Need-loop-less Inv-loop μ-loop
-loop-less c = search needs
-
 loop-again : tie.Need-loop-again Inv-loop μ-loop
 loop-again c =
     let in-loop = c .before .before in
@@ -44,13 +32,5 @@ returns c = saying-end (c .before .loop .inv) (c .loop-test .left)
 pub said-by-spec : {M : Type 1} → statement M
 said-by-spec =
     tie.close
-    (tie.spec
-    Inv-loop
-    μ-loop
-    loop-holds
-    shared-slice-read-b
-    add-requires
-    add-i
-    loop-less
-    loop-again
-    returns)
+    (tie.spec Inv-loop μ-loop loop-holds (λ c. search needs) (λ c κs. search needs) (λ c. search needs)
+    (λ c. search needs) loop-again returns)

@@ -11,9 +11,6 @@ use Rattle.line.proofs.Answered.{event-parts, rule-parts, entry-ends}
 use Rattle.line.proofs.entry.entry_at.Statement.{statement}
 use Rattle.line.proofs.entry.entry_at.Tie as tie
 
-until-requires : tie.Need-until-requires
-until-requires c κs = search needs
-
 returns : tie.Need-returns
 returns c =
     let args = c .before .before .before .before .args in
@@ -26,24 +23,6 @@ slice-aggregate-line c =
     let until = c .before .before .until in
     sym (length-take-le (until .result) (args .rest .now)
     (line-le (args .rest .now) (until .result) (until .ensures)))
-
-enum-told : tie.Need-enum-told
-enum-told c = search needs
-
-event-fields-requires : tie.Need-event-fields-requires
-event-fields-requires c κs = search needs
-
-enum-told-2 : tie.Need-enum-told-2
-enum-told-2 c = search needs
-
-signal-fields-requires : tie.Need-signal-fields-requires
-signal-fields-requires c κs = search needs
-
-enum-told-3 : tie.Need-enum-told-3
-enum-told-3 c = search needs
-
-rule-fields-requires : tie.Need-rule-fields-requires
-rule-fields-requires c κs = search needs
 
 returns-2 : tie.Need-returns-2
 returns-2 c =
@@ -80,16 +59,6 @@ returns-4 c =
 pub entry-at-spec : {M : Type 1} → statement M
 entry-at-spec =
     tie.close
-    (tie.spec
-    until-requires
-    returns
-    slice-aggregate-line
-    enum-told
-    event-fields-requires
-    enum-told-2
-    signal-fields-requires
-    enum-told-3
-    rule-fields-requires
-    returns-2
-    returns-3
+    (tie.spec (λ c κs. search needs) returns slice-aggregate-line (λ c. search needs) (λ c κs. search needs)
+    (λ c. search needs) (λ c κs. search needs) (λ c. search needs) (λ c κs. search needs) returns-2 returns-3
     returns-4)

@@ -23,20 +23,11 @@ parts d = partsOf (d .args .n) (d .args .starts .now) (d .args .lengths .now) 0 
 abbrev parted : tie.Start → List (List ℕ)
 parted d = fields (d .args .line .now)
 
-cut-requires : tie.Need-cut-requires
-cut-requires c κs = search needs
-
 returns : tie.Need-returns
 returns c =
     let d = c .before .before .before .before .before in
     sym (rw (event-count (d .args .sheet .now) (parts d) (parted d)
     (λ h. c .if1 .taken (c .before .before .cut .ensures .counted ∙ h))))
-
-field-requires : tie.Need-field-requires
-field-requires c κs = search needs
-
-is-name-requires : tie.Need-is-name-requires
-is-name-requires c κs = search needs
 
 -- where the function begins, seen from where the name is tested
 abbrev start : tie.After-is-name → tie.Start
@@ -55,17 +46,12 @@ returns-2 c =
     sym (rw (event-ill (start d .args .sheet .now) (parts (start d)) (parted (start d)) (one d)
     (named d ∙ not-true (d .is-name .result) (c .if2 .taken))))
 
-event-named-requires : tie.Need-event-named-requires
-event-named-requires c κs = search needs
-
-is-found-requires : tie.Need-is-found-requires
-is-found-requires c κs = search needs
-
 abbrev name-at : tie.After-is-found → tie.After-is-name
 name-at d = d .before .before .before
 
 known : (d : tie.After-is-found)
-    → answers (eventOf (start (name-at d) .args .sheet .now) (parts (start (name-at d))) (field 0 (parted (start (name-at d)))))
+    → answers (eventOf (start (name-at d) .args .sheet .now) (parts (start (name-at d)))
+    (field 0 (parted (start (name-at d)))))
     ≡ d .is-found .result
 known d =
     let args = start (name-at d) .args in
@@ -79,24 +65,18 @@ returns-3 : tie.Need-returns-3
 returns-3 c =
     let d = name-at (c .before) in
     sym (rw (event-twice (start d .args .sheet .now) (parts (start d)) (parted (start d)) (one d)
-    (named d ∙ not-false (d .is-name .result) (c .before .before .before .if2 .left)) (known (c .before) ∙ c .if3 .taken)))
+    (named d ∙ not-false (d .is-name .result) (c .before .before .before .if2 .left))
+    (known (c .before) ∙ c .if3 .taken)))
 
 returns-4 : tie.Need-returns-4
 returns-4 c =
     let d = name-at (c .before) in
     sym (rw (event-passes (start d .args .sheet .now) (parts (start d)) (parted (start d)) (one d)
-    (named d ∙ not-false (d .is-name .result) (c .before .before .before .if2 .left)) (known (c .before) ∙ c .if3 .left)))
+    (named d ∙ not-false (d .is-name .result) (c .before .before .before .if2 .left))
+    (known (c .before) ∙ c .if3 .left)))
 
 pub event-fields-spec : {M : Type 1} → statement M
 event-fields-spec =
     tie.close
-    (tie.spec
-    cut-requires
-    returns
-    field-requires
-    is-name-requires
-    returns-2
-    event-named-requires
-    is-found-requires
-    returns-3
-    returns-4)
+    (tie.spec (λ c κs. search needs) returns (λ c κs. search needs) (λ c κs. search needs) returns-2
+    (λ c κs. search needs) (λ c κs. search needs) returns-3 returns-4)

@@ -24,28 +24,8 @@ parts d = partsOf (d .args .n) (d .args .starts .now) (d .args .lengths .now) (d
 
 abbrev why : tie.Start → Option Cause
 why d =
-    firstFailing (endsTests (d .args .sheet .now) (parts d) (d .args .from .now) (d .args .to .now) (d .args .label .now))
-
-literals-of-requires : tie.Need-literals-of-requires
-literals-of-requires c κs = search needs
-
-event-named-requires : tie.Need-event-named-requires
-event-named-requires c κs = search needs
-
-event-named-requires-2 : tie.Need-event-named-requires-2
-event-named-requires-2 c κs = search needs
-
-is-rule-requires : tie.Need-is-rule-requires
-is-rule-requires c κs = search needs
-
-are-defined-requires : tie.Need-are-defined-requires
-are-defined-requires c κs = search needs
-
-is-distinct-requires : tie.Need-is-distinct-requires
-is-distinct-requires c κs = search needs
-
-first-failing-requires : tie.Need-first-failing-requires
-first-failing-requires c κs = search needs
+    firstFailing (endsTests (d .args .sheet .now) (parts d) (d .args .from .now) (d .args .to .now)
+    (d .args .label .now))
 
 -- where the function begins, seen from the tests' end
 abbrev start : tie.After-first-failing → tie.Start
@@ -58,21 +38,10 @@ checked d =
     let literals-of = d .before .before .before .before .before .before .literals-of in
     d .first-failing .ensures ∙ ap checkOf (ends-tests (args .sheet .now) (parts (start d)) (args .from .now)
     (args .to .now) (args .label .now) (literals-of .result .now) (literals-of .ensures)
-    (d .before .before .before .before .before .event-named .ensures) (d .before .before .before .before .event-named2 .ensures)
+    (d .before .before .before .before .before .event-named .ensures)
+    (d .before .before .before .before .event-named2 .ensures)
     (d .before .before .before .is-rule .ensures) (d .before .before .are-defined .ensures)
     (d .before .is-distinct .ensures))
-
-enum-known-check : tie.Need-enum-known-check
-enum-known-check c = search needs
-
-enum-told : tie.Need-enum-told
-enum-told c = search needs
-
-place-or-requires : tie.Need-place-or-requires
-place-or-requires c κs = search needs
-
-place-or-requires-2 : tie.Need-place-or-requires-2
-place-or-requires-2 c κs = search needs
 
 mask-of-requires : tie.Need-mask-of-requires
 mask-of-requires c κs =
@@ -103,24 +72,13 @@ returns-2 c =
     (eventOf (args .sheet .now) (parts (start d)) (args .to .now)) in
     let bound = toZ-ofZ w32 (args .bound) (start d .fits .bound) in
     let label = c .mask-of .ensures
-    ∙ ap (maskOf (args .k) (args .letters .now)) (d .before .before .before .before .before .before .literals-of .ensures) in
+    ∙ ap (maskOf (args .k) (args .letters .now))
+    (d .before .before .before .before .before .before .literals-of .ensures) in
     rw (none-fails, from, to, bound, label)
 
 pub rule-ends-spec : {M : Type 1} → statement M
 rule-ends-spec =
     tie.close
-    (tie.spec
-    literals-of-requires
-    event-named-requires
-    event-named-requires-2
-    is-rule-requires
-    are-defined-requires
-    is-distinct-requires
-    first-failing-requires
-    enum-known-check
-    enum-told
-    place-or-requires
-    place-or-requires-2
-    mask-of-requires
-    returns
-    returns-2)
+    (tie.spec (λ c κs. search needs) (λ c κs. search needs) (λ c κs. search needs) (λ c κs. search needs)
+    (λ c κs. search needs) (λ c κs. search needs) (λ c κs. search needs) (λ c. search needs) (λ c. search needs)
+    (λ c κs. search needs) (λ c κs. search needs) mask-of-requires returns returns-2)

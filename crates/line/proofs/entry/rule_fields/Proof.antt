@@ -22,26 +22,11 @@ parts d = partsOf (d .args .n) (d .args .starts .now) (d .args .lengths .now) (d
 abbrev parted : tie.Start → List (List ℕ)
 parted d = fields (d .args .line .now)
 
-cut-requires : tie.Need-cut-requires
-cut-requires c κs = search needs
-
 returns : tie.Need-returns
 returns c =
     let d = c .before .before .before .before .before in
     sym (rw (rule-count (d .args .sheet .now) (parts d) (parted d)
     (λ h. c .if1 .taken (c .before .before .cut .ensures .counted ∙ h))))
-
-field-requires : tie.Need-field-requires
-field-requires c κs = search needs
-
-kind-of-requires : tie.Need-kind-of-requires
-kind-of-requires c κs = search needs
-
-enum-known-found : tie.Need-enum-known-found
-enum-known-found c = search needs
-
-enum-told : tie.Need-enum-told
-enum-told c = search needs
 
 -- where the function begins, seen from where the kind is known
 abbrev start : tie.After-kind-of → tie.Start
@@ -58,7 +43,8 @@ kind-at d = d .before .before .before
 kind : (d : tie.After-known-told) → kindOf (field 0 (parted (start (kind-at d)))) ≡ some (d .before .found .given .0 .0)
 kind d =
     let found = d .before .found in
-    kind-some (kindOf (field 0 (parted (start (kind-at d))))) (found .given .0 .0) (kind-is (kind-at d) ∙ found .given .1)
+    kind-some (kindOf (field 0 (parted (start (kind-at d))))) (found .given .0 .0) (kind-is (kind-at d)
+    ∙ found .given .1)
 
 five : (d : tie.After-known-told) → length (parted (start (kind-at d))) ≡ 5
 five d =
@@ -71,33 +57,6 @@ returns-2 c =
     let fs = parted (start d) in
     let other = kind-none (kindOf (field 0 fs)) (kind-is d ∙ c .enum-told .given .1) in
     sym (rw (rule-other (start d .args .sheet .now) (parts (start d)) fs other))
-
-field-requires-2 : tie.Need-field-requires-2
-field-requires-2 c κs = search needs
-
-limit-of-requires : tie.Need-limit-of-requires
-limit-of-requires c κs = search needs
-
-enum-told-2 : tie.Need-enum-told-2
-enum-told-2 c = search needs
-
-enum-told-3 : tie.Need-enum-told-3
-enum-told-3 c = search needs
-
-enum-known-limit : tie.Need-enum-known-limit
-enum-known-limit c = search needs
-
-field-requires-3 : tie.Need-field-requires-3
-field-requires-3 c κs = search needs
-
-field-requires-4 : tie.Need-field-requires-4
-field-requires-4 c κs = search needs
-
-field-requires-5 : tie.Need-field-requires-5
-field-requires-5 c κs = search needs
-
-rule-ends-requires : tie.Need-rule-ends-requires
-rule-ends-requires c κs = search needs
 
 -- where the kind is known, seen from where the limit is
 abbrev told-at : tie.After-limit-of → tie.After-known-told
@@ -154,23 +113,7 @@ returns-5 c =
 pub rule-fields-spec : {M : Type 1} → statement M
 rule-fields-spec =
     tie.close
-    (tie.spec
-    cut-requires
-    returns
-    field-requires
-    kind-of-requires
-    enum-known-found
-    enum-told
-    returns-2
-    field-requires-2
-    limit-of-requires
-    enum-told-2
-    enum-told-3
-    enum-known-limit
-    field-requires-3
-    field-requires-4
-    field-requires-5
-    rule-ends-requires
-    returns-3
-    returns-4
-    returns-5)
+    (tie.spec (λ c κs. search needs) returns (λ c κs. search needs) (λ c κs. search needs) (λ c. search needs)
+    (λ c. search needs) returns-2 (λ c κs. search needs) (λ c κs. search needs) (λ c. search needs)
+    (λ c. search needs) (λ c. search needs) (λ c κs. search needs) (λ c κs. search needs) (λ c κs. search needs)
+    (λ c κs. search needs) returns-3 returns-4 returns-5)

@@ -22,47 +22,11 @@ parts d =
 abbrev why : tie.Start → Option Cause
 why d = firstFailing (signalTests (d .args .sheet .now) (parts d) (fields (d .args .line .now)))
 
-cut-requires : tie.Need-cut-requires
-cut-requires c κs = search needs
-
 returns : tie.Need-returns
 returns c =
     let d = c .before .before .before .before .before in
     sym (rw (signal-count (d .args .sheet .now) (parts d) (fields (d .args .line .now))
     (λ h. c .if1 .taken (c .before .before .cut .ensures .counted ∙ h))))
-
-field-requires : tie.Need-field-requires
-field-requires c κs = search needs
-
-field-requires-2 : tie.Need-field-requires-2
-field-requires-2 c κs = search needs
-
-first-requires : tie.Need-first-requires
-first-requires c κs = search needs
-
-event-named-requires : tie.Need-event-named-requires
-event-named-requires c κs = search needs
-
-is-signal-requires : tie.Need-is-signal-requires
-is-signal-requires c κs = search needs
-
-is-fresh-requires : tie.Need-is-fresh-requires
-is-fresh-requires c κs = search needs
-
-is-found-requires : tie.Need-is-found-requires
-is-found-requires c κs = search needs
-
-first-failing-requires : tie.Need-first-failing-requires
-first-failing-requires c κs = search needs
-
-enum-known-check : tie.Need-enum-known-check
-enum-known-check c = search needs
-
-enum-told : tie.Need-enum-told
-enum-told c = search needs
-
-place-or-requires : tie.Need-place-or-requires
-place-or-requires c κs = search needs
 
 -- where the function begins, seen from the tests' end
 abbrev start : tie.After-first-failing → tie.Start
@@ -71,13 +35,15 @@ start d = d .before .before .before .before .before .before .before .before .bef
 -- the three tests are those of the line
 checked : (d : tie.After-first-failing) → d .first-failing .result ≡ checkOf (why (start d))
 checked d =
-    let args = d .before .before .before .before .before .before .before .before .before .before .before .before .before .args in
+    let args = d .before .before .before .before .before .before .before .before .before .before .before .before
+    .before .args in
     let field2 = d .before .before .before .before .before .before .field2 in
     let event-named = d .before .before .before .before .event-named in
     let is-found = d .before .is-found in
     let sheet = args .sheet .now in
     let fs = fields (args .line .now) in
-    let Γ = parts (d .before .before .before .before .before .before .before .before .before .before .before .before .before) in
+    let Γ = parts (d .before .before .before .before .before .before .before .before .before .before .before
+    .before .before) in
     let first = d .before .before .before .before .before .before .before .field .ensures .text in
     let second = field2 .ensures .text in
     let event = event-is sheet (args .n) (args .starts .now) (args .lengths .now) (field 1 fs)
@@ -86,7 +52,8 @@ checked d =
     (field2 .result .now) second (event-named .result) (is-found .result) (event-named .ensures)
     (is-found .ensures) in
     let cut = d .before .before .before .before .before .before .before .before .before .before .cut in
-    let two = sym (cut .ensures .counted) ∙ d .before .before .before .before .before .before .before .before .if1 .left in
+    let two = sym (cut .ensures .counted) ∙ d .before .before .before .before .before .before .before .before
+    .if1 .left in
     d .first-failing .ensures ∙ ap checkOf (sym (signal-tests sheet Γ fs two
     (d .before .before .before .is-signal .ensures ∙ rw (first, second))
     (d .before .before .is-fresh .ensures ∙ rw (
@@ -115,24 +82,17 @@ returns-3 c =
     let d = c .before .before .before in
     let passed = check-passed (why (start d)) (sym (checked d) ∙ c .before .enum-told .given .1) in
     let was-field = c .before .before .before .before .before .before .before .before .before .before .field in
-    rw (passed, place, c .before .before .before .before .before .before .before .before .first .ensures, was-field .ensures .text)
+    rw (
+      passed,
+      place,
+      c .before .before .before .before .before .before .before .before .first .ensures,
+      was-field
+          .ensures .text,
+    )
 
 pub signal-fields-spec : {M : Type 1} → statement M
 signal-fields-spec =
     tie.close
-    (tie.spec
-    cut-requires
-    returns
-    field-requires
-    field-requires-2
-    first-requires
-    event-named-requires
-    is-signal-requires
-    is-fresh-requires
-    is-found-requires
-    first-failing-requires
-    enum-known-check
-    enum-told
-    place-or-requires
-    returns-2
-    returns-3)
+    (tie.spec (λ c κs. search needs) returns (λ c κs. search needs) (λ c κs. search needs) (λ c κs. search needs)
+    (λ c κs. search needs) (λ c κs. search needs) (λ c κs. search needs) (λ c κs. search needs) (λ c κs. search needs)
+    (λ c. search needs) (λ c. search needs) (λ c κs. search needs) returns-2 returns-3)

@@ -5,16 +5,10 @@ use borrow.Author.Tests.{not-true, not-false}
 use Rattle.line.proofs.field.are_defined.Statement.{statement}
 use Rattle.line.proofs.field.are_defined.Tie as tie
 
-is-found-requires : tie.Need-is-found-requires
-is-found-requires c κs = search needs
-
 returns : tie.Need-returns
 returns c =
     let is-found = c .before .is-found in
     rw (sym (is-found .ensures) ∙ not-true (is-found .result) (c .if1 .taken))
-
-is-found-requires-2 : tie.Need-is-found-requires-2
-is-found-requires-2 c κs = search needs
 
 returns-2 : tie.Need-returns-2
 returns-2 c =
@@ -25,9 +19,6 @@ returns-2 c =
       sym
           (is-found2 .ensures) ∙ not-true (is-found2 .result) (c .if2 .taken),
     )
-
-all-defined-requires : tie.Need-all-defined-requires
-all-defined-requires c κs = search needs
 
 returns-3 : tie.Need-returns-3
 returns-3 c =
@@ -42,10 +33,4 @@ returns-3 c =
 pub are-defined-spec : {M : Type 1} → statement M
 are-defined-spec =
     tie.close
-    (tie.spec
-    is-found-requires
-    returns
-    is-found-requires-2
-    returns-2
-    all-defined-requires
-    returns-3)
+    (tie.spec (λ c κs. search needs) returns (λ c κs. search needs) returns-2 (λ c κs. search needs) returns-3)

@@ -5,18 +5,6 @@ use Rattle.line.proofs.Numbers.{count-ill, count-minus, count-low, coun
 use Rattle.line.proofs.field.count_of.Statement.{statement}
 use Rattle.line.proofs.field.count_of.Tie as tie
 
-read-number-requires : tie.Need-read-number-requires
-read-number-requires c κs = search needs
-
-enum-told : tie.Need-enum-told
-enum-told c = search needs
-
-enum-told-2 : tie.Need-enum-told-2
-enum-told-2 c = search needs
-
-enum-known-n : tie.Need-enum-known-n
-enum-known-n c = search needs
-
 returns : tie.Need-returns
 returns c =
     let args = c .before .before .before .before .before .before .args in
@@ -57,13 +45,5 @@ returns-5 c =
 pub count-of-spec : {M : Type 1} → statement M
 count-of-spec =
     tie.close
-    (tie.spec
-    read-number-requires
-    enum-told
-    enum-told-2
-    enum-known-n
-    returns
-    returns-2
-    returns-3
-    returns-4
-    returns-5)
+    (tie.spec (λ c κs. search needs) (λ c. search needs) (λ c. search needs) (λ c. search needs) returns returns-2
+    returns-3 returns-4 returns-5)

@@ -5,20 +5,8 @@ use mathlib.Core.Bool.{not}
 use Rattle.line.proofs.field.is_fresh.Statement.{statement}
 use Rattle.line.proofs.field.is_fresh.Tie as tie
 
-is-defined-requires : tie.Need-is-defined-requires
-is-defined-requires c κs = search needs
-
 returns : tie.Need-returns
 returns c = rw (sym (c .before .is-defined .ensures) ∙ c .if1 .taken)
-
-enum-known-event : tie.Need-enum-known-event
-enum-known-event c = search needs
-
-gives-signal-requires : tie.Need-gives-signal-requires
-gives-signal-requires c κs = search needs
-
-enum-told : tie.Need-enum-told
-enum-told c = search needs
 
 returns-2 : tie.Need-returns-2
 returns-2 c =
@@ -33,11 +21,5 @@ returns-3 c =
 pub is-fresh-spec : {M : Type 1} → statement M
 is-fresh-spec =
     tie.close
-    (tie.spec
-    is-defined-requires
-    returns
-    enum-known-event
-    gives-signal-requires
-    enum-told
-    returns-2
+    (tie.spec (λ c κs. search needs) returns (λ c. search needs) (λ c κs. search needs) (λ c. search needs) returns-2
     returns-3)

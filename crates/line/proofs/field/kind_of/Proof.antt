@@ -5,20 +5,8 @@ use Rattle.line.specs.Tests.{kindOf}
 use Rattle.line.proofs.field.kind_of.Statement.{statement}
 use Rattle.line.proofs.field.kind_of.Tie as tie
 
-slice-aggregate-equal : tie.Need-slice-aggregate-equal
-slice-aggregate-equal c = search needs
-
-equal-requires : tie.Need-equal-requires
-equal-requires c κs = search needs
-
 returns : tie.Need-returns
 returns c = sym (rw (sym (c .before .equal .ensures) ∙ c .if1 .taken, kindOf))
-
-slice-aggregate-equal-2 : tie.Need-slice-aggregate-equal-2
-slice-aggregate-equal-2 c = search needs
-
-equal-requires-2 : tie.Need-equal-requires-2
-equal-requires-2 c κs = search needs
 
 returns-2 : tie.Need-returns-2
 returns-2 c =
@@ -29,12 +17,6 @@ returns-2 c =
           c .if2 .taken,
       kindOf,
     ))
-
-slice-aggregate-equal-3 : tie.Need-slice-aggregate-equal-3
-slice-aggregate-equal-3 c = search needs
-
-equal-requires-3 : tie.Need-equal-requires-3
-equal-requires-3 c κs = search needs
 
 returns-3 : tie.Need-returns-3
 returns-3 c =
@@ -65,14 +47,5 @@ returns-4 c =
 pub kind-of-spec : {M : Type 1} → statement M
 kind-of-spec =
     tie.close
-    (tie.spec
-    slice-aggregate-equal
-    equal-requires
-    returns
-    slice-aggregate-equal-2
-    equal-requires-2
-    returns-2
-    slice-aggregate-equal-3
-    equal-requires-3
-    returns-3
-    returns-4)
+    (tie.spec (λ c. search needs) (λ c κs. search needs) returns (λ c. search needs) (λ c κs. search needs) returns-2
+    (λ c. search needs) (λ c κs. search needs) returns-3 returns-4)

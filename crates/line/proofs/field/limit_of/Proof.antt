@@ -9,18 +9,6 @@ use Rattle.line.proofs.Numbers.{limit-plus, limit-minus, signed-plus, n
 use Rattle.line.proofs.field.limit_of.Statement.{statement}
 use Rattle.line.proofs.field.limit_of.Tie as tie
 
-cast-most : tie.Need-cast-most
-cast-most c = search needs
-
-read-number-requires : tie.Need-read-number-requires
-read-number-requires c κs = search needs
-
-enum-told : tie.Need-enum-told
-enum-told c = search needs
-
-enum-known-n : tie.Need-enum-known-n
-enum-known-n c = search needs
-
 returns : tie.Need-returns
 returns c =
     let args = c .before .before .before .before .before .before .args in
@@ -30,12 +18,6 @@ returns c =
     sym (limit-beyond f false v (number-plus L.horizon f v (sym (read-number .ensures) ∙ n .given .1))
     (c .if1 .taken))
 
-cast-t8 : tie.Need-cast-t8
-cast-t8 c = search needs
-
-enum-known-n-2 : tie.Need-enum-known-n-2
-enum-known-n-2 c = search needs
-
 returns-2 : tie.Need-returns-2
 returns-2 c =
     let args = c .before .before .before .before .before .before .args in
@@ -44,9 +26,6 @@ returns-2 c =
     let f = args .f .now in let v = n2 .given .0 .0 in
     sym (limit-beyond f true v (number-minus L.horizon f v (sym (read-number .ensures) ∙ n2 .given .1))
     (c .if2 .taken))
-
-cast-t10 : tie.Need-cast-t10
-cast-t10 c = search needs
 
 sub-t11 : tie.Need-sub-t11
 sub-t11 c = negated-fits (c .before .before .n2 .given .0 .0) (c .if2 .left)
@@ -77,17 +56,5 @@ returns-5 c =
 pub limit-of-spec : {M : Type 1} → statement M
 limit-of-spec =
     tie.close
-    (tie.spec
-    cast-most
-    read-number-requires
-    enum-told
-    enum-known-n
-    returns
-    cast-t8
-    enum-known-n-2
-    returns-2
-    cast-t10
-    sub-t11
-    returns-3
-    returns-4
-    returns-5)
+    (tie.spec (λ c. search needs) (λ c κs. search needs) (λ c. search needs) (λ c. search needs) returns
+    (λ c. search needs) (λ c. search needs) returns-2 (λ c. search needs) sub-t11 returns-3 returns-4 returns-5)

@@ -10,21 +10,12 @@ use Rattle.line.proofs.Refusals.{word-count, word-other, word-passes}
 use Rattle.line.proofs.heading.section_fields.Statement.{statement}
 use Rattle.line.proofs.heading.section_fields.Tie as tie
 
-cut-requires : tie.Need-cut-requires
-cut-requires c κs = search needs
-
 returns : tie.Need-returns
 returns c =
     let args = c .before .before .before .before .before .args in
     let fs = fields (args .line .now) in
     sym (rw (word-count (args .word .now) (args .lo) (args .hi) fs
     (λ h. c .if1 .taken (c .before .before .cut .ensures .counted ∙ h))))
-
-field-requires : tie.Need-field-requires
-field-requires c κs = search needs
-
-equal-requires : tie.Need-equal-requires
-equal-requires c κs = search needs
 
 returns-2 : tie.Need-returns-2
 returns-2 c =
@@ -34,12 +25,6 @@ returns-2 c =
     let other = ap (λ (f : List ℕ). same f (args .word .now)) (sym (c .before .before .field .ensures .text)) ∙ sym
     (equal .ensures) ∙ not-true (equal .result) (c .if2 .taken) in
     sym (rw (word-other (args .word .now) (args .lo) (args .hi) fs other))
-
-field-requires-2 : tie.Need-field-requires-2
-field-requires-2 c κs = search needs
-
-count-of-requires : tie.Need-count-of-requires
-count-of-requires c κs = search needs
 
 returns-3 : tie.Need-returns-3
 returns-3 c =
@@ -57,12 +42,5 @@ returns-3 c =
 pub section-fields-spec : {M : Type 1} → statement M
 section-fields-spec =
     tie.close
-    (tie.spec
-    cut-requires
-    returns
-    field-requires
-    equal-requires
-    returns-2
-    field-requires-2
-    count-of-requires
-    returns-3)
+    (tie.spec (λ c κs. search needs) returns (λ c κs. search needs) (λ c κs. search needs) returns-2
+    (λ c κs. search needs) (λ c κs. search needs) returns-3)

@@ -6,9 +6,6 @@ use Rattle.line.proofs.Refusals.{line-missing, line-ends, line-le, line
 use Rattle.line.proofs.heading.section_line.Statement.{statement}
 use Rattle.line.proofs.heading.section_line.Tie as tie
 
-until-requires : tie.Need-until-requires
-until-requires c κs = search needs
-
 returns : tie.Need-returns
 returns c =
     let args = c .before .before .before .before .args in
@@ -22,9 +19,6 @@ slice-aggregate-section-fields c =
     sym (length-take-le (until .result) (args .rest .now)
     (line-le (args .rest .now) (until .result) (until .ensures)))
 
-section-fields-requires : tie.Need-section-fields-requires
-section-fields-requires c κs = search needs
-
 returns-2 : tie.Need-returns-2
 returns-2 c =
     let args = c .before .before .before .before .before .before .args in
@@ -35,9 +29,4 @@ returns-2 c =
 pub section-line-spec : {M : Type 1} → statement M
 section-line-spec =
     tie.close
-    (tie.spec
-    until-requires
-    returns
-    slice-aggregate-section-fields
-    section-fields-requires
-    returns-2)
+    (tie.spec (λ c κs. search needs) returns slice-aggregate-section-fields (λ c κs. search needs) returns-2)

@@ -14,9 +14,6 @@ returns-2 c =
     let same = same-not (args .v) (args .bang) in
     rw (ne-eqb (args .b) 33 (c .before .if1 .left), same, c .if2 .taken)
 
-weight-of-requires : tie.Need-weight-of-requires
-weight-of-requires c κs = search needs
-
 returns-3 : tie.Need-returns-3
 returns-3 c =
     let args = c .before .before .before .args in
@@ -24,4 +21,4 @@ returns-3 c =
     rw (ne-eqb (args .b) 33 (c .before .before .if1 .left), same, c .before .if2 .left) (c .weight-of .ensures)
 
 pub added-by-spec : {M : Type 1} → statement M
-added-by-spec = tie.close (tie.spec returns returns-2 weight-of-requires returns-3)
+added-by-spec = tie.close (tie.spec returns returns-2 (λ c κs. search needs) returns-3)

@@ -10,22 +10,14 @@ use Rattle.names.proofs.label.all_defined.Statement.{statement}
 use Rattle.names.proofs.label.all_defined.Tie as tie
 
 abbrev Inv-loop : tie.InvT-loop
-Inv-loop t k letters i₀ i = (i ≤ length t) × (allDefined k letters (lettersIn t) ≡ allDefined k letters (lettersIn (drop i t)))
+Inv-loop t k letters i₀ i = (i ≤ length t)
+    × (allDefined k letters (lettersIn t) ≡ allDefined k letters (lettersIn (drop i t)))
 
 abbrev μ-loop : tie.MeasureT-loop
 μ-loop t k letters i₀ i = length t - i
 
 loop-holds : tie.Need-loop-holds Inv-loop μ-loop
 loop-holds c = (search needs, refl)
-
-shared-slice-read-b : tie.Need-shared-slice-read-b Inv-loop μ-loop
-shared-slice-read-b c = search needs
-
-add-i : tie.Need-add-i Inv-loop μ-loop
-add-i c = search needs
-
-is-defined-requires : tie.Need-is-defined-requires Inv-loop μ-loop
-is-defined-requires c κs = search needs
 
 returns : tie.Need-returns Inv-loop μ-loop
 returns c =
@@ -36,9 +28,6 @@ returns c =
     sym (loop .inv .1 ∙ defined-stop (args .k) (args .letters .now) (args .t .now) (loop .i) (test .taken)
     (c .before .before .if1 .taken)
     (sym (is-defined .ensures) ∙ not-true (is-defined .result) (c .if2 .taken)))
-
-loop-less : tie.Need-loop-less Inv-loop μ-loop
-loop-less c = search needs
 
 loop-again : tie.Need-loop-again Inv-loop μ-loop
 loop-again c =
@@ -51,9 +40,6 @@ loop-again c =
           (c .before .before .if1 .taken)
           (sym (is-defined .ensures) ∙ not-false (is-defined .result) (c .if2 .left)),
     )
-
-loop-less-2 : tie.Need-loop-less-2 Inv-loop μ-loop
-loop-less-2 c = search needs
 
 loop-again-2 : tie.Need-loop-again-2 Inv-loop μ-loop
 loop-again-2 c =
@@ -74,16 +60,5 @@ returns-2 c =
 pub all-defined-spec : {M : Type 1} → statement M
 all-defined-spec =
     tie.close
-    (tie.spec
-    Inv-loop
-    μ-loop
-    loop-holds
-    shared-slice-read-b
-    add-i
-    is-defined-requires
-    returns
-    loop-less
-    loop-again
-    loop-less-2
-    loop-again-2
-    returns-2)
+    (tie.spec Inv-loop μ-loop loop-holds (λ c. search needs) (λ c. search needs) (λ c κs. search needs) returns
+    (λ c. search needs) loop-again (λ c. search needs) loop-again-2 returns-2)

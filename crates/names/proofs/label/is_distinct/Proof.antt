@@ -33,24 +33,6 @@ abbrev μ-loop : tie.MeasureT-loop
 loop-holds : tie.Need-loop-holds Inv-loop μ-loop
 loop-holds c = (search needs, refl)
 
-shared-slice-read-b : tie.Need-shared-slice-read-b Inv-loop μ-loop
-shared-slice-read-b c = search needs
-
-add-i : tie.Need-add-i Inv-loop μ-loop
-add-i c = search needs
-
-sub-rest : tie.Need-sub-rest Inv-loop μ-loop
-sub-rest c = search needs
-
-part-rest-start : tie.Need-part-rest-start Inv-loop μ-loop
-part-rest-start c = search needs
-
-part-rest-end : tie.Need-part-rest-end Inv-loop μ-loop
-part-rest-end c = search needs
-
-until-requires : tie.Need-until-requires Inv-loop μ-loop
-until-requires c κs = search needs
-
 returns : tie.Need-returns Inv-loop μ-loop
 returns c =
     let args = c .before .before .before .before .before .before .before .before .args in
@@ -60,9 +42,6 @@ returns c =
     sym (loop .inv .1 ∙ distinct-stop t i (test .taken) (c .before .before .before .if1 .taken)
     (isIn-of-upTo-lt (getD t i 0) (drop (i + 1) t) (lt-part t i (getD t i 0)
     (omega (arith, c .before .until .ensures, c .if2 .taken)))))
-
-loop-less : tie.Need-loop-less Inv-loop μ-loop
-loop-less c = search needs
 
 loop-again : tie.Need-loop-again Inv-loop μ-loop
 loop-again c =
@@ -75,9 +54,6 @@ loop-again c =
           (not-isIn-of-upTo-le (getD t i 0) (drop (i + 1) t)
           (le-part t i (getD t i 0) (omega (arith, c .before .until .ensures, c .if2 .left)))),
     )
-
-loop-less-2 : tie.Need-loop-less-2 Inv-loop μ-loop
-loop-less-2 c = search needs
 
 loop-again-2 : tie.Need-loop-again-2 Inv-loop μ-loop
 loop-again-2 c =
@@ -97,19 +73,6 @@ returns-2 c =
 pub is-distinct-spec : {M : Type 1} → statement M
 is-distinct-spec =
     tie.close
-    (tie.spec
-    Inv-loop
-    μ-loop
-    loop-holds
-    shared-slice-read-b
-    add-i
-    sub-rest
-    part-rest-start
-    part-rest-end
-    until-requires
-    returns
-    loop-less
-    loop-again
-    loop-less-2
-    loop-again-2
-    returns-2)
+    (tie.spec Inv-loop μ-loop loop-holds (λ c. search needs) (λ c. search needs) (λ c. search needs)
+    (λ c. search needs) (λ c. search needs) (λ c κs. search needs) returns (λ c. search needs) loop-again
+    (λ c. search needs) loop-again-2 returns-2)

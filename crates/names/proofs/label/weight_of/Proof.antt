@@ -8,12 +8,6 @@ use Rattle.names.proofs.Labels.{place-is}
 use Rattle.names.proofs.label.weight_of.Statement.{statement}
 use Rattle.names.proofs.label.weight_of.Tie as tie
 
-place-of-requires : tie.Need-place-of-requires
-place-of-requires c κs = search needs
-
-enum-known-place : tie.Need-enum-known-place
-enum-known-place c = search needs
-
 power-requires : tie.Need-power-requires
 power-requires c κs =
     let args = c .before .before .before .before .args in
@@ -22,9 +16,6 @@ power-requires c κs =
     let found = found-some (placeOf (args .k) letters (args .b)) (place .given .0 .0)
     (sym (c .before .before .before .place-of .ensures) ∙ place .given .1) in
     omega (arith, place-is (args .k) letters (args .b) (place .given .0 .0) found .below)
-
-enum-told : tie.Need-enum-told
-enum-told c = search needs
 
 returns : tie.Need-returns
 returns c =
@@ -47,4 +38,4 @@ returns-2 c =
 pub weight-of-spec : {M : Type 1} → statement M
 weight-of-spec =
     tie.close
-    (tie.spec place-of-requires enum-known-place power-requires enum-told returns returns-2)
+    (tie.spec (λ c κs. search needs) (λ c. search needs) power-requires (λ c. search needs) returns returns-2)

@@ -20,15 +20,6 @@ Inv-loop k letters v t sum₀ bang₀ i₀ sum bang i =
 abbrev μ-loop : tie.MeasureT-loop
 μ-loop k letters v t sum₀ bang₀ i₀ sum bang i = length t - i
 
-loop-holds : tie.Need-loop-holds Inv-loop μ-loop
-loop-holds c = omega arith
-
-shared-slice-read-b : tie.Need-shared-slice-read-b Inv-loop μ-loop
-shared-slice-read-b c = search needs
-
-added-by-requires : tie.Need-added-by-requires Inv-loop μ-loop
-added-by-requires c κs = search needs
-
 add-sum : tie.Need-add-sum Inv-loop μ-loop
 add-sum c =
     let args = c .before .before .before .before .before .args in
@@ -37,12 +28,6 @@ add-sum c =
     let more = weights-at (args .k) (args .letters .now) (args .v) (loop .bang) (args .t .now) (loop .i)
     (c .before .before .loop-test .taken) in
     omega (arith, more, loop .inv .1, c .added-by .ensures, pre .1, scenarios-fit (args .k) (pre .0))
-
-add-i : tie.Need-add-i Inv-loop μ-loop
-add-i c = search needs
-
-loop-less : tie.Need-loop-less Inv-loop μ-loop
-loop-less c = search needs
 
 loop-again : tie.Need-loop-again Inv-loop μ-loop
 loop-again c =
@@ -66,14 +51,5 @@ returns c =
 pub weights-of-spec : {M : Type 1} → statement M
 weights-of-spec =
     tie.close
-    (tie.spec
-    Inv-loop
-    μ-loop
-    loop-holds
-    shared-slice-read-b
-    added-by-requires
-    add-sum
-    add-i
-    loop-less
-    loop-again
-    returns)
+    (tie.spec Inv-loop μ-loop (λ c. omega arith) (λ c. search needs) (λ c κs. search needs) add-sum (λ c. search needs)
+    (λ c. search needs) loop-again returns)

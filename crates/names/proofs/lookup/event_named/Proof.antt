@@ -16,7 +16,8 @@ use Rattle.names.proofs.lookup.event_named.Statement.{statement}
 use Rattle.names.proofs.lookup.event_named.Tie as tie
 
 -- the part from start to its end is the name
-part-is : (sheet f : List ℕ) (start len : ℕ) → same (take (start + len - start) (drop start sheet)) f ≡ same (take len (drop start sheet)) f
+part-is : (sheet f : List ℕ) (start len : ℕ) → same (take (start + len - start) (drop start sheet)) f
+    ≡ same (take len (drop start sheet)) f
 part-is sheet f start len = let size : start + len - start ≡ len = omega arith in rw size
 
 -- whether event u has the name f
@@ -60,19 +61,10 @@ add-end c =
     let pre = c .before .before .before .before .before .before .pre in
     omega (arith, pre .inside (c .before .before .before .loop .u) (c .before .before .loop-test .taken))
 
-sub-equal : tie.Need-sub-equal Inv-loop μ-loop
-sub-equal c = search needs
-
-part-equal-start : tie.Need-part-equal-start Inv-loop μ-loop
-part-equal-start c = search needs
-
 part-equal-end : tie.Need-part-equal-end Inv-loop μ-loop
 part-equal-end c =
     let pre = c .before .before .before .before .before .before .pre in
     omega (arith, pre .inside (c .before .before .before .loop .u) (c .before .before .loop-test .taken))
-
-equal-requires : tie.Need-equal-requires Inv-loop μ-loop
-equal-requires c κs = search needs
 
 returns : tie.Need-returns Inv-loop μ-loop
 returns c =
@@ -84,12 +76,6 @@ returns c =
     let u = loop .u in
     sym (ap foundOf (finds-at (isNamed sheet starts lengths f) (loop .inv) (test .taken)
     (sym (part-is sheet f (getD starts u 0) (getD lengths u 0)) ∙ sym (c .before .equal .ensures) ∙ c .if1 .taken)))
-
-add-u : tie.Need-add-u Inv-loop μ-loop
-add-u c = search needs
-
-loop-less : tie.Need-loop-less Inv-loop μ-loop
-loop-less c = search needs
 
 loop-again : tie.Need-loop-again Inv-loop μ-loop
 loop-again c =
@@ -111,21 +97,6 @@ returns-2 c =
 pub event-named-spec : {M : Type 1} → statement M
 event-named-spec =
     tie.close
-    (tie.spec
-    Inv-loop
-    μ-loop
-    loop-holds
-    mul-start
-    element-copy-out-start
-    mul-end
-    element-copy-out-end
-    add-end
-    sub-equal
-    part-equal-start
-    part-equal-end
-    equal-requires
-    returns
-    add-u
-    loop-less
-    loop-again
-    returns-2)
+    (tie.spec Inv-loop μ-loop loop-holds mul-start element-copy-out-start mul-end element-copy-out-end add-end
+    (λ c. search needs) (λ c. search needs) part-equal-end (λ c κs. search needs) returns (λ c. search needs)
+    (λ c. search needs) loop-again returns-2)

@@ -7,12 +7,6 @@ use Rattle.names.proofs.Finds.{found-answers}
 use Rattle.names.proofs.lookup.is_defined.Statement.{statement}
 use Rattle.names.proofs.lookup.is_defined.Tie as tie
 
-place-of-requires : tie.Need-place-of-requires
-place-of-requires c κs = search needs
-
-is-found-requires : tie.Need-is-found-requires
-is-found-requires c κs = search needs
-
 returns : tie.Need-returns
 returns c =
     let args = c .before .before .args in
@@ -20,4 +14,4 @@ returns c =
     (placeOf (args .k) (args .letters .now) (args .b))
 
 pub is-defined-spec : {M : Type 1} → statement M
-is-defined-spec = tie.close (tie.spec place-of-requires is-found-requires returns)
+is-defined-spec = tie.close (tie.spec (λ c κs. search needs) (λ c κs. search needs) returns)

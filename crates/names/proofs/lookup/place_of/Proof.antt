@@ -21,9 +21,6 @@ abbrev μ-loop : tie.MeasureT-loop
 loop-holds : tie.Need-loop-holds Inv-loop μ-loop
 loop-holds c = searching-start (λ q. when (eqb (getD (c .args .letters .now) q 0) (c .args .b)) q) (c .args .k)
 
-element-copy-out-if1 : tie.Need-element-copy-out-if1 Inv-loop μ-loop
-element-copy-out-if1 c = search needs
-
 returns : tie.Need-returns Inv-loop μ-loop
 returns c =
     let args = c .before .before .before .before .args in
@@ -31,12 +28,6 @@ returns c =
     let letters = args .letters .now in let b = args .b in
     sym (ap foundOf (finds-at (λ q. eqb (getD letters q 0) b) (loop .inv) (c .before .before .loop-test .taken)
     (eq-eqb (getD letters (loop .p) 0) b (c .if1 .taken))))
-
-add-p : tie.Need-add-p Inv-loop μ-loop
-add-p c = search needs
-
-loop-less : tie.Need-loop-less Inv-loop μ-loop
-loop-less c = search needs
 
 loop-again : tie.Need-loop-again Inv-loop μ-loop
 loop-again c =
@@ -55,13 +46,5 @@ returns-2 c =
 pub place-of-spec : {M : Type 1} → statement M
 place-of-spec =
     tie.close
-    (tie.spec
-    Inv-loop
-    μ-loop
-    loop-holds
-    element-copy-out-if1
-    returns
-    add-p
-    loop-less
-    loop-again
+    (tie.spec Inv-loop μ-loop loop-holds (λ c. search needs) returns (λ c. search needs) (λ c. search needs) loop-again
     returns-2)

@@ -8,11 +8,5 @@ use Rattle.names.proofs.token.first.Tie as tie
 returns : tie.Need-returns
 returns c = sym (getD-empty (c .before .args .f .now) 0 (c .if1 .taken))
 
-shared-slice-read-result : tie.Need-shared-slice-read-result
-shared-slice-read-result c = search needs
-
-returns-2 : tie.Need-returns-2
-returns-2 c = search needs
-
 pub first-spec : {M : Type 1} → statement M
-first-spec = tie.close (tie.spec returns shared-slice-read-result returns-2)
+first-spec = tie.close (tie.spec returns (λ c. search needs) (λ c. search needs))

@@ -7,12 +7,6 @@ use lib.ListN.{length}
 use Rattle.names.proofs.token.is_label.Statement.{statement}
 use Rattle.names.proofs.token.is_label.Tie as tie
 
-is-dash-requires : tie.Need-is-dash-requires
-is-dash-requires c κs = search needs
-
-returns : tie.Need-returns
-returns c = search needs
-
 returns-2 : tie.Need-returns-2
 returns-2 c =
     let args = c .before .before .before .before .args in
@@ -21,9 +15,6 @@ returns-2 c =
       lt-leb 1 (length (args .f .now))
           (omega (arith, c .if2 .taken)),
     )
-
-are-literals-requires : tie.Need-are-literals-requires
-are-literals-requires c κs = search needs
 
 returns-3 : tie.Need-returns-3
 returns-3 c =
@@ -36,4 +27,5 @@ returns-3 c =
 
 pub is-label-spec : {M : Type 1} → statement M
 is-label-spec =
-    tie.close (tie.spec is-dash-requires returns returns-2 are-literals-requires returns-3)
+    tie.close
+    (tie.spec (λ c κs. search needs) (λ c. search needs) returns-2 (λ c κs. search needs) returns-3)

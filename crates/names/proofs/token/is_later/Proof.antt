@@ -5,9 +5,6 @@ use Rattle.names.proofs.Tokens.{digit-low, digit-from}
 use Rattle.names.proofs.token.is_later.Statement.{statement}
 use Rattle.names.proofs.token.is_later.Tie as tie
 
-is-letter-requires : tie.Need-is-letter-requires
-is-letter-requires c κs = search needs
-
 returns : tie.Need-returns
 returns c = rw (sym (c .before .is-letter .ensures) ∙ c .if1 .taken)
 
@@ -22,4 +19,4 @@ returns-3 c =
     (sym (digit-from (c .before .before .before .args .b) (c .if2 .left)))
 
 pub is-later-spec : {M : Type 1} → statement M
-is-later-spec = tie.close (tie.spec is-letter-requires returns returns-2 returns-3)
+is-later-spec = tie.close (tie.spec (λ c κs. search needs) returns returns-2 returns-3)

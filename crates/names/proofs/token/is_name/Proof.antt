@@ -25,12 +25,6 @@ returns c = sym (name-empty (c .before .before .args .f .now) (c .if1 .taken))
 returns-2 : tie.Need-returns-2 Inv-loop μ-loop
 returns-2 c = sym (name-long (c .before .before .before .args .f .now) (omega (arith, c .if2 .taken)))
 
-shared-slice-read-is-letter : tie.Need-shared-slice-read-is-letter Inv-loop μ-loop
-shared-slice-read-is-letter c = search needs
-
-is-letter-requires : tie.Need-is-letter-requires Inv-loop μ-loop
-is-letter-requires c κs = search needs
-
 returns-3 : tie.Need-returns-3 Inv-loop μ-loop
 returns-3 c =
     let args = c .before .before .before .before .before .before .args in
@@ -47,12 +41,6 @@ loop-holds c =
           (sym (is-letter .ensures) ∙ not-false (is-letter .result) (c .if3 .left)),
     )
 
-shared-slice-read-is-later : tie.Need-shared-slice-read-is-later Inv-loop μ-loop
-shared-slice-read-is-later c = search needs
-
-is-later-requires : tie.Need-is-later-requires Inv-loop μ-loop
-is-later-requires c κs = search needs
-
 returns-4 : tie.Need-returns-4 Inv-loop μ-loop
 returns-4 c =
     let args = c .before .before .before .before .before .before .before .before .before .before .before .args in
@@ -60,12 +48,6 @@ returns-4 c =
     let is-later = c .before .is-later in
     sym (loop .inv .1 ∙ every-stop isLater (args .f .now) (loop .i) (c .before .before .before .loop-test .taken)
     (sym (is-later .ensures) ∙ not-true (is-later .result) (c .if4 .taken)))
-
-add-i : tie.Need-add-i Inv-loop μ-loop
-add-i c = search needs
-
-loop-less : tie.Need-loop-less Inv-loop μ-loop
-loop-less c = search needs
 
 loop-again : tie.Need-loop-again Inv-loop μ-loop
 loop-again c =
@@ -87,19 +69,5 @@ returns-5 c =
 pub is-name-spec : {M : Type 1} → statement M
 is-name-spec =
     tie.close
-    (tie.spec
-    Inv-loop
-    μ-loop
-    returns
-    returns-2
-    shared-slice-read-is-letter
-    is-letter-requires
-    returns-3
-    loop-holds
-    shared-slice-read-is-later
-    is-later-requires
-    returns-4
-    add-i
-    loop-less
-    loop-again
-    returns-5)
+    (tie.spec Inv-loop μ-loop returns returns-2 (λ c. search needs) (λ c κs. search needs) returns-3 loop-holds
+    (λ c. search needs) (λ c κs. search needs) returns-4 (λ c. search needs) (λ c. search needs) loop-again returns-5)

@@ -7,11 +7,8 @@ use Rattle.names.proofs.token.may_follow.Tie as tie
 returns : tie.Need-returns
 returns c = rw (eq-eqb (c .before .args .b) 33 (c .if1 .taken))
 
-is-letter-requires : tie.Need-is-letter-requires
-is-letter-requires c κs = search needs
-
 returns-2 : tie.Need-returns-2
 returns-2 c = rw (ne-eqb (c .before .before .args .b) 33 (c .before .if1 .left)) (c .is-letter .ensures)
 
 pub may-follow-spec : {M : Type 1} → statement M
-may-follow-spec = tie.close (tie.spec returns is-letter-requires returns-2)
+may-follow-spec = tie.close (tie.spec returns (λ c κs. search needs) returns-2)

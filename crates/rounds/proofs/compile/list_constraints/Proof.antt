@@ -43,9 +43,6 @@ add-i c =
     let test = c .before .before .before .before .loop-test in
     omega (arith, pre .0 .rules, test .taken)
 
-loop-less : tie.Need-loop-less Inv-loop μ-loop
-loop-less c = search needs
-
 loop-again : tie.Need-loop-again Inv-loop μ-loop
 loop-again c =
     let test = c .before .before .before .before .loop-test in
@@ -65,14 +62,5 @@ returns c =
 pub list-constraints-spec : {M : Type 1} → statement M
 list-constraints-spec =
     tie.close
-    (tie.spec
-    Inv-loop
-    μ-loop
-    loop-holds
-    mul-c
-    element-copy-out-c
-    list-constraint-requires
-    add-i
-    loop-less
-    loop-again
-    returns)
+    (tie.spec Inv-loop μ-loop loop-holds mul-c element-copy-out-c list-constraint-requires add-i (λ c. search needs)
+    loop-again returns)

@@ -65,22 +65,13 @@ ended : (z : tie.Start) (m : ℕ) {first : List ℕ} → First m (known z) first
 ended z m F h l Γ σ s w f r =
     first-fewer (known z) (knownFrom Γ σ s) (z .args .frame .signals) m F h l (known-in-row Γ σ s w f r)
 
-element-write-first : tie.Need-element-write-first
-element-write-first c = search needs
-
 returns : tie.Need-returns
 returns c = ended (c .before) 0 (started (c .before)) (omega (arith, c .if1 .taken)) (omega arith)
-
-known-from-requires : tie.Need-known-from-requires
-known-from-requires c κs = search needs
 
 double-requires : tie.Need-double-requires
 double-requires c κs =
     let z = c .before .before .before in
     fit z 0 (omega arith) (started z) (c .known-from .ensures)
-
-known-from-requires-2 : tie.Need-known-from-requires-2
-known-from-requires-2 c κs = search needs
 
 double-requires-2 : tie.Need-double-requires-2
 double-requires-2 c κs =
@@ -90,16 +81,10 @@ double-requires-2 c κs =
 returns-2 : tie.Need-returns-2
 returns-2 c = ended (start₂ (c .before)) 2 (two (c .before)) (omega (arith, c .if2 .taken)) (omega arith)
 
-known-from-requires-3 : tie.Need-known-from-requires-3
-known-from-requires-3 c κs = search needs
-
 double-requires-3 : tie.Need-double-requires-3
 double-requires-3 c κs =
     let l = c .before .before .before in
     fit (start₂ l) 2 (omega arith) (two l) (c .known-from3 .ensures)
-
-known-from-requires-4 : tie.Need-known-from-requires-4
-known-from-requires-4 c κs = search needs
 
 double-requires-4 : tie.Need-double-requires-4
 double-requires-4 c κs =
@@ -115,16 +100,6 @@ returns-3 c =
 pub first-known-spec : {M : Type 1} → statement M
 first-known-spec =
     tie.close
-    (tie.spec
-    element-write-first
-    returns
-    known-from-requires
-    double-requires
-    known-from-requires-2
-    double-requires-2
-    returns-2
-    known-from-requires-3
-    double-requires-3
-    known-from-requires-4
-    double-requires-4
+    (tie.spec (λ c. search needs) returns (λ c κs. search needs) double-requires (λ c κs. search needs)
+    double-requires-2 returns-2 (λ c κs. search needs) double-requires-3 (λ c κs. search needs) double-requires-4
     returns-3)

@@ -6,18 +6,6 @@ use lib.ListN.{length}
 use Rattle.sheet.proofs.section.end_of.Statement.{statement}
 use Rattle.sheet.proofs.section.end_of.Tie as tie
 
-enum-known-step : tie.Need-enum-known-step
-enum-known-step c = search needs
-
-rejected-requires : tie.Need-rejected-requires
-rejected-requires c κs = search needs
-
-enum-known-step-2 : tie.Need-enum-known-step-2
-enum-known-step-2 c = search needs
-
-rejected-requires-2 : tie.Need-rejected-requires-2
-rejected-requires-2 c κs = search needs
-
 returns : tie.Need-returns
 returns c =
     let args = c .before .before .before .before .before .before .before .args in
@@ -40,11 +28,5 @@ returns-3 c =
 pub end-of-spec : {M : Type 1} → statement M
 end-of-spec =
     tie.close
-    (tie.spec
-    enum-known-step
-    rejected-requires
-    enum-known-step-2
-    rejected-requires-2
-    returns
-    returns-2
+    (tie.spec (λ c. search needs) (λ c κs. search needs) (λ c. search needs) (λ c κs. search needs) returns returns-2
     returns-3)

@@ -9,12 +9,6 @@ use Rattle.sheet.specs.declared.Step.{Step}
 use Rattle.sheet.proofs.section.read_after.Statement.{statement}
 use Rattle.sheet.proofs.section.read_after.Tie as tie
 
-enum-told : tie.Need-enum-told
-enum-told c = search needs
-
-enum-known-step : tie.Need-enum-known-step
-enum-known-step c = search needs
-
 -- where the function begins, seen from where the step is known
 abbrev start : tie.After-known-told → tie.Start
 start d = d .before .before .before .before .before
@@ -36,16 +30,10 @@ sub-read-section c = here c .inside
 part-read-section-start : tie.Need-part-read-section-start
 part-read-section-start c = here c .inside
 
-part-read-section-end : tie.Need-part-read-section-end
-part-read-section-end c = search needs
-
 read-section-requires : tie.Need-read-section-requires
 read-section-requires c κs =
     let d = c .before in
     (start d .pre .0, take-drop (start d .args .sheet .now) (d .before .step .given .0 .0), here d)
-
-returns : tie.Need-returns
-returns c = search needs
 
 returns-2 : tie.Need-returns-2
 returns-2 c =
@@ -56,12 +44,5 @@ returns-2 c =
 pub read-after-spec : {M : Type 1} → statement M
 read-after-spec =
     tie.close
-    (tie.spec
-    enum-told
-    enum-known-step
-    sub-read-section
-    part-read-section-start
-    part-read-section-end
-    read-section-requires
-    returns
-    returns-2)
+    (tie.spec (λ c. search needs) (λ c. search needs) sub-read-section part-read-section-start (λ c. search needs)
+    read-section-requires (λ c. search needs) returns-2)

@@ -1,5 +1,5 @@
--- The invariant: the lines that are left give what all of them give, and the sheet is at its stage (`EntriesLeft`). What
--- a line holds is added in place, as `added` says. Assumes nothing.
+-- The invariant: the lines that are left give what all of them give, and the sheet is at its stage (`EntriesLeft`).
+-- What a line holds is added in place, as `added` says. Assumes nothing.
 use borrow.Author.Needs.{needs}
 use mathlib.Core.Path.{_≡_, refl, sym, _∙_}
 use mathlib.Core.Logic.{inl, inr}
@@ -27,30 +27,20 @@ sub-entry-at c = c .before .loop .inv .stage .inside
 part-entry-at-start : tie.Need-part-entry-at-start Inv-loop μ-loop
 part-entry-at-start c = c .before .loop .inv .stage .inside
 
-part-entry-at-end : tie.Need-part-entry-at-end Inv-loop μ-loop
-part-entry-at-end c = search needs
-
 entry-at-requires : tie.Need-entry-at-requires Inv-loop μ-loop
 entry-at-requires c κs =
     let loop = c .before .before .before .before .before .before .before .loop in
     (names-in (loop .inv .stage), few-signals (loop .inv .stage))
 
-enum-known-read : tie.Need-enum-known-read Inv-loop μ-loop
-enum-known-read c = search needs
-
-refused-requires : tie.Need-refused-requires Inv-loop μ-loop
-refused-requires c κs = search needs
-
 returns : tie.Need-returns Inv-loop μ-loop
 returns c =
-    let loop = c .before .before .before .before .before .before .before .before .before .before .before .before .loop in
+    let loop = c .before .before .before .before .before .before .before .before .before .before .before
+    .before .loop in
     let test = c .before .before .before .before .before .before .before .before .before .before .before .loop-test in
     let entry-at = c .before .before .before .before .entry-at in
     let read = c .before .before .read in
-    c .refused .ensures ∙ entry-stop (loop .inv) (test .taken) (read .given .0 .0) (sym (entry-at .ensures) ∙ read .given .1)
-
-enum-known-read-2 : tie.Need-enum-known-read-2 Inv-loop μ-loop
-enum-known-read-2 c = search needs
+    c .refused .ensures ∙ entry-stop (loop .inv) (test .taken) (read .given .0 .0) (sym (entry-at .ensures)
+    ∙ read .given .1)
 
 -- the turn that a line makes which has passed
 turn : (d : tie.After-known-told2 Inv-loop μ-loop)
@@ -63,9 +53,6 @@ turn d =
     let read2 = d .before .read2 in
     entry-turn (loop .inv) (test .taken) (read2 .given .0 .0) (read2 .given .0 .1 .0)
     (sym (d .before .before .before .entry-at .ensures) ∙ read2 .given .1)
-
-enum-told : tie.Need-enum-told Inv-loop μ-loop
-enum-told c = search needs
 
 mul-w : tie.Need-mul-w Inv-loop μ-loop
 mul-w c = let room = rw (c .enum-told .given .1) at (turn (c .before .before) .room) in omega arith
@@ -82,47 +69,49 @@ element-write-w-2 c = let room = rw (c .enum-told .given .1) at (turn (c .before
 add-w : tie.Need-add-w Inv-loop μ-loop
 add-w c = let room = rw (c .enum-told .given .1) at (turn (c .before .before) .room) in omega arith
 
-enum-known-entry : tie.Need-enum-known-entry Inv-loop μ-loop
-enum-known-entry c = search needs
-
 element-write-w-3 : tie.Need-element-write-w-3 Inv-loop μ-loop
-element-write-w-3 c = let room = rw (c .before .entry .given .1) at (turn (c .before .before .before) .room) in omega arith
+element-write-w-3 c = let room = rw (c .before .entry .given .1) at (turn (c .before .before .before) .room)
+    in omega arith
 
 mul-w-3 : tie.Need-mul-w-3 Inv-loop μ-loop
 mul-w-3 c = let room = rw (c .before .entry .given .1) at (turn (c .before .before .before) .room) in omega arith
 
 element-write-w-4 : tie.Need-element-write-w-4 Inv-loop μ-loop
-element-write-w-4 c = let room = rw (c .before .entry .given .1) at (turn (c .before .before .before) .room) in omega arith
+element-write-w-4 c = let room = rw (c .before .entry .given .1) at (turn (c .before .before .before) .room)
+    in omega arith
 
 add-w-2 : tie.Need-add-w-2 Inv-loop μ-loop
 add-w-2 c = let room = rw (c .before .entry .given .1) at (turn (c .before .before .before) .room) in omega arith
 
-enum-known-entry-2 : tie.Need-enum-known-entry-2 Inv-loop μ-loop
-enum-known-entry-2 c = search needs
-
 mul-constraint : tie.Need-mul-constraint Inv-loop μ-loop
-mul-constraint c = let room = rw (c .before .entry2 .given .1) at (turn (c .before .before .before) .room) in omega arith
+mul-constraint c = let room = rw (c .before .entry2 .given .1) at (turn (c .before .before .before) .room)
+    in omega arith
 
 element-set-from-constraint : tie.Need-element-set-from-constraint Inv-loop μ-loop
-element-set-from-constraint c = let room = rw (c .before .entry2 .given .1) at (turn (c .before .before .before) .room) in omega arith
+element-set-from-constraint c = let room = rw (c .before .entry2 .given .1) at (turn (c .before .before .before) .room)
+    in omega arith
 
 add-w-3 : tie.Need-add-w-3 Inv-loop μ-loop
 add-w-3 c = let room = rw (c .before .entry2 .given .1) at (turn (c .before .before .before) .room) in omega arith
 
 add-place : tie.Need-add-place Inv-loop μ-loop
 add-place c =
-    let pre = c .before .before .before .before .before .before .before .before .before .before .before .before .before .before .pre in
+    let pre = c .before .before .before .before .before .before .before .before .before .before .before .before .before
+    .before .pre in
     omega (arith, turn (c .before) .inside, pre .0)
 
 add-place-2 : tie.Need-add-place-2 Inv-loop μ-loop
 add-place-2 c =
-    let pre = c .before .before .before .before .before .before .before .before .before .before .before .before .before .before .pre in
+    let pre = c .before .before .before .before .before .before .before .before .before .before .before .before .before
+    .before .pre in
     omega (arith, turn (c .before) .inside, pre .0)
 
 add-line : tie.Need-add-line Inv-loop μ-loop
 add-line c =
-    let pre = c .before .before .before .before .before .before .before .before .before .before .before .before .before .before .pre in
-    let loop = c .before .before .before .before .before .before .before .before .before .before .before .before .loop in
+    let pre = c .before .before .before .before .before .before .before .before .before .before .before .before .before
+    .before .pre in
+    let loop = c .before .before .before .before .before .before .before .before .before .before .before
+    .before .loop in
     omega (arith, loop .inv .stage .line, loop .inv .stage .inside, pre .0)
 
 sub-left : tie.Need-sub-left Inv-loop μ-loop
@@ -138,7 +127,8 @@ loop-less c =
 loop-again : tie.Need-loop-again Inv-loop μ-loop
 loop-again c =
     let read2 = c .before .before .read2 in
-    let loop = c .before .before .before .before .before .before .before .before .before .before .before .before .loop in
+    let loop = c .before .before .before .before .before .before .before .before .before .before .before
+    .before .loop in
     let grown : c .match2 .w ≡ added (read2 .given .0 .0) (loop .w) (loop .place) (read2 .given .0 .1 .0) =
     elim (c .match2 .came) [
       | inl w ↦ w .2 ∙ sym (rw (w .1 .given .1))
@@ -153,37 +143,8 @@ returns-2 c = reads-end (c .before .loop .inv) (c .loop-test .left)
 pub read-entries-spec : {M : Type 1} → statement M
 read-entries-spec =
     tie.close
-    (tie.spec
-    Inv-loop
-    μ-loop
-    loop-holds
-    sub-entry-at
-    part-entry-at-start
-    part-entry-at-end
-    entry-at-requires
-    enum-known-read
-    refused-requires
-    returns
-    enum-known-read-2
-    enum-told
-    mul-w
-    element-write-w
-    mul-w-2
-    element-write-w-2
-    add-w
-    enum-known-entry
-    element-write-w-3
-    mul-w-3
-    element-write-w-4
-    add-w-2
-    enum-known-entry-2
-    mul-constraint
-    element-set-from-constraint
-    add-w-3
-    add-place
-    add-place-2
-    add-line
-    sub-left
-    loop-less
-    loop-again
-    returns-2)
+    (tie.spec Inv-loop μ-loop loop-holds sub-entry-at part-entry-at-start (λ c. search needs) entry-at-requires
+    (λ c. search needs) (λ c κs. search needs) returns (λ c. search needs) (λ c. search needs) mul-w element-write-w
+    mul-w-2 element-write-w-2 add-w (λ c. search needs) element-write-w-3 mul-w-3 element-write-w-4 add-w-2
+    (λ c. search needs) mul-constraint element-set-from-constraint add-w-3 add-place add-place-2 add-line sub-left
+    loop-less loop-again returns-2)

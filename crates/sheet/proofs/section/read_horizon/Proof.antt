@@ -9,34 +9,15 @@ use Rattle.sheet.proofs.Sections.{horizon-stops, HorizonGoes, horizon-g
 use Rattle.sheet.proofs.section.read_horizon.Statement.{statement}
 use Rattle.sheet.proofs.section.read_horizon.Tie as tie
 
-slice-aggregate-section-line : tie.Need-slice-aggregate-section-line
-slice-aggregate-section-line c = search needs
-
-cast-section-line : tie.Need-cast-section-line
-cast-section-line c = search needs
-
-section-line-requires : tie.Need-section-line-requires
-section-line-requires c κs = search needs
-
-enum-known-read : tie.Need-enum-known-read
-enum-known-read c = search needs
-
-empty-requires : tie.Need-empty-requires
-empty-requires c κs = search needs
-
-refused-requires : tie.Need-refused-requires
-refused-requires c κs = search needs
-
-enum-known-read-2 : tie.Need-enum-known-read-2
-enum-known-read-2 c = search needs
-
 -- the line passes
 goes : (d : tie.After-known-told2)
     → let read2 = d .before .read2 in
-    HorizonGoes (d .before .before .before .before .before .before .args .sheet .now) (read2 .given .0 .0) (read2 .given .0 .1 .0)
+    HorizonGoes (d .before .before .before .before .before .before .args .sheet .now) (read2 .given .0 .0)
+    (read2 .given .0 .1 .0)
 goes d =
     let read2 = d .before .read2 in
-    horizon-goes (d .before .before .before .before .before .before .args .sheet .now) (read2 .given .0 .0) (read2 .given .0 .1 .0)
+    horizon-goes (d .before .before .before .before .before .before .args .sheet .now) (read2 .given .0 .0)
+    (read2 .given .0 .1 .0)
     (sym (d .before .before .before .section-line .ensures) ∙ read2 .given .1)
 
 add-t12 : tie.Need-add-t12
@@ -44,9 +25,6 @@ add-t12 c = omega (arith, goes c .inside)
 
 cast-empty : tie.Need-cast-empty
 cast-empty c = omega (arith, goes c .most)
-
-empty-requires-2 : tie.Need-empty-requires-2
-empty-requires-2 c κs = search needs
 
 returns : tie.Need-returns
 returns c =
@@ -57,21 +35,11 @@ returns c =
 
 returns-2 : tie.Need-returns-2
 returns-2 c =
-    ap (λ (Γ : Network). Go Γ (c .before .before .read2 .given .0 .1 .0 + 1) 2) (c .empty2 .ensures) ∙ goes (c .before) .goes
+    ap (λ (Γ : Network). Go Γ (c .before .before .read2 .given .0 .1 .0 + 1) 2) (c .empty2 .ensures)
+    ∙ goes (c .before) .goes
 
 pub read-horizon-spec : {M : Type 1} → statement M
 read-horizon-spec =
     tie.close
-    (tie.spec
-    slice-aggregate-section-line
-    cast-section-line
-    section-line-requires
-    enum-known-read
-    empty-requires
-    refused-requires
-    enum-known-read-2
-    add-t12
-    cast-empty
-    empty-requires-2
-    returns
-    returns-2)
+    (tie.spec (λ c. search needs) (λ c. search needs) (λ c κs. search needs) (λ c. search needs) (λ c κs. search needs)
+    (λ c κs. search needs) (λ c. search needs) add-t12 cast-empty (λ c κs. search needs) returns returns-2)

@@ -14,28 +14,16 @@ start d = d .before .before .before .before .before .before
 goes : (d : tie.After-known-told2)
     → let args = start d .args in
     let read2 = d .before .read2 in
-    SectionGoes (args .sheet .now) (args .section) (args .at) (args .k) (args .rest .now) (start d .pre .1) (args .network)
+    SectionGoes (args .sheet .now) (args .section) (args .at) (args .k) (args .rest .now) (start d .pre .1)
+    (args .network)
     (read2 .given .0 .0) (read2 .given .0 .1 .0)
 goes d =
     let args = start d .args in
     let read2 = d .before .read2 in
-    section-goes (args .sheet .now) (args .section) (args .at) (args .k) (args .rest .now) (start d .pre .1) (args .network)
-    (read2 .given .0 .0) (read2 .given .0 .1 .0) (sym (d .before .before .before .heading-of .ensures) ∙ read2 .given .1)
-
-heading-of-requires : tie.Need-heading-of-requires
-heading-of-requires c κs = search needs
-
-enum-known-read : tie.Need-enum-known-read
-enum-known-read c = search needs
-
-refused-requires : tie.Need-refused-requires
-refused-requires c κs = search needs
-
-enum-known-read-2 : tie.Need-enum-known-read-2
-enum-known-read-2 c = search needs
-
-cast-read-entries : tie.Need-cast-read-entries
-cast-read-entries c = search needs
+    section-goes (args .sheet .now) (args .section) (args .at) (args .k) (args .rest .now) (start d .pre .1)
+    (args .network)
+    (read2 .given .0 .0) (read2 .given .0 .1 .0) (sym (d .before .before .before .heading-of .ensures)
+    ∙ read2 .given .1)
 
 add-read-entries : tie.Need-add-read-entries
 add-read-entries c = omega (arith, goes c .inside, start c .pre .0)
@@ -64,15 +52,5 @@ returns-2 c = c .read-entries .ensures ∙ goes (c .before) .goes
 pub read-section-spec : {M : Type 1} → statement M
 read-section-spec =
     tie.close
-    (tie.spec
-    heading-of-requires
-    enum-known-read
-    refused-requires
-    enum-known-read-2
-    cast-read-entries
-    add-read-entries
-    add-read-entries-2
-    add-read-entries-3
-    read-entries-requires
-    returns
-    returns-2)
+    (tie.spec (λ c κs. search needs) (λ c. search needs) (λ c κs. search needs) (λ c. search needs) (λ c. search needs)
+    add-read-entries add-read-entries-2 add-read-entries-3 read-entries-requires returns returns-2)
