@@ -14,7 +14,6 @@ use Rattle.network.specs.declared.Network.{Network}
 use Rattle.line.specs.Tests.{Tests}
 use Rattle.sheet.specs.Reading.{read}
 use Rattle.sheet.specs.declared.Outcome.the-variants.{Accepted}
-use Rattle.sheet.specs.declared.Reading.{Reading}
 use Rattle.checker.specs.Verdict.{verdict}
 use Rattle.dispatch.specs.declared.Dispatched.{Dispatched}
 use Rattle.listing.specs.Listing.{listing}

@@ -7,12 +7,10 @@ use Prim.Native.Nat.{ℕ, suc, _≤_}
 use native.Mathlib.Omega.{arith}
 use Rattle.prelude.proofs.Tests.{eq-or-ne}
 use Rattle.refusal.specs.declared.Refusal.{Refusal}
-use Rattle.network.specs.declared.Network.{Network}
 use Rattle.sheet.specs.Reading.{longest, read}
 use Rattle.sheet.specs.Fault.{Fault}
 use Rattle.sheet.specs.declared.Outcome.{Outcome}
 use Rattle.sheet.specs.declared.Outcome.the-variants.{Accepted, Refused}
-use Rattle.sheet.specs.declared.Reading.{Reading}
 use Rattle.sheet.proofs.Fault.{refused-iff, first-fault-range, first-fault-near}
 use Rattle.calls.specs.Values.{Values, turnedAway}
 use Rattle.calls.specs.Answers.{Own, OneOf, Answers}

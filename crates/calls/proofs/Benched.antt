@@ -1,7 +1,6 @@
 -- The demands on the bench's calls hold: each is one of the laws on how a table is handed in and memory is lent, as
 -- bytes. Assumes nothing.
 use mathlib.Core.Path.{_≡_, refl, sym, _∙_, ap}
-use mathlib.Core.Logic.{_↔_}
 use mathlib.Core.Bool.{true}
 use mathlib.Core.List.{List, _++_}
 use Prim.Native.Nat.{ℕ, _*_, _/_, _≤_}
@@ -13,21 +12,19 @@ use Rattle.network.specs.Least.{Least, Inconsistent}
 use Rattle.network.specs.declared.Network.{Network}
 use Rattle.sheet.specs.Reading.{read}
 use Rattle.sheet.specs.declared.Outcome.the-variants.{Accepted}
-use Rattle.sheet.specs.declared.Reading.{Reading}
 use Rattle.dispatch.specs.Due.{due}
 use Rattle.dispatch.specs.HeardText.{isHeard, heardIn, dueText}
 use Rattle.dispatch.proofs.HeardText.{due-heard}
 use Rattle.calls.specs.Values.{done}
 use Rattle.calls.specs.Call.{Left}
 use Rattle.calls.specs.Lent.{asMinutes, asBytes, inPairs}
-use Rattle.calls.specs.Calls.{writtenValues, writing}
+use Rattle.calls.specs.Calls.{writtenValues}
 use Rattle.calls.specs.Play.{eventsDue}
 use Rattle.calls.specs.Bench.{benchSolving, benchDue}
-use Rattle.calls.specs.Answers.{Reads}
 use Rattle.calls.specs.Numbers.{bytes}
 use Rattle.calls.specs.Benched.{Benched}
 use Rattle.calls.specs.declared.Written.{Written}
-use Rattle.calls.proofs.Handed.{minutes-rightly, bytes-rightly}
+use Rattle.calls.proofs.Handed.{bytes-rightly}
 use Rattle.calls.proofs.Judging.{judge-passes, judge-breaches}
 use Rattle.calls.proofs.Solving.{refuses-13, solves-least}
 use Rattle.calls.proofs.Writing.{listing-wrote}

@@ -1,6 +1,5 @@
 -- How much a call says that it has written is no more than the memory that it was lent; a refusal counts as nothing.
 -- Assumes nothing.
-use mathlib.Core.Path.{_≡_}
 use mathlib.Core.List.{List}
 use Prim.Native.Nat.{ℕ, _≤_}
 use native.Mathlib.Omega.{arith}
@@ -8,11 +7,9 @@ use lib.ListN.{length, drop, length-append}
 use Rattle.network.specs.declared.Network.{Network}
 use Rattle.line.specs.Tests.{Tests}
 use Rattle.sheet.specs.Reading.{read}
-use Rattle.sheet.specs.declared.Reading.{Reading}
 use Rattle.solver.specs.Solve.{solve}
 use Rattle.listing.specs.Listing.{listing}
 use Rattle.canonical.specs.House.{houseText}
-use Rattle.calls.specs.Values.{Values}
 use Rattle.calls.specs.Call.{call, Left, Leaves}
 use Rattle.calls.specs.Lent.{asMinutes, inPlace}
 use Rattle.calls.specs.Calls.{writtenValues, writing, refusing, solvingTests, solving, listingTests, listed}

@@ -1,6 +1,5 @@
 -- The demands hold: each is cited from where it is proved. Assumes nothing.
-use mathlib.Core.Path.{refl, sym}
-use Rattle.network.specs.declared.Network.{Network}
+use mathlib.Core.Path.{sym}
 use Rattle.sheet.specs.Reading.{read}
 use Rattle.sheet.proofs.Fault.{refused-iff, fault-lowest}
 use Rattle.layout.proofs.Accepted.{accepted-iff, network-contains}
@@ -9,7 +8,6 @@ use Rattle.checker.proofs.First.{breach-iff}
 use Rattle.solver.specs.Solve.{solve}
 use Rattle.rounds.proofs.Hyperarcs.{hyperarcs-agree}
 use Rattle.solver.proofs.Least.{solve-least, solve-none}
-use Rattle.calls.specs.Answers.{Reads}
 use Rattle.calls.specs.Demands.{Demands}
 use Rattle.calls.specs.Lent.{asMinutes, inPlace}
 use Rattle.calls.specs.Numbers.{minutes}

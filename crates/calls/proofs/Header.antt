@@ -1,5 +1,5 @@
 -- What the header's functions shift out of an answer is what was packed: each value fits its bytes. Assumes nothing.
-use mathlib.Core.Path.{_≡_, refl, ap}
+use mathlib.Core.Path.{_≡_, refl}
 use mathlib.Core.Logic.{_⊎_, inl, inr}
 use mathlib.Core.Bool.{Bool, true, _&&_}
 use mathlib.Core.List.{List, [], _∷_}
@@ -9,20 +9,18 @@ use borrow.Author.Tests.{ltb-true}
 use lib.Dec.{ltb}
 use Rattle.prelude.proofs.Tests.{and-true}
 use Rattle.pairs.specs.Pairs.{minutesOf, Short}
-use Rattle.network.specs.declared.Network.{Network}
 use Rattle.sheet.specs.Reading.{read}
 use Rattle.sheet.proofs.WellFormed.{accepted-well-formed}
 use Rattle.checker.specs.Verdict.{verdict}
 use Rattle.dispatch.specs.HeardText.{heardIn, dueText}
 use Rattle.calls.specs.Values.{Values}
-use Rattle.calls.specs.Call.{Left}
-use Rattle.calls.specs.Lent.{asBytes, inPlace, inPairs}
+use Rattle.calls.specs.Lent.{asBytes, inPairs}
 use Rattle.calls.specs.Calls.{writtenValues, judgingTests, housed}
 use Rattle.calls.specs.Play.{dueValues}
 use Rattle.calls.specs.Bench.{benchJudgement, benchSolving, benchListed, benchDue, Said, nothingSaid}
 use Rattle.calls.specs.Bench.{judgementValues, refused, packed, Small, packedCount}
 use Rattle.calls.specs.Answers.{Own, OneOf, Answers}
-use Rattle.calls.specs.Numbers.{bytes, judges, solves, lists, houses, plays, misnamedIn, unheardBy, Numbers}
+use Rattle.calls.specs.Numbers.{bytes, judges, solves, lists, houses, plays, misnamedIn, unheardBy}
 use Rattle.calls.specs.Header.{JudgeHolds, CountHolds}
 use Rattle.calls.specs.declared.Judgement.{Judgement}
 use Rattle.calls.specs.declared.Judgement.the-variants as J

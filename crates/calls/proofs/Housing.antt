@@ -9,7 +9,6 @@ use Rattle.network.specs.declared.Network.{Network}
 use Rattle.network.proofs.Least.{same-least, same-inconsistent}
 use Rattle.sheet.specs.Reading.{read}
 use Rattle.sheet.specs.declared.Outcome.the-variants.{Accepted}
-use Rattle.sheet.specs.declared.Reading.{Reading}
 use Rattle.tighten.specs.Tightest.{remainingOf}
 use Rattle.tighten.proofs.Regular.{uppers-regular}
 use Rattle.tighten.proofs.Remains.{remaining-is, remaining-unique}

@@ -1,22 +1,17 @@
 -- The judge's answers in the papers' numbers: values tell the verdict, so a pass is a good table and a breach the
 -- first. One argument for tables of minutes and of bytes. Assumes nothing.
 use mathlib.Core.Path.{_≡_, refl, sym, _∙_, ap}
-use mathlib.Core.Logic.{inl, inr, _↔_}
+use mathlib.Core.Logic.{_↔_}
 use mathlib.Core.Bool.{cond}
 use mathlib.Core.List.{List}
 use Prim.Native.Nat.{ℕ}
-use native.Mathlib.Omega.{arith}
 use lib.Dec.{eqb}
-use lib.ListN.{length}
 use Rattle.refusal.specs.declared.Refusal.{Refusal}
-use Rattle.refusal.specs.Refusal.{numberOf}
 use Rattle.refusal.proofs.Numbered.{numbered}
-use Rattle.network.specs.Build.{cells}
 use Rattle.network.specs.Solution.{Solution}
 use Rattle.network.specs.declared.Network.{Network}
 use Rattle.sheet.specs.Reading.{read}
 use Rattle.sheet.specs.declared.Outcome.the-variants.{Accepted}
-use Rattle.sheet.specs.declared.Reading.{Reading}
 use Rattle.checker.specs.Verdict.{verdict}
 use Rattle.checker.specs.First.{First}
 use Rattle.checker.specs.declared.Breach.{Breach}
@@ -36,7 +31,7 @@ use Rattle.calls.specs.declared.Judgement.{Judgement}
 use Rattle.calls.specs.declared.Judgement.the-variants as J
 use Rattle.calls.proofs.Call.{Ends, faulty, failed, worked, ends, call-works}
 use Rattle.calls.proofs.Settled.{number-of}
-use Rattle.calls.proofs.Matched.{Matches, answers-call}
+use Rattle.calls.proofs.Matched.{answers-call}
 use Rattle.calls.proofs.Handed.{Rightly}
 
 -- the verdict of which these are the values

@@ -14,7 +14,6 @@ use Rattle.network.specs.declared.Network.{Network}
 use Rattle.line.specs.Tests.{Tests}
 use Rattle.sheet.specs.Reading.{read}
 use Rattle.sheet.specs.declared.Outcome.the-variants.{Accepted}
-use Rattle.sheet.specs.declared.Reading.{Reading}
 use Rattle.calls.specs.Values.{Values, turnedAway}
 use Rattle.calls.specs.Call.{withoutLine, call, Left}
 use Rattle.calls.specs.Answers.{Own, Answers, Writes}

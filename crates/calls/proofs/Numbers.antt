@@ -1,14 +1,11 @@
 -- Each public call answers by its own refusals, in checking order. Assumes nothing.
-use mathlib.Core.Path.{_≡_, refl}
-use mathlib.Core.Logic.{_↔_}
+use mathlib.Core.Path.{refl}
 use mathlib.Core.List.{List, []}
 use Prim.Native.Nat.{ℕ}
 use Rattle.pairs.specs.Pairs.{minutesOf}
 use Rattle.network.specs.declared.Network.{Network}
 use Rattle.sheet.specs.Reading.{read}
 use Rattle.sheet.specs.declared.Outcome.the-variants.{Accepted}
-use Rattle.sheet.specs.declared.Reading.{Reading}
-use Rattle.dispatch.specs.Heard.{Lettered}
 use Rattle.dispatch.specs.Due.{due}
 use Rattle.dispatch.specs.Said.{dueOn}
 use Rattle.dispatch.specs.HeardText.{heardIn, dueText}

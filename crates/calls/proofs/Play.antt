@@ -1,14 +1,12 @@
 -- The letters of an accepted sheet's signals are those of its layout, which is what the player asks for; so playing by
 -- the mask of a list is playing by the list. Assumes nothing.
-use mathlib.Core.Path.{_≡_, refl, sym, _∙_, ap}
+use mathlib.Core.Path.{_≡_, sym, _∙_}
 use mathlib.Core.List.{List}
 use Prim.Native.Nat.{ℕ, _<_}
 use native.Mathlib.Omega.{arith}
 use lib.ListN.{length, length-map}
-use Rattle.network.specs.declared.Network.{Network}
 use Rattle.sheet.specs.Reading.{read}
 use Rattle.sheet.specs.declared.Outcome.the-variants.{Accepted}
-use Rattle.sheet.specs.declared.Reading.{Reading}
 use Rattle.layout.specs.Layout.{signalLetters}
 use Rattle.layout.proofs.Finds.{letter-is}
 use Rattle.layout.proofs.Accepted.{accepted-iff, network-contains}

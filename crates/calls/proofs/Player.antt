@@ -4,20 +4,18 @@ use mathlib.Core.Path.{_≡_, refl, sym, _∙_, ap}
 use mathlib.Core.Logic.{_↔_}
 use mathlib.Core.Bool.{true, false}
 use mathlib.Core.List.{List}
-use Prim.Native.Nat.{ℕ, _<_}
-use lib.ListN.{length}
+use Prim.Native.Nat.{ℕ}
 use Rattle.prelude.proofs.Tests.{zero-is-one}
-use Rattle.network.specs.Build.{scenarios, cells}
+use Rattle.network.specs.Build.{cells}
 use Rattle.network.specs.Solution.{Solution}
 use Rattle.network.specs.declared.Network.{Network}
 use Rattle.sheet.specs.Reading.{read}
 use Rattle.sheet.specs.declared.Outcome.the-variants.{Accepted}
-use Rattle.sheet.specs.declared.Reading.{Reading}
 use Rattle.checker.specs.Verdict.{verdict}
 use Rattle.checker.specs.declared.Verdict.{Verdict}
 use Rattle.checker.specs.declared.Verdict.the-variants.{Pass, Breach as Breached}
 use Rattle.checker.proofs.Judged.{judged}
-use Rattle.dispatch.specs.Heard.{Lettered, WellNamed}
+use Rattle.dispatch.specs.Heard.{Lettered}
 use Rattle.dispatch.specs.Due.{due}
 use Rattle.dispatch.specs.Said.{saidFrom, dueOn}
 use Rattle.dispatch.specs.HeardText.{heardIn, dueText}
@@ -31,7 +29,6 @@ use Rattle.calls.specs.Lent.{Handed}
 use Rattle.calls.specs.Play.{named, everHeard, eventsOf, isPass, playingTests, playing, dueValues}
 use Rattle.calls.specs.Answers.{Answers}
 use Rattle.calls.specs.Numbers.{plays, misnamedBy, unheardBy, misnamedOn, unheardOn, misnamedIn}
-use Rattle.calls.specs.declared.Due.{Due}
 use Rattle.calls.specs.declared.Due.the-variants as D
 use Rattle.calls.proofs.Matched.{answers-call}
 use Rattle.calls.proofs.Handed.{Rightly}

@@ -17,7 +17,6 @@ use Rattle.network.specs.WellFormed.{WellFormed}
 use Rattle.network.proofs.Strategy.{from-known, is-known}
 use Rattle.network.specs.declared.Network.{Network}
 use Rattle.sheet.specs.Reading.{read}
-use Rattle.sheet.specs.declared.Outcome.the-variants.{Accepted}
 use Rattle.checker.specs.Verdict.{verdict}
 use Rattle.checker.specs.declared.Verdict.the-variants.{Pass}
 use Rattle.checker.proofs.Judged.{judged}
@@ -32,7 +31,6 @@ use Rattle.dispatch.proofs.Alike.{indistinct-comm, indistinct-history, indistin
 use Rattle.dispatch.proofs.Answers.{due-history}
 use Rattle.dispatch.proofs.HistoryOf.{history-of}
 use Rattle.calls.specs.Answers.{Reads}
-use Rattle.calls.specs.Values.{Values}
 use Rattle.calls.specs.Lent.{asMinutes}
 use Rattle.calls.specs.Play.{eventsOf, playingTests, eventsDue}
 use Rattle.calls.specs.Playing.{RowAt, answer, Plays, Playing}

@@ -2,7 +2,7 @@
 -- nothing.
 use mathlib.Core.Path.{_≡_, refl, sym, _∙_, ap}
 use mathlib.Core.Bool.{Bool, true, false}
-use mathlib.Core.List.{List, _++_}
+use mathlib.Core.List.{List}
 use Prim.Native.Nat.{ℕ, _≤_, _<_}
 use native.Mathlib.Omega.{arith}
 use borrow.Author.Tests.{ne-eqb}
@@ -34,9 +34,8 @@ use Rattle.calls.specs.Call.{Left}
 use Rattle.calls.specs.Lent.{asMinutes, inPlace}
 use Rattle.calls.specs.Calls.{solving, listed, housed}
 use Rattle.calls.specs.Table.{refusedText, orRefused, listingOn, tableOn, formOn}
-use Rattle.calls.specs.Answers.{Reads, Wrote}
+use Rattle.calls.specs.Answers.{Wrote}
 use Rattle.calls.specs.Numbers.{minutes}
-use Rattle.calls.specs.Housing.{Form}
 use Rattle.calls.specs.Printing.{Printing}
 use Rattle.calls.specs.declared.Written.{Written}
 use Rattle.calls.specs.declared.Written.the-variants as W

@@ -60,20 +60,14 @@ exactly-one (o ∷ os) Γ n x =
     ]
 
 module _ {A : Type 0} (nothing : A) where
-  -- the first refusal whose cause holds is answered, with line 0 and nothing besides; where none does, the answer is no
-  -- refusal
+  -- refused with this number and line 0, and nothing besides
+  abbrev with-number : ℕ → Values A
+  with-number n = record { number = n; line = 0; value = nothing }
+
+  -- the first refusal whose cause holds is answered; where none does, the answer is no refusal
   abbrev pub Settles : List Own → Network → Values A → Type 0
   Settles [] Γ v = (v .number ≡ 0) × (v .line ≡ 0)
-  Settles (o ∷ os) Γ v =
-      (o .cause Γ × (v ≡ record {
-        number =
-            o .number;
-        line = 0;
-        value = nothing;
-      })) ⊎ ((o .cause Γ → ⊥) × Settles os Γ v)
-
-  pub settles-as : {v w : Values A} (own : List Own) (Γ : Network) → v ≡ w → Settles own Γ w → Settles own Γ v
-  settles-as own Γ e s = rw e s
+  Settles (o ∷ os) Γ v = (o .cause Γ × (v ≡ with-number (o .number))) ⊎ ((o .cause Γ → ⊥) × Settles os Γ v)
 
   pub settled-one : (own : List Own) (Γ : Network) (v : Values A) → Settles own Γ v
       → (v .number ≡ 0) ⊎ OneOf own (v .number)

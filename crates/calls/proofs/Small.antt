@@ -14,12 +14,11 @@ use Rattle.pairs.specs.Pairs.{Short}
 use Rattle.refusal.specs.declared.Refusal.{Refusal}
 use Rattle.network.specs.Build.{scenarios, cells}
 use Rattle.network.specs.Strategy.{time}
-use Rattle.network.specs.WellFormed.{WellFormed, Named}
+use Rattle.network.specs.WellFormed.{WellFormed}
 use Rattle.network.specs.declared.Network.{Network}
 use Rattle.line.specs.Tests.{Tests}
 use Rattle.sheet.specs.Reading.{read}
 use Rattle.sheet.specs.declared.Outcome.the-variants.{Accepted}
-use Rattle.sheet.specs.declared.Reading.{Reading}
 use Rattle.sheet.proofs.WellFormed.{accepted-well-formed}
 use Rattle.checker.specs.Verdict.{verdict}
 use Rattle.checker.specs.First.{First}
@@ -49,9 +48,7 @@ use Rattle.calls.specs.Calls.{listingTests}
 use Rattle.calls.specs.Calls.{listingOf, houseTests, housed}
 use Rattle.calls.specs.Play.{eventsOf, playingTests, playing, dueValues}
 use Rattle.calls.specs.Bench.{Small, verdictValues, breachValues}
-use Rattle.calls.specs.declared.Due.{Due}
 use Rattle.calls.specs.declared.Due.the-variants as D
-use Rattle.calls.specs.declared.Judgement.{Judgement}
 use Rattle.calls.specs.declared.Judgement.the-variants as J
 use Rattle.calls.specs.declared.Written.{Written}
 use Rattle.calls.proofs.Call.{Ends, faulty, failed, worked, ends}

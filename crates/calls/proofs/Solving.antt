@@ -1,13 +1,12 @@
 -- The solver's answer: with room it has written the least good table, or there is none and it refuses. One argument for
 -- memory that is lent as minutes and as bytes. Assumes nothing.
 use mathlib.Core.Path.{_≡_, refl, sym, _∙_, ap}
-use mathlib.Core.Logic.{_⊎_, inl, inr, _↔_}
+use mathlib.Core.Logic.{inl, inr, _↔_}
 use mathlib.Core.Bool.{Bool, true, false}
 use mathlib.Core.List.{List}
-use Prim.Native.Nat.{ℕ, _≤_, _<_}
+use Prim.Native.Nat.{ℕ, _≤_}
 use borrow.Author.Tests.{leb-false, le-leb, lt-leb}
 use lib.Dec.{leb}
-use lib.ListN.{length}
 use Rattle.prelude.proofs.Tests.{zero-is-one}
 use Rattle.refusal.specs.declared.Cause.the-variants.{Inconsistent}
 use Rattle.fixpoint.specs.Run.{End, Rests, Passes, Spent}
@@ -18,7 +17,6 @@ use Rattle.network.specs.WellFormed.{WellFormed}
 use Rattle.network.specs.declared.Network.{Network}
 use Rattle.sheet.specs.Reading.{read}
 use Rattle.sheet.specs.declared.Outcome.the-variants.{Accepted}
-use Rattle.sheet.specs.declared.Reading.{Reading}
 use Rattle.sheet.proofs.WellFormed.{accepted-well-formed}
 use Rattle.solver.specs.Solve.{solve}
 use Rattle.solver.proofs.Least.{solve-least, solve-none}
@@ -29,7 +27,6 @@ use Rattle.calls.specs.Calls.{writtenValues, writing, refusing, rests, s
 use Rattle.calls.specs.Answers.{Writes}
 use Rattle.calls.specs.Numbers.{solves}
 use Rattle.calls.specs.declared.Written.{Written}
-use Rattle.calls.specs.declared.Written.the-variants as W
 use Rattle.calls.proofs.Call.{call-fails, call-works}
 use Rattle.calls.proofs.Settled.{number-of}
 use Rattle.calls.proofs.Matched.{writes-call}

@@ -1,7 +1,7 @@
 -- The calls that write a text: the listing of a table that is handed in, and the house form. Assumes nothing.
-use mathlib.Core.Path.{_≡_, refl, sym, ap}
-use mathlib.Core.Logic.{inl, inr, _↔_}
-use mathlib.Core.Bool.{true, false}
+use mathlib.Core.Path.{_≡_, refl, sym}
+use mathlib.Core.Logic.{inl, _↔_}
+use mathlib.Core.Bool.{false}
 use mathlib.Core.List.{List}
 use Prim.Native.Nat.{ℕ, _≤_, _<_}
 use borrow.Author.Tests.{leb-false, le-leb, lt-leb}
@@ -12,7 +12,6 @@ use Rattle.network.specs.Limits as L
 use Rattle.network.specs.declared.Network.{Network}
 use Rattle.sheet.specs.Reading.{read}
 use Rattle.sheet.specs.declared.Outcome.the-variants.{Accepted}
-use Rattle.sheet.specs.declared.Reading.{Reading}
 use Rattle.listing.specs.Listing.{listing}
 use Rattle.tighten.specs.Tightest.{remainingOf}
 use Rattle.canonical.specs.House.{houseText}
@@ -25,7 +24,7 @@ use Rattle.calls.specs.declared.Written.{Written}
 use Rattle.calls.proofs.Call.{call-fails, call-works}
 use Rattle.calls.proofs.Matched.{writes-call}
 use Rattle.calls.proofs.Handed.{Rightly}
-use Rattle.calls.proofs.Fit.{few-fit, fit-few, many-do-not, not-fit-many}
+use Rattle.calls.proofs.Fit.{few-fit, many-do-not, not-fit-many}
 
 pub wrote : {l : Left Written} (text m : List ℕ) → writing (inPlace m) text ≡ l → Wrote text m l
 wrote text m e = rw (← e) (record { answer = refl; memory = refl })

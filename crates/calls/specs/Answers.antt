@@ -10,7 +10,6 @@ use Rattle.network.specs.declared.Network.{Network}
 use Rattle.sheet.specs.Reading.{read}
 use Rattle.sheet.specs.Fault.{Fault}
 use Rattle.sheet.specs.declared.Outcome.the-variants.{Accepted}
-use Rattle.sheet.specs.declared.Reading.{Reading}
 use Rattle.calls.specs.Values.{Values, done, turnedAway}
 use Rattle.calls.specs.Call.{Left}
 use Rattle.calls.specs.Calls.{writtenValues}

@@ -14,7 +14,6 @@ use Rattle.line.specs.Tests.{Tests}
 use Rattle.sheet.specs.Reading.{read}
 use Rattle.sheet.specs.declared.Outcome.{Outcome}
 use Rattle.sheet.specs.declared.Outcome.the-variants.{Accepted, Refused}
-use Rattle.sheet.specs.declared.Reading.{Reading}
 
 -- the line is 0 for refusals 11 to 13, and for those of document 02 that name none
 abbrev pub withoutLine : Cause → Refusal

@@ -8,7 +8,7 @@ use lib.ListN.{length}
 use Rattle.refusal.specs.declared.Cause.{Cause}
 use Rattle.refusal.specs.declared.Refusal.{Refusal}
 use Rattle.refusal.specs.declared.Cause.the-variants.{WrongTableLength, BufferTooShort, Inconsistent, TooManyRows}
-use Rattle.fixpoint.specs.Run.{Run, End, Rests, Passes, Spent}
+use Rattle.fixpoint.specs.Run.{End, Rests, Passes, Spent}
 use Rattle.network.specs.Limits as L
 use Rattle.network.specs.Build.{cells}
 use Rattle.network.specs.declared.Constraint.{Constraint}

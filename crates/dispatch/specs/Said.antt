@@ -42,7 +42,8 @@ asSaid x l known t =
 -- one record more
 unfoldable pub added : ℕ → Heard → ℕ
 added x h =
-    cond (isLetter (h .letter) && not (standsOn x (h .letter))) (withBit x (place (h .letter) (h .truth))) (withBit x misnamed)
+    cond (isLetter (h .letter) && not (standsOn x (h .letter))) (withBit x (place (h .letter) (h .truth)))
+    (withBit x misnamed)
 
 abbrev pub saidFrom : ℕ → List Heard → ℕ
 saidFrom x [] = x

@@ -125,7 +125,7 @@ module _ (step : List ℕ → List ℕ) (cap : List ℕ) (R : Rising (length cap
   run-ends floor l e = omega (arith, ran-as 0 (suc (room cap floor)) floor l .spent e .1)
 
   -- within the cap a run rests at the least prefixpoint; where it does not rest, no prefixpoint lies within the cap
-  pub record Outcome (floor : List ℕ) (r : Run) : Type 0 where
+  pub record LeastOrNone (floor : List ℕ) (r : Run) : Type 0 where
     pub sized : length (r .reached) ≡ length cap
     pub below : (p : List ℕ) → Prefixpoint step floor p → Below (r .reached) p
     pub rests : r .end ≡ Rests → Prefixpoint step floor (r .reached) × (within cap (r .reached) ≡ true)
@@ -138,8 +138,8 @@ module _ (step : List ℕ → List ℕ) (cap : List ℕ) (R : Rising (length cap
   passes-of Passes n m = refl
   passes-of Spent n m = absurd (m refl)
 
-  pub outcome : (floor : List ℕ) → length floor ≡ length cap → Outcome floor (run step cap floor)
-  outcome floor l =
+  pub least-or-none : (floor : List ℕ) → length floor ≡ length cap → LeastOrNone floor (run step cap floor)
+  least-or-none floor l =
       let r = run step cap floor in
       let all = ran-as 0 (suc (room cap floor)) floor l in
       record {

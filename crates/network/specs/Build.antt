@@ -6,7 +6,6 @@ use lib.IntN.{pos}
 use lib.ListN.{getD, set, replicate, take, drop}
 use Rattle.network.specs.Limits as L
 use Rattle.network.specs.declared.Kind.the-variants.{Max}
-use Rattle.network.specs.declared.Label.{Label}
 use Rattle.network.specs.declared.Constraint.{Constraint}
 use Rattle.network.specs.declared.Network.{Network}
 use Rattle.network.specs.declared.Limits.{Limits}

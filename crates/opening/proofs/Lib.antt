@@ -2,6 +2,7 @@
 -- as bytes.
 pub mod Prologue
 pub mod Leaves
+pub mod SolverLeaves
 pub mod Playing
 pub mod Taken
 pub mod Pairs

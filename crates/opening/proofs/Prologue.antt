@@ -31,29 +31,6 @@ use Rattle.calls.specs.Calls.{rightLength}
 use Rattle.calls.proofs.Call.{call-refused, call-fails, call-works}
 use Rattle.calls.proofs.Play.{lettered as letters}
 use Rattle.opening.specs.Prologue.{behind, handedIn}
--- both passed. Assumes nothing.
-use mathlib.Core.Path.{_≡_, refl, sym, _∙_, ap}
-use mathlib.Core.Logic.{inl, inr}
-use mathlib.Core.Bool.{Bool, true, false}
-use mathlib.Core.List.{List, _∷_}
-use Prim.Native.Nat.{ℕ, _≤_}
-use native.Mathlib.Omega.{arith}
-use lib.Dec.{eqb}
-use Rattle.prelude.proofs.Tests.{zero-is-one}
-use Rattle.refusal.specs.declared.Cause.{Cause}
-use Rattle.refusal.specs.declared.Refusal.{Refusal}
-use Rattle.network.specs.Limits as L
-use Rattle.network.specs.Build.{cells}
-use Rattle.network.specs.declared.Network.{Network}
-use Rattle.line.specs.Tests.{Tests}
-use Rattle.sheet.specs.Reading.{progress, answered, read}
-use Rattle.sheet.specs.declared.Outcome.{Outcome}
-use Rattle.sheet.specs.declared.Outcome.the-variants.{Accepted, Refused}
-use Rattle.sheet.specs.declared.Reading.{Reading}
-use Rattle.sheet.proofs.WellFormed.{accepted-well-formed}
-use Rattle.calls.specs.Call.{withoutLine, call}
-use Rattle.calls.proofs.Call.{call-refused, call-fails}
-use Rattle.opening.specs.Prologue.{behind}
 
 -- both passed
 pub behind-accepted : (o : Outcome) (b : Bool) (c : Cause) → behind o b c ≡ Accepted → (o ≡ Accepted) × (b ≡ true)

@@ -1,8 +1,7 @@
 -- A table that was taken over from bytes is played, judged and listed as the bytes are: it has as many minutes, and the
 -- same, or neither is a sheet's. Assumes nothing.
-use mathlib.Core.Path.{_≡_, refl, sym, _∙_, ap}
+use mathlib.Core.Path.{_≡_, sym, _∙_, ap}
 use mathlib.Core.Logic.{inl, inr, _↔_}
-use mathlib.Core.Bool.{Bool, true, false}
 use mathlib.Core.List.{List, _++_}
 use Prim.Native.Nat.{ℕ, _+_, _*_, _/_, _%_, _≤_, _<_}
 use native.Mathlib.Omega.{arith}
@@ -14,10 +13,8 @@ use Rattle.prelude.proofs.Tests.{eq-or-ne}
 use Rattle.pairs.specs.Pairs.{minutesOf, Short}
 use Rattle.pairs.proofs.Packing.{length-minutesOf}
 use Rattle.network.specs.Build.{cells}
-use Rattle.network.specs.declared.Network.{Network}
 use Rattle.sheet.specs.Reading.{read}
 use Rattle.sheet.specs.declared.Outcome.the-variants.{Accepted}
-use Rattle.sheet.specs.declared.Reading.{Reading}
 use Rattle.sheet.proofs.WellFormed.{accepted-well-formed}
 use Rattle.checker.specs.declared.Verdict.{Verdict}
 use Rattle.dispatch.specs.Said.{dueOn}
@@ -26,7 +23,6 @@ use Rattle.dispatch.proofs.HeardText.{due-said-text}
 use Rattle.calls.specs.Lent.{asMinutes, asBytes}
 use Rattle.calls.specs.Calls.{judgement, listed, writtenValues}
 use Rattle.calls.specs.Play.{eventsDueOn}
-use Rattle.calls.specs.declared.Judgement.{Judgement}
 use Rattle.calls.specs.declared.Judgement.the-variants as J
 use Rattle.calls.specs.Bench.{Small, verdictValues, benchJudgement, benchListed, benchDue}
 use Rattle.calls.proofs.Handed.{cells-few}

@@ -109,7 +109,7 @@ pub fn solve_sheet(sheet: &[u8], table: &mut [u16]) -> Written
     }
     let solved = solver::solve(network, table);
     match solved {
-        Solved::Found { rounds: _ } => Written::Count(cells),
+        Solved::Consistent { rounds: _ } => Written::Count(cells),
         Solved::Inconsistent { rounds: _ } => Written::Refused(without_line(Cause::Inconsistent)),
     }
 }

@@ -12,7 +12,7 @@ use Rattle.prelude.proofs.Tests.{clash, by-cond}
 use Rattle.fixpoint.specs.Step.{Prefixpoint}
 use Rattle.fixpoint.specs.Run.{within, Rests}
 use Rattle.fixpoint.proofs.Order.{zeros-below}
-use Rattle.fixpoint.proofs.Run.{Outcome, outcome}
+use Rattle.fixpoint.proofs.Run.{LeastOrNone, least-or-none}
 use Rattle.network.specs.Build.{scenarios, cells}
 use Rattle.network.specs.Strategy.{time}
 use Rattle.network.specs.Solution.{OnTime, Solution}
@@ -65,9 +65,9 @@ module _ (Γ : Network) where
       dynamic = hyperarcs-agree Γ σ w .1 (hyperarcs-of Γ σ w (p .closed)) .alike;
     }
 
-    ends : Outcome (propagate Γ) (cap Γ) (step-rises Γ) (floor Γ) (solve Γ)
+    ends : LeastOrNone (propagate Γ) (cap Γ) (step-rises Γ) (floor Γ) (solve Γ)
     unfolding solve
-    ends = outcome (propagate Γ) (cap Γ) (step-rises Γ) (floor Γ)
+    ends = least-or-none (propagate Γ) (cap Γ) (step-rises Γ) (floor Γ)
         (length-replicate (cells Γ) 0 ∙ sym (length-cap Γ))
 
     -- where the run rests it has the least solution

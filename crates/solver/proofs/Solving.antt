@@ -24,7 +24,7 @@ use Rattle.rounds.specs.Cap.{cap}
 use Rattle.rounds.specs.Rounds.{held}
 use Rattle.rounds.proofs.Cap.{length-cap, cap-few}
 use Rattle.rounds.proofs.Effects.{length-held, step-rises}
-use Rattle.solver.specs.declared.Solved.the-variants.{Found, Inconsistent}
+use Rattle.solver.specs.declared.Solved.the-variants.{Consistent, Inconsistent}
 use Rattle.solver.specs.declared.Ended.{Ended}
 use Rattle.solver.specs.declared.Ended.the-variants as ended
 use Rattle.solver.specs.Solve.{floor, solve}
@@ -111,7 +111,7 @@ module _ (Γ : Network) (W : WellFormed Γ) where
 
   pub solved-resting : {exit : List ℕ} {k j : ℕ} → RunIs Γ 2580481 (replicate 256 0) exit (ended.Rests k j)
       → (entry after : List ℕ)
-      → after ≡ held Γ exit ++ drop (Γ .events * scenarios Γ) entry → SolvedIs Γ entry after (Found k)
+      → after ≡ held Γ exit ++ drop (Γ .events * scenarios Γ) entry → SolvedIs Γ entry after (Consistent k)
   solved-resting {exit} {k} {j} A entry after z =
       let w = ended-rests (A .run .end) (A .run .rounds) (A .turns) k j (A .answer) in
       let rests : solve Γ .end ≡ Rests = rw (run-solves A) at (w .0) in

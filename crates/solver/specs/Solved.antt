@@ -6,13 +6,17 @@ use lib.ListN.{length, drop}
 use Rattle.fixpoint.specs.Run.{Run, Rests, Passes, Spent}
 use Rattle.network.specs.declared.Network.{Network}
 use Rattle.solver.specs.declared.Solved.{Solved}
-use Rattle.solver.specs.declared.Solved.the-variants.{Found, Inconsistent}
+use Rattle.solver.specs.declared.Solved.the-variants.{Consistent, Inconsistent}
 use Rattle.solver.specs.Solve.{solve}
 
 -- a run that rests has found the least solution, and any other has found that there is none
 abbrev pub solvedOf : Run → Solved
 solvedOf ρ =
-    elim (ρ .end) [ Rests ↦ Found (ρ .rounds) | Passes ↦ Inconsistent (ρ .rounds) | Spent ↦ Inconsistent (ρ .rounds) ]
+    elim (ρ .end) [
+      | Rests ↦ Consistent (ρ .rounds)
+      | Passes ↦ Inconsistent (ρ .rounds)
+      | Spent ↦ Inconsistent (ρ .rounds)
+    ]
 
 -- "the written part has exactly its stated contents and everything behind it is unaltered"
 abbrev pub tableAfter : Run → List ℕ → List ℕ

@@ -17,8 +17,8 @@ use rows::Frame;
 
 // The answer, with the count of rounds.
 pub enum Solved {
-    // The least solution is found.
-    Found { rounds: u32 },
+    // The table holds the least solution.
+    Consistent { rounds: u32 },
     // No strategy solves the network.
     Inconsistent { rounds: u32 },
 }
@@ -147,7 +147,7 @@ pub fn solve(network: Network, table: &mut [u16]) -> Solved
         Ended::Spent { rounds, turns: _ } => Solved::Inconsistent { rounds: rounds },
         Ended::Rests { rounds, turns: _ } => {
             rows::copy_out(&a, network.events, frame.scenarios, table);
-            Solved::Found { rounds: rounds }
+            Solved::Consistent { rounds: rounds }
         }
     }
 }

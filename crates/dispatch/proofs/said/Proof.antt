@@ -141,7 +141,8 @@ module _ {M : Type 1} (𝓤 : URA M) (H : Heap 𝓤) (A : Atoms 𝓤) (mem : Mem
   Add = tripleOf 𝓤 H A add.signature (add.spec 𝓤 H A mem run)
 
 module _
-    {M : Type 1} (𝓤 : URA M) (H : Heap 𝓤) (A : Atoms 𝓤) (W : Given 𝓤 H A) (mem : Memory → SProp 𝓤) (run : Routine → Fun 𝓤)
+    {M : Type 1} (𝓤 : URA M) (H : Heap 𝓤) (A : Atoms 𝓤) (W : Given 𝓤 H A) (mem : Memory → SProp 𝓤)
+    (run : Routine → Fun 𝓤)
     (κ : Lft) (q : Share) (lent : RefT (List Heard)) where
   copies : Copy 𝓤 H A R
   copies = LL.copy T.the-type T′.the-copy 𝓤 H A W
@@ -162,7 +163,8 @@ module _
   v = sliceVal (ptr lent) n
 
   abbrev Post : Val → SProp 𝓤
-  Post = walkOf 𝓤 H A said.ended stayed (said.clauses 𝓤 H A mem run) .post (((κ, tt), (q, tt), tt, (lent, tt), (v ∷ [], tt)), tt)
+  Post = walkOf 𝓤 H A said.ended stayed (said.clauses 𝓤 H A mem run) .post
+      (((κ, tt), (q, tt), tt, (lent, tt), (v ∷ [], tt)), tt)
 
   abbrev Own : Fml
   Own = ShrSlice (named 0) κ R .own lent (v ∷ [])
@@ -172,9 +174,11 @@ module _
   exits x e g =
       qed W (‵ (flft κ q) ∷ ‵ Own ∷ []) ∵
       suffices ! _
-      (ends-at 𝓤 H A said.ended stayed (said.clauses 𝓤 H A mem run) W (((κ, tt), (q, tt), tt, (lent, tt), (v ∷ [], tt)), tt)
+      (ends-at 𝓤 H A said.ended stayed (said.clauses 𝓤 H A mem run) W
+      (((κ, tt), (q, tt), tt, (lent, tt), (v ∷ [], tt)), tt)
       (vint w64 x) x (tt, tt) (tt, tt)) $
-      says ! e $ nothing ! $ move ! (1 ∷ 0 ∷ []) $ join ! $ nothing ! $ move ! (2 ∷ 0 ∷ []) $ fjoin ! $ move ! (1 ∷ 0 ∷ []) $
+      says ! e $ nothing ! $ move ! (1 ∷ 0 ∷ []) $ join ! $ nothing ! $ move ! (2 ∷ 0 ∷ []) $ fjoin ! $
+      move ! (1 ∷ 0 ∷ []) $
       frame ! $ frame ! $ fltI ! x (2 ^ 64) g $ feqI ! (List Val) (vint w64 x ∷ []) (vint w64 x ∷ []) refl $ done !
 
   -- ---- the call of `add` on a mask and a record
@@ -184,7 +188,8 @@ module _
   asked : (x : ℕ) (h : Heard) → x < 2 ^ 64 → ent 𝓤 (sem 𝓤 H A (R .own h (vals h))) (Add 𝓤 H A mem run .pre (to x h))
   asked x h g =
       qed W (‵ (R .own h (vals h)) ∷ []) ∵ nothing ! $ move ! (1 ∷ 0 ∷ []) $ fjoin ! $
-      owned ! u64 (Is u64) (uint-makes 𝓤 H A W w64) x (vint w64 x ∷ []) (refl, g) $ fjoin ! $ nothing ! $ join ! $ frame ! $ done !
+      owned ! u64 (Is u64) (uint-makes 𝓤 H A W w64) x (vint w64 x ∷ []) (refl, g) $ fjoin ! $ nothing ! $ join ! $
+      frame ! $ done !
 
   abbrev Told : ℕ → Heard → ℕ → SProp 𝓤
   Told x h r = ensured 𝓤 H A add.ended (add.clauses 𝓤 H A mem run) tt (x, (h, tt)) tt r
@@ -194,7 +199,8 @@ module _
 
   -- ---- the loop. `gn` says that the count of the records and that of their bytes fit a word
   module _
-      (𝓣 : Tables 𝓤 H) (fm : FmC 𝓤 H (W .laws) (𝓣 .C)) (known : Triple 𝓤 (𝓣 .C #dispatch·add) (Add 𝓤 H A mem run)) (gn : Room R n)
+      (𝓣 : Tables 𝓤 H) (fm : FmC 𝓤 H (W .laws) (𝓣 .C)) (known : Triple 𝓤 (𝓣 .C #dispatch·add) (Add 𝓤 H A mem run))
+      (gn : Room R n)
       (l₀ l₁ l₂ l₃ l₄ l₅ l₆ l₇ : ℕ) where
     abbrev C : Calls 𝓤 H
     C = 𝓣 .C
@@ -269,7 +275,8 @@ module _
         -- [the token; what record i owns; the borrow; _7; ..; .. _0; ..; the slice's name; its fact]
         move ! (1 ∷ []) $ use1 W (raw (Add 𝓤 H A mem run .pre (to (t .x) h))) (asked (t .x) h (t .small)) $
         calls-at ! fm (Add 𝓤 H A mem run) known (to (t .x) h)
-        (and-then ! (load ! (from ! (stop !)) (look ! 13 refl)) (and-then ! (load ! (from ! (stop !)) (look ! 3 refl)) (no-more !)))
+        (and-then ! (load ! (from ! (stop !)) (look ! 13 refl))
+        (and-then ! (load ! (from ! (stop !)) (look ! 3 refl)) (no-more !)))
         (λ u.
         use1 W (later (some (λ (r : ℕ). (‵ ftrue ⊛ ‵ (u64 .own r (u ∷ []))) ⊛ raw (Told (t .x) h r)))) (id⊢ 𝓤 _) $
         await ! tt $ pick ! (λ r.
@@ -318,7 +325,8 @@ module _
   walk 𝓣 fm known gn =
       qed W ((‵ (flft κ q) ⊛ ‵ ftrue) ∷ ‵ (owns (ShrSlice (named 0) κ R ∷ []) (lent, tt) (v ∷ [], tt)) ∷ []) ∵
       enter ! (𝓣 .C) (𝓣 .Λ) code.function (v ∷ []) _ $
-      alloc1 ! (λ l₀. alloc1 ! (λ l₁. alloc1 ! (λ l₂. alloc1 ! (λ l₃. alloc1 ! (λ l₄. alloc1 ! (λ l₅. alloc1 ! (λ l₆. alloc1 ! (λ l₇.
+      alloc1 ! (λ l₀. alloc1 ! (λ l₁. alloc1 ! (λ l₂. alloc1 ! (λ l₃.
+      alloc1 ! (λ l₄. alloc1 ! (λ l₅. alloc1 ! (λ l₆. alloc1 ! (λ l₇.
       alloc0 ! $ params1 ! $ pass1 ! (init ! 12 refl (tt, (tt, (record { fits = gn .0 }, tt)))) $ pass0 ! $
       assigns ! (of-opd ! (lit ! tt)) (from ! (stop !)) (init ! 10 refl (tt, record { fits = lit< tt })) $
       assigns ! (of-opd ! (lit ! tt)) (from ! (stop !)) (init ! 8 refl (tt, record { fits = lit< tt })) $
@@ -326,24 +334,28 @@ module _
       -- [the token; true; the slice's name; the borrow; the slice's fact; true; _7; ..; .. _0; ..]
       keep ! (6 ∷ 7 ∷ 8 ∷ 9 ∷ 10 ∷ 11 ∷ 12 ∷ 13 ∷ 14 ∷ 15 ∷ 16 ∷ 17 ∷ 18 ∷ 19 ∷ 20 ∷ 21 ∷ 3 ∷ 0 ∷ 2 ∷ 4 ∷ []) $
       first ! $ blocks ! $
-      loops ! 𝓣 (Nearer hs) (Nearer-wf hs) (At 𝓣 fm known gn l₀ l₁ l₂ l₃ l₄ l₅ l₆ l₇) (turns 𝓣 fm known gn l₀ l₁ l₂ l₃ l₄ l₅ l₆ l₇)
+      loops ! 𝓣 (Nearer hs) (Nearer-wf hs) (At 𝓣 fm known gn l₀ l₁ l₂ l₃ l₄ l₅ l₆ l₇)
+      (turns 𝓣 fm known gn l₀ l₁ l₂ l₃ l₄ l₅ l₆ l₇)
       (none-passed hs)))))))))
 
 -- ---- the walk taken to the contract
 module _
-    {M : Type 1} (𝓤 : URA M) (H : Heap 𝓤) (A : Atoms 𝓤) (W : Given 𝓤 H A) (mem : Memory → SProp 𝓤) (run : Routine → Fun 𝓤)
+    {M : Type 1} (𝓤 : URA M) (H : Heap 𝓤) (A : Atoms 𝓤) (W : Given 𝓤 H A) (mem : Memory → SProp 𝓤)
+    (run : Routine → Fun 𝓤)
     (𝓣 : Tables 𝓤 H) (known : Triple 𝓤 (𝓣 .C #dispatch·add) (Add 𝓤 H A mem run)) where
   said-walks : Walks 𝓤 H A said.ended stayed (WpFn 𝓤 H (𝓣 .C) (𝓣 .Λ) code.function) (said.clauses 𝓤 H A mem run)
   said-walks =
       walked 𝓤 H A said.ended stayed (said.clauses 𝓤 H A mem run) (WpFn 𝓤 H (𝓣 .C) (𝓣 .Λ) code.function)
       (λ κs. (slice-vals, tt)) (λ κs. (shr-slice-tells (named 0) (κs .0) R, tt))
       (λ κs qs bounds a g are.
-      via 𝓤 _ (fst∗ 𝓤 _ (emp 𝓤)) (walk 𝓤 H A W mem run (κs .0) (qs .0) (a .0) 𝓣 (fmOf 𝓤 H (W .laws) 𝓣) known (are .0 .0 .1)))
+      via 𝓤 _ (fst∗ 𝓤 _ (emp 𝓤)) (walk 𝓤 H A W mem run (κs .0) (qs .0) (a .0) 𝓣 (fmOf 𝓤 H (W .laws) 𝓣) known
+      (are .0 .0 .1)))
 
   said-meets : Meets 𝓤 H A said.signature (WpFn 𝓤 H (𝓣 .C) (𝓣 .Λ) code.function) (said.spec 𝓤 H A mem run)
   said-meets =
       walk-meets 𝓤 H A said.ended stayed W (goes-none-slice 𝓤 H A W 1 (0 ∷ []) tt (plain (λ _. R)) yes, tt)
-      (said.clauses 𝓤 H A mem run) (WpFn 𝓤 H (𝓣 .C) (𝓣 .Λ) code.function) (WpFn-mono 𝓤 H (W .laws) 𝓣 code.function) said-walks
+      (said.clauses 𝓤 H A mem run) (WpFn 𝓤 H (𝓣 .C) (𝓣 .Λ) code.function)
+      (WpFn-mono 𝓤 H (W .laws) 𝓣 code.function) said-walks
 
 pub said-spec : {M : Type 1} → stated.statement M
 unfolding code.routine tablesOf

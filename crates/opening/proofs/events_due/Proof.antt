@@ -88,7 +88,8 @@ module _ {M : Type 1} (𝓤 : URA M) (H : Heap 𝓤) (A : Atoms 𝓤) (mem : Mem
   DueOn = tripleOf 𝓤 H A due-on.signature (due-on.spec 𝓤 H A mem run)
 
 module _
-    {M : Type 1} (𝓤 : URA M) (H : Heap 𝓤) (A : Atoms 𝓤) (W : Given 𝓤 H A) (mem : Memory → SProp 𝓤) (run : Routine → Fun 𝓤)
+    {M : Type 1} (𝓤 : URA M) (H : Heap 𝓤) (A : Atoms 𝓤) (W : Given 𝓤 H A) (mem : Memory → SProp 𝓤)
+    (run : Routine → Fun 𝓤)
     (κ₁ κ₂ κ₃ : Lft) (q₁ q₂ q₃ : Share) (sheet table : RefT (List ℕ)) (m : ℕ) (list : RefT (List Heard)) where
   abbrev κs : Lfts 3
   κs = (κ₁, (κ₂, (κ₃, tt)))
@@ -143,7 +144,8 @@ module _
   abbrev said-to : Said 𝓤 H A mem run .Ghost
   said-to = (((κ₃, tt), (q₃, tt), tt, (list, tt), (vl ∷ [], tt)), tt)
 
-  said-asked : ent 𝓤 (onEntry 𝓤 H A said.signature (κ₃, tt) (q₃, tt) (list, tt) (vl ∷ [], tt)) (Said 𝓤 H A mem run .pre said-to)
+  said-asked : ent 𝓤 (onEntry 𝓤 H A said.signature (κ₃, tt) (q₃, tt) (list, tt) (vl ∷ [], tt))
+      (Said 𝓤 H A mem run .pre said-to)
   said-asked =
       qed W (Token ∷ ‵ (owns (ShrSlice (named 0) κ₃ R ∷ []) (list, tt) (vl ∷ [], tt)) ∷ []) ∵ join ! $ frame ! $ done !
 
@@ -169,9 +171,11 @@ module _
   abbrev due-to : ℕ → DueOn 𝓤 H A mem run .Ghost
   due-to r = ((κs′, qs′, tt, args′ r, at′ r), tt)
 
-  due-asked : (r : ℕ) → ent 𝓤 (onEntry 𝓤 H A due-on.signature κs′ qs′ (args′ r) (at′ r)) (DueOn 𝓤 H A mem run .pre (due-to r))
+  due-asked : (r : ℕ) → ent 𝓤 (onEntry 𝓤 H A due-on.signature κs′ qs′ (args′ r) (at′ r))
+      (DueOn 𝓤 H A mem run .pre (due-to r))
   due-asked r =
-      qed W (Tokens ∷ ‵ (owns (ShrSlice (named 0) κ₁ u8 ∷ ShrSlice (named 1) κ₂ u16 ∷ u16 ∷ u64 ∷ []) (args′ r) (at′ r)) ∷ []) ∵
+      qed W (Tokens ∷ ‵ (owns (ShrSlice (named 0) κ₁ u8 ∷ ShrSlice (named 1) κ₂ u16 ∷ u16 ∷ u64 ∷ []) (args′ r)
+      (at′ r)) ∷ []) ∵
       join ! $ frame ! $ done !
 
   abbrev answerOn : ℕ → Due
@@ -185,7 +189,8 @@ module _
 
   -- ---- the exit
   exits : (d : Due) (w : Val) → d ≡ eventsDue (now sheet) (now table) m (now list)
-      → ent 𝓤 (⋆ 𝓤 H A (‵ (D.the-row .own d (w ∷ [])) ∷ Tokens ∷ ‵ OwnS ∷ ‵ OwnT ∷ Token ∷ ‵ OwnL ∷ ‵ OwnM ∷ [])) (Post w)
+      → ent 𝓤 (⋆ 𝓤 H A (‵ (D.the-row .own d (w ∷ [])) ∷ Tokens ∷ ‵ OwnS ∷ ‵ OwnT ∷ Token ∷ ‵ OwnL ∷ ‵ OwnM ∷ []))
+      (Post w)
   exits d w e =
       qed W (‵ (D.the-row .own d (w ∷ [])) ∷ Tokens ∷ ‵ OwnS ∷ ‵ OwnT ∷ Token ∷ ‵ OwnL ∷ ‵ OwnM ∷ []) ∵
       suffices ! _
@@ -193,12 +198,14 @@ module _
       (tt, (tt, (tt, (tt, tt)))) (tt, (tt, (tt, (tt, tt))))) $
       says ! e $ move ! (1 ∷ []) $ split ! $ move ! (1 ∷ []) $ split ! $
       move ! (0 ∷ 6 ∷ []) $ join ! $ move ! (2 ∷ 0 ∷ []) $ join ! $ frame ! $
-      move ! (4 ∷ 0 ∷ []) $ fjoin ! $ move ! (4 ∷ 0 ∷ []) $ fjoin ! $ move ! (3 ∷ 0 ∷ []) $ fjoin ! $ move ! (2 ∷ 0 ∷ []) $ fjoin ! $
+      move ! (4 ∷ 0 ∷ []) $ fjoin ! $ move ! (4 ∷ 0 ∷ []) $ fjoin ! $ move ! (3 ∷ 0 ∷ []) $ fjoin ! $
+      move ! (2 ∷ 0 ∷ []) $ fjoin ! $
       frame ! $ done !
 
   -- ---- the walk, where `gs` .. `gl` say that the parameters fit their words
   module _
-      (C : Calls 𝓤 H) (Λ : Loops 𝓤 H) (fm : FmC 𝓤 H (W .laws) C) (said-known : Triple 𝓤 (C #dispatch·said) (Said 𝓤 H A mem run))
+      (C : Calls 𝓤 H) (Λ : Loops 𝓤 H) (fm : FmC 𝓤 H (W .laws) C)
+      (said-known : Triple 𝓤 (C #dispatch·said) (Said 𝓤 H A mem run))
       (due-known : Triple 𝓤 (C #opening·events-due-on) (DueOn 𝓤 H A mem run)) where
     walk : Room u8 (length (now sheet)) → Room u16 (length (now table)) → m < 2 ^ 16 → Room R (length (now list))
         → ent 𝓤 (onEntry 𝓤 H A due.signature κs qs args at) (WpFn 𝓤 H C Λ code.function (vs ∷ vt ∷ vm ∷ vl ∷ []) Post)
@@ -208,21 +215,25 @@ module _
         ∷ ‵ (owns (ShrSlice (named 0) κ₁ u8 ∷ ShrSlice (named 1) κ₂ u16 ∷ u16 ∷ ShrSlice (named 2) κ₃ R ∷ []) args at)
         ∷ []) ∵
         enter ! C Λ code.function (vs ∷ vt ∷ vm ∷ vl ∷ []) _ $
-        alloc1 ! (λ l₀. alloc1 ! (λ l₁. alloc1 ! (λ l₂. alloc1 ! (λ l₃. alloc1 ! (λ l₄. alloc1 ! (λ l₅. alloc0 ! $ params1 ! $
+        alloc1 ! (λ l₀. alloc1 ! (λ l₁. alloc1 ! (λ l₂. alloc1 ! (λ l₃. alloc1 ! (λ l₄. alloc1 ! (λ l₅. alloc0 ! $
+        params1 ! $
         pass1 ! (init ! 8 refl (tt, (tt, (record { fits = gs .0 }, tt)))) $
         pass1 ! (init ! 6 refl (tt, (tt, (record { fits = gt .0 }, tt)))) $
         pass1 ! (init ! 4 refl (tt, record { fits = gm })) $
         pass1 ! (init ! 2 refl (tt, (tt, (record { fits = gl .0 }, tt)))) $ pass0 ! $
         -- [_5; ..; .. _0; ..; the tokens; what the parameters own]
-        move ! (13 ∷ []) $ fsplit ! $ move ! (1 ∷ []) $ fsplit ! $ move ! (1 ∷ []) $ fsplit ! $ move ! (1 ∷ []) $ fsplit ! $
+        move ! (13 ∷ []) $ fsplit ! $ move ! (1 ∷ []) $ fsplit ! $ move ! (1 ∷ []) $ fsplit ! $ move ! (1 ∷ []) $
+        fsplit ! $
         use1 W (‵ OwnL ⊛ ‵ OwnL) (shr-slice-copy 𝓤 H A W (named 2) κ₃ R .twice list (vl ∷ [])) $ split ! $
         move ! (18 ∷ []) $ split ! $ move ! (1 ∷ []) $ split ! $ move ! (1 ∷ []) $ split ! $
         -- [the list's token; true; the table's; the sheet's; list; list; true; m; table; sheet; _5; ..; .. _0; ..]
         join ! $ nothing ! $ move ! (4 ∷ 0 ∷ []) $ fjoin ! $ move ! (1 ∷ 0 ∷ []) $
         use2 W (raw (Said 𝓤 H A mem run .pre said-to)) said-asked $
         -- [what `said` asks; the table's token; the sheet's; list; true; m; table; sheet; _5; ..; .. _0; ..]
-        calls-at ! fm (Said 𝓤 H A mem run) said-known said-to (and-then ! (load ! (from ! (stop !)) (look ! 10 refl)) (no-more !)) (λ v.
-        use1 W (later (some (λ (r : ℕ). (Token ⊛ ‵ (u64 .own r (v ∷ []))) ⊛ raw (SaidTold r)))) (id⊢ 𝓤 _) $ await ! tt $ pick ! (λ r.
+        calls-at ! fm (Said 𝓤 H A mem run) said-known said-to
+        (and-then ! (load ! (from ! (stop !)) (look ! 10 refl)) (no-more !)) (λ v.
+        use1 W (later (some (λ (r : ℕ). (Token ⊛ ‵ (u64 .own r (v ∷ []))) ⊛ raw (SaidTold r)))) (id⊢ 𝓤 _) $
+        await ! tt $ pick ! (λ r.
         split ! $ move ! (1 ∷ []) $ use1 W (raw (fact 𝓤 (r ≡ mask))) (said-told r) $
         heard ! (r ≡ mask) (λ e. split ! $ move ! (1 ∷ []) $
         peeks ! u64 (Is u64) (shows 𝓤 H A u64) r (v ∷ []) (λ is.
@@ -230,8 +241,10 @@ module _
         rewrite ! 9 (λ (w : Val). ‵ (fat fullShare (tyInt w64) l₅ 0 w)) (ap only (is .0)) refl $
         rewrite ! 0 (λ (ws : List Val). ‵ (u64 .own r ws)) (is .0) refl $
         -- [r; the list's token; the table's; the sheet's; list; true; m; table; sheet; _5; ..; .. _0; ..]
-        move ! (7 ∷ []) $ use1 W (‵ OwnT ⊛ ‵ OwnT) (shr-slice-copy 𝓤 H A W (named 1) κ₂ u16 .twice table (vt ∷ [])) $ split ! $
-        move ! (9 ∷ []) $ use1 W (‵ OwnS ⊛ ‵ OwnS) (shr-slice-copy 𝓤 H A W (named 0) κ₁ u8 .twice sheet (vs ∷ [])) $ split ! $
+        move ! (7 ∷ []) $ use1 W (‵ OwnT ⊛ ‵ OwnT) (shr-slice-copy 𝓤 H A W (named 1) κ₂ u16 .twice table (vt ∷ [])) $
+        split ! $
+        move ! (9 ∷ []) $ use1 W (‵ OwnS ⊛ ‵ OwnS) (shr-slice-copy 𝓤 H A W (named 0) κ₁ u8 .twice sheet (vs ∷ [])) $
+        split ! $
         -- [sheet; sheet; table; table; r; the list's token; the table's; the sheet's; list; true; m; _5; ..; .. _0; ..]
         move ! (4 ∷ 9 ∷ []) $ fjoin ! $ owned ! u16 (Is u16) (uint-makes 𝓤 H A W w16) m (vm ∷ []) (refl, gm) $ fjoin ! $
         move ! (3 ∷ 0 ∷ []) $ fjoin ! $ move ! (1 ∷ 0 ∷ []) $ fjoin ! $
@@ -242,7 +255,8 @@ module _
         -- [what `events_due_on` asks; sheet; table; the list's token; list; m; _5; ..; .. _0; ..]
         calls-at ! fm (DueOn 𝓤 H A mem run) due-known (due-to r)
         (and-then ! (load ! (from ! (stop !)) (look ! 14 refl)) (and-then ! (load ! (from ! (stop !)) (look ! 12 refl))
-        (and-then ! (load ! (from ! (stop !)) (look ! 10 refl)) (and-then ! (load ! (from ! (stop !)) (look ! 6 refl)) (no-more !)))))
+        (and-then ! (load ! (from ! (stop !)) (look ! 10 refl))
+        (and-then ! (load ! (from ! (stop !)) (look ! 6 refl)) (no-more !)))))
         (λ w.
         use1 W (later (some (λ (d : Due). (Tokens ⊛ ‵ (D.the-row .own d (w ∷ []))) ⊛ raw (DueTold r d)))) (id⊢ 𝓤 _) $
         await ! tt $ pick ! (λ d.
@@ -260,14 +274,21 @@ module _
 
 -- ---- the walk taken to the contract
 module _
-    {M : Type 1} (𝓤 : URA M) (H : Heap 𝓤) (A : Atoms 𝓤) (W : Given 𝓤 H A) (mem : Memory → SProp 𝓤) (run : Routine → Fun 𝓤)
+    {M : Type 1} (𝓤 : URA M) (H : Heap 𝓤) (A : Atoms 𝓤) (W : Given 𝓤 H A) (mem : Memory → SProp 𝓤)
+    (run : Routine → Fun 𝓤)
     (𝓣 : Tables 𝓤 H) (said-known : Triple 𝓤 (𝓣 .C #dispatch·said) (Said 𝓤 H A mem run))
     (due-known : Triple 𝓤 (𝓣 .C #opening·events-due-on) (DueOn 𝓤 H A mem run)) where
   due-walks : Walks 𝓤 H A due.ended stayed (WpFn 𝓤 H (𝓣 .C) (𝓣 .Λ) code.function) (due.clauses 𝓤 H A mem run)
   due-walks =
       walked 𝓤 H A due.ended stayed (due.clauses 𝓤 H A mem run) (WpFn 𝓤 H (𝓣 .C) (𝓣 .Λ) code.function)
       (λ κs. (slice-vals, (slice-vals, (uint-vals w16, (slice-vals, tt)))))
-      (λ κs. (tells (named 0) (κs .0) u8, (tells (named 1) (κs .1 .0) u16, (uint-tells w16, (tells (named 2) (κs .1 .1 .0) R, tt)))))
+      (λ κs. (
+        tells (named 0) (κs .0) u8,
+        (
+          tells (named 1) (κs .1 .0) u16,
+          (uint-tells w16, (tells (named 2) (κs .1 .1 .0) R, tt)),
+        ),
+      ))
       (λ κs qs bounds a g are.
       via 𝓤 _ (fst∗ 𝓤 _ (emp 𝓤))
       (walk 𝓤 H A W mem run (κs .0) (κs .1 .0) (κs .1 .1 .0) (qs .0) (qs .1 .0) (qs .1 .1 .0)
@@ -281,7 +302,8 @@ module _
   due-meets =
       walk-meets 𝓤 H A due.ended stayed W
       (goes 0 tt u8, (goes 1 tt u16, (goes-none 𝓤 H A W 3 (λ _. u16) yes (λ κs x f. refl), (goes 2 tt R, tt))))
-      (due.clauses 𝓤 H A mem run) (WpFn 𝓤 H (𝓣 .C) (𝓣 .Λ) code.function) (WpFn-mono 𝓤 H (W .laws) 𝓣 code.function) due-walks
+      (due.clauses 𝓤 H A mem run) (WpFn 𝓤 H (𝓣 .C) (𝓣 .Λ) code.function)
+      (WpFn-mono 𝓤 H (W .laws) 𝓣 code.function) due-walks
 
 pub events-due-spec : {M : Type 1} → stated.statement M
 unfolding code.routine tablesOf

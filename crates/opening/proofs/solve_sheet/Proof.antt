@@ -2,7 +2,7 @@
 -- Assumes nothing.
 use denote.Ref.{now}
 use Rattle.opening.proofs.Prologue.{read-few}
-use Rattle.opening.proofs.Leaves.{solving-refused, solving-asked, solving-found, solving-none}
+use Rattle.opening.proofs.SolverLeaves.{solving-refused, solving-asked, solving-consistent, solving-none}
 use borrow.Author.Needs.{needs}
 use Rattle.opening.proofs.solve_sheet.Statement.{statement}
 use Rattle.opening.proofs.solve_sheet.Tie as tie
@@ -52,7 +52,7 @@ returns-2 c =
     let args = at-args .args in
     let read = at-read .read in
     let solve = at-solve .solve in
-    solving-found (now (args .sheet)) (now (args .table)) (read .result) (read .ensures)
+    solving-consistent (now (args .sheet)) (now (args .table)) (read .result) (read .ensures)
     (at-cell-count .cell-count .result) (at-cell-count .cell-count .ensures) (at-behind .behind .result)
     (at-behind .behind .ensures) (at-enum-told .enum-told .given .1) (solve .last .1 .0) (solve .result)
     (solve .ensures) _ (c .enum-told2 .given .1)

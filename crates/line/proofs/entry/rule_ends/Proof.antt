@@ -14,7 +14,8 @@ use Rattle.names.specs.Found.{placeOr}
 use Rattle.names.proofs.Finds.{found-place}
 use Rattle.line.specs.Answers.{partsOf, checkOf}
 use Rattle.line.specs.Tests.{eventOf, endsTests}
-use Rattle.line.proofs.Refusals.{ends-tests, ends-pass, check-refused, check-passed}
+use Rattle.line.proofs.Refusals.{check-refused, check-passed}
+use Rattle.line.proofs.RuleRefusals.{ends-tests, ends-pass}
 use Rattle.line.proofs.entry.rule_ends.Statement.{statement}
 use Rattle.line.proofs.entry.rule_ends.Tie as tie
 

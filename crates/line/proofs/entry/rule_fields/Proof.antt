@@ -10,8 +10,9 @@ use Rattle.text.specs.Lines.{fields, field}
 use Rattle.network.specs.declared.Network.{Network}
 use Rattle.line.specs.Answers.{endsAnswer, partsOf, kindFound, limitOf}
 use Rattle.line.specs.Tests.{kindOf}
-use Rattle.line.proofs.Refusals.{limit-fits, ends-entry, rule-count, rule-other, rule-ill}
-use Rattle.line.proofs.Refusals.{rule-beyond, kind-some, kind-none, limit-minutes, limit-over, limit-none}
+use Rattle.line.specs.declared.Limit.{Limit}
+use Rattle.line.proofs.RuleRefusals.{kind-some, kind-none, LimitSays, limit-says, limit-fits, ends-entry}
+use Rattle.line.proofs.RuleRefusals.{rule-count, rule-other, rule-ill, rule-beyond}
 use Rattle.line.proofs.entry.rule_fields.Statement.{statement}
 use Rattle.line.proofs.entry.rule_fields.Tie as tie
 
@@ -65,15 +66,18 @@ told-at d = d .before .before
 abbrev begun : tie.After-limit-of → tie.Start
 begun d = start (kind-at (told-at d))
 
-limit-is : (d : tie.After-limit-of) → limitOf (field 3 (parted (begun d))) ≡ d .limit-of .result
-limit-is d = ap limitOf (sym (d .before .field2 .ensures .text)) ∙ sym (d .limit-of .ensures)
+-- what the limit that was read says of its field
+says : (d : tie.After-limit-of) (x : Limit) → d .limit-of .result ≡ x → LimitSays (field 3 (parted (begun d))) x
+says d x e =
+    let read = ap limitOf (sym (d .before .field2 .ensures .text)) ∙ sym (d .limit-of .ensures) ∙ e in
+    rw read at (limit-says (field 3 (parted (begun d))))
 
 returns-3 : tie.Need-returns-3
 returns-3 c =
     let d = c .before .before in
     let fs = parted (begun d) in
     let told = told-at d in
-    let ill = limit-none (field 3 fs) (limit-is d ∙ c .enum-told2 .given .1) in
+    let ill = says d _ (c .enum-told2 .given .1) in
     sym (rw (rule-ill (begun d .args .sheet .now) (parts (begun d)) fs (told .before .found .given .0 .0) (five told)
     (kind told) ill))
 
@@ -82,7 +86,7 @@ returns-4 c =
     let d = c .before .before in
     let fs = parted (begun d) in
     let told = told-at d in
-    let over = limit-over (field 3 fs) (limit-is d ∙ c .enum-told3 .given .1) in
+    let over = says d _ (c .enum-told3 .given .1) in
     sym (rw (rule-beyond (begun d .args .sheet .now) (parts (begun d)) fs (told .before .found .given .0 .0) (five told)
     (kind told) (over .0) (over .1)))
 
@@ -100,7 +104,7 @@ returns-5 c =
     let k = told .before .found .given .0 .0 in
     let z = was-limit .given .0 .0 in
     let n = length (begun d .args .line .now) in
-    let limit = limit-minutes (field 3 fs) z (limit-is d ∙ was-limit .given .1) in
+    let limit = says d _ (was-limit .given .1) in
     c .rule-ends .ensures
     ∙ ap (λ (y : ℤ). endsAnswer sheet Γ (field3 .result .now) (field4 .result .now) (field5 .result .now) k y n)
     (limit-fits (field 3 fs) z limit)

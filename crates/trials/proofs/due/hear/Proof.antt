@@ -2,7 +2,6 @@
 -- one of at most sixteen. The measure is what is left of the signals. Assumes nothing.
 use Prim.Native.Nat.{_-_, _≤_}
 use native.Mathlib.Omega.{arith}
-use Rattle.network.specs.WellFormed.{WellFormed}
 use borrow.Author.Needs.{needs}
 use Rattle.trials.proofs.due.hear.Statement.{statement}
 use Rattle.trials.proofs.due.hear.Tie as tie

@@ -1,4 +1,4 @@
--- The upper bounds that remain, found one after the other: so many stand first in the array, and what remains are
+-- The upper bounds that remain, collected one after the other: so many stand first in the array, and what remains are
 -- they and the tightest of the keys from the next one on. Assumes nothing.
 use mathlib.Core.Path.{_≡_, refl, sym, _∙_, ap}
 use mathlib.Core.Bool.{true, false}
@@ -23,8 +23,8 @@ use Rattle.tighten.proofs.Regular.{Regular}
 use Rattle.tighten.proofs.Fronts.{front-few, front-more, front-nothing}
 use Rattle.tighten.proofs.Next.{leastFrom, none-left, least-lt, least-from, none-before, next-upper}
 
--- those of the keys below `key` are found, and `left` keys are to be tried
-pub record Found (xs : List Constraint) (count : ℕ) (uppers : List Constraint) (floor : ℕ) : Type 0 where
+-- those of the keys below `key` are collected, and `left` keys are to be tried
+pub record Collected (xs : List Constraint) (count : ℕ) (uppers : List Constraint) (floor : ℕ) : Type 0 where
   pub done : List Constraint
   pub key : ℕ
   pub left : ℕ
@@ -33,9 +33,9 @@ pub record Found (xs : List Constraint) (count : ℕ) (uppers : List Constraint)
   pub held : Front L.rules done count uppers
   pub rest : remaining xs ≡ done ++ gatherFrom key left (tightest xs)
 
-pub found-nothing : (xs uppers : List Constraint) → length uppers ≡ L.rules → Found xs 0 uppers 0
+pub collected-none : (xs uppers : List Constraint) → length uppers ≡ L.rules → Collected xs 0 uppers 0
 unfolding remaining
-found-nothing xs uppers h = record {
+collected-none xs uppers h = record {
   done = [];
   key = 0;
   left = ranks;
@@ -46,21 +46,21 @@ found-nothing xs uppers h = record {
 }
 
 module _ {xs : List Constraint} (r : Encodings) (regular : Each Regular xs noConstraint) (are : EncodingsAre xs r) where
-  module _ {count floor : ℕ} {uppers : List Constraint} (f : Found xs count uppers floor) (v : ℕ)
+  module _ {count floor : ℕ} {uppers : List Constraint} (f : Collected xs count uppers floor) (v : ℕ)
       (e : v ≡ leastBelow (r .count) (λ i. getD (r .list) i 0) floor) where
     is-least : v ≡ leastFrom r regular are (f .key)
     is-least = e ∙ ap (leastBelow (r .count) (λ i. getD (r .list) i 0)) (f .floor-is)
 
-    -- no number is left: all of them are found
-    all-found : v ≡ top → remaining xs ≡ f .done
-    all-found t =
+    -- no number is left: all of them are collected
+    all-collected : v ≡ top → remaining xs ≡ f .done
+    all-collected t =
         let silent = none-left r regular are (f .key) (sym is-least ∙ t) (f .key + f .left) in
         f .rest
         ∙ ap (λ (l : List Constraint). f .done ++ l) (gather-none (tightest xs) (f .key) (f .left) silent)
         ∙ append-nil (f .done)
 
-    pub found-all : v ≡ top → UppersAre (remaining xs) (record { fits = true; count = count; uppers = uppers })
-    found-all t = rw (all-found t) (record {
+    pub collected-all : v ≡ top → UppersAre (remaining xs) (record { fits = true; count = count; uppers = uppers })
+    collected-all t = rw (all-collected t) (record {
       fits = sym (le-leb (length (f .done)) L.rules (omega (arith, f .held .counted, front-few (f .held))));
       held = λ p. f .held;
     })
@@ -69,44 +69,44 @@ module _ {xs : List Constraint} (r : Encodings) (regular : Each Regular xs noCon
       other : leastFrom r regular are (f .key) ≡ top → ⊥
       other t = n (is-least ∙ t)
 
-      pub found-lt : v < top
-      found-lt = omega (arith, is-least, least-lt r regular are (f .key) other)
+      pub collected-lt : v < top
+      collected-lt = omega (arith, is-least, least-lt r regular are (f .key) other)
 
       -- what it stands for is the next, and these are behind it
       abbrev others : List Constraint
       others = gatherFrom (suc (v / perKey)) (ranks - suc (v / perKey)) (tightest xs)
 
-      found-next : remaining xs ≡ f .done ++ decoded v ∷ others
-      found-next =
+      collected-next : remaining xs ≡ f .done ++ decoded v ∷ others
+      collected-next =
           f .rest
           ∙ ap (λ (l : List Constraint). f .done ++ l)
           (gather-next (tightest xs) (f .key) (f .left) (v / perKey) (ranks - suc (v / perKey)) (decoded v)
           (rw is-least (least-from r regular are (f .key) other))
-          (omega (arith, found-lt, f .keys))
+          (omega (arith, collected-lt, f .keys))
           (rw is-least (none-before r regular are (f .key) other))
           (rw is-least (next-upper r regular are (f .key) other)))
 
       -- one more than the array holds
-      pub found-many : count ≡ L.rules
+      pub collected-many : count ≡ L.rules
           → UppersAre (remaining xs) (record { fits = false; count = count; uppers = uppers })
-      found-many c =
+      collected-many c =
           let l = length-append (f .done) (decoded v ∷ others) in
           record {
             fits =
-                rw found-next
+                rw collected-next
                 (sym (lt-leb (length (f .done ++ decoded v ∷ others)) L.rules (omega (arith, l, f .held .counted))));
             held = λ p. clash false p refl;
           }
 
       -- one more in the array
-      pub found-more : {x : Constraint} {floor′ : ℕ} → count < L.rules → x ≡ decoded v → floor′ ≡ behind v
-          → Found xs (count + 1) (set uppers count x) floor′
-      found-more {x} {floor′} h p q = record {
+      pub collected-more : {x : Constraint} {floor′ : ℕ} → count < L.rules → x ≡ decoded v → floor′ ≡ behind v
+          → Collected xs (count + 1) (set uppers count x) floor′
+      collected-more {x} {floor′} h p q = record {
         done = f .done ++ x ∷ [];
         key = suc (v / perKey);
         left = ranks - suc (v / perKey);
-        keys = omega (arith, found-lt);
+        keys = omega (arith, collected-lt);
         floor-is = omega arith;
         held = front-more x (f .held) h;
-        rest = rw (p, append-snoc) found-next;
+        rest = rw (p, append-snoc) collected-next;
       }
