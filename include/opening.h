@@ -1,58 +1,91 @@
-/* opening.h: opening tables for time lock procedures, called from C.
+/* opening.h: opening tables for time lock procedures, called from C (C99 or later) or C++.
  *
- * A sheet is ASCII text, each line ended by a line feed; its length is handed in, so no NUL is needed behind it. A table has one
- * minute for each event in each case: case 0 first, in each case the events in the order of the sheet. In memory a minute is two
- * bytes, low byte first. A sheet with n events and k signals has 2^k cases; its table takes 2 * n * 2^k bytes, and never more
- * than OPENING_TABLE_MOST.
+ * The sheet
+ *
+ * A sheet is ASCII text. Each line ends with a line feed, and one comma stands between its fields; there are no spaces. A CR
+ * is a byte like any other and so is refused: read files in binary mode. The length is handed in, so no NUL is needed behind
+ * the sheet, and one that is counted is refused. The lines stand in this order:
+ *
+ *     horizon,H     H from 0 to 10,080, the last minute
+ *     events,n      n from 1 to 16; then n lines, each a name: a letter from a to z, then at most seven letters from a to z
+ *                   or digits. The first event is the start
+ *     signals,k     k from 0 to 4; then k lines `letter,event`, the letter from a to z. An event gives at most one signal
+ *     rules,m       m from 0 to 64; then m lines `kind,from,to,limit,label`
+ *
+ * Of the difference minute(to) - minute(from) the kind `max` asks that it is at most the limit, `min` that it is at least the
+ * limit, and `fix` that it is the limit, which is from -10,080 to 10,080. A label is `-` for every case, or letters, each with
+ * `!` before it for false: `p!q` means the cases in which p is true and q false. A number is `0`, or digits without a leading
+ * zero, with `-` before it if it is negative.
+ *
+ * The table
+ *
+ * Signal i of the sheet (the first is 0) is true in case c where c >> i & 1: there are 2^k cases. A table has one minute for
+ * each event in each case. The minute of event u (the first is 0) in case c is the two bytes from byte 2 * (c * n + u) on, the
+ * low byte first. So a table takes 2 * n * 2^k bytes, and never more than OPENING_TABLE_MOST. n and k are those of the sheet's
+ * lines: no call hands them out.
+ *
+ * A table is good if, first, no minute is over the horizon and the start is at 0 in each case; second, each rule holds in each
+ * case of its label; and third, each event has the same minute in any two cases s and r, unless a signal that tells them apart
+ * has in s an earlier minute than the event: what is given at minute 5 may change what happens from minute 6 on.
  *
  * Signals heard are handed in as text: their letters, each with `!` before it if the signal said false (`p!q`), in any order;
- * nothing, or `-`, for none.
+ * nothing, or `-`, for none; no line feed and no NUL.
  *
- * Each function answers with one number that holds eight bytes. Read it with the functions at the end, each of which says for
- * which answers it is. Nothing has to be tested before a call: any bytes may be handed in as a sheet or as text, any length as a
- * table, any minute. The pointers must point to as many bytes as the length says, and must not be NULL, even if the length is 0.
- * Memory that a call writes into must not overlap what else it is handed. The library keeps no pointer and allocates nothing
- * that the caller must free.
+ * Calls and answers
+ *
+ * But for the pointers, nothing has to be tested before a call: any bytes may be handed in as a sheet or as text, any length
+ * as a table, any minute from 0 to 65,535 (C cuts a wider number before the call). A pointer must point to as many bytes as
+ * the length says, and must not be NULL, even if the length is 0. Memory that a call writes into must not overlap any other
+ * memory that is handed to the same call. The library keeps no pointer, has no memory of its own between calls and allocates
+ * nothing, so calls may run beside each other.
+ *
+ * Each function answers with a uint64_t of eight bytes. Read it with the functions at the end, each of which says for which
+ * answers it is:
  *
  *     byte     opening_solve        opening_judge       opening_due        opening_listing, opening_house
  *     0        number               number              number             number
  *     1, 2     line                 line                line               line
  *     3        minutes, low byte    word                events 0 to 7      bytes, low byte
  *     4        minutes, high byte   first               events 8 to 15     bytes, high byte
- *     5        kept                 second              0                  0
- *     6        kept                 third               0                  0
- *     7        kept                 0                   0                  0
+ *     5        reserved             second              0                  0
+ *     6        reserved             third               0                  0
+ *     7        reserved             0                   0                  0
  *
- * number is 0, or why the call was refused; line is a line of the sheet, low byte first; minutes and bytes are as many as were
- * written; word is 0 pass, 1 Late, 2 Rule or 3 Unheard; of the events due, event u is bit u of the two bytes; what is kept is for
- * a count of rounds, and 0 until there is one. Byte 0 is the lowest: (answer & 0xff) is the number. On a refusal all bytes from 3
- * on are 0.
+ * number is 0 if the call was not refused, or says why it was; line is a line of the sheet, low byte first; minutes and bytes
+ * are as many as were written; word is 0 pass, 1 Late, 2 Rule or 3 Unheard; of the events due, event u is bit u of the two
+ * bytes. Byte 0 is the lowest: (answer & 0xff) is the number. On a refusal bytes 3 and 4 are 0, and bytes 5 to 7 of all but
+ * the solver's. Those are reserved for a count of rounds, which may then stand beside number 13 too; they are 0 at present,
+ * so ask opening_number, and don't compare a whole answer of the solver.
  *
- * The number of a refusal, and its line (the first line is 1):
+ * The number of a refusal, and its line (the first line is 1; line 0 where none is to blame):
  *
- *      1  the sheet is longer than 4,096 bytes                                                     (line 0)
- *      2  the sheet ends where a line is due, or that line has no line feed
- *      3  another count of fields, another section word or kind
- *      4  an ill-formed number
- *      5  a well-formed number beyond its range
- *      6  an ill-formed name, letter or label
+ *      1  the sheet is longer than 4,096 bytes                                                             (line 0)
+ *      2  the sheet ends where a line is due, or that line has no line feed: the line that is due, if need be one
+ *         behind the last
+ *      3  the line has another count of fields, another section word or another kind than its place asks; so has an
+ *         empty line, but where a name is due
+ *      4  an ill-formed number: `010`, `-0`, `+5`, nothing
+ *      5  a well-formed number beyond its range, however many digits it has
+ *      6  an ill-formed name, letter or label; an empty line where a name is due
  *      7  a name or letter defined a second time, or an event that already gives a signal
  *      8  an event or letter that is not defined
- *      9  a label with one letter twice
- *     10  bytes behind the last rule
- *     11  judge, due, listing: not exactly n * 2^k minutes in the table, or an odd number of bytes (line 0)
- *     12  solver: the table has fewer than n * 2^k whole pairs of bytes;
- *         listing, house: out is shorter than the text                                             (line 0)
- *     13  solver: the sheet is in order, and no good table exists                                  (line 0)
- *     14  due: the table does not pass the judge                                                   (line 0)
- *     15  due: the text is not of that form, or a letter in it is undefined or stands twice        (line 0)
- *     16  due: no case has heard exactly this before the minute                                    (line 0)
- *     17  house: more than 64 rows would be left                                                   (line 0)
+ *      9  a label with one letter twice, with either sign
+ *     10  bytes behind the last rule, a lone line feed or a NUL too: the line that they begin
+ *     11  judge, due, listing: not exactly n * 2^k minutes in the table, or an odd number of bytes         (line 0)
+ *     12  solve: the table has fewer than n * 2^k whole pairs of bytes;
+ *         listing, house: out is shorter than the text                                                     (line 0)
+ *     13  solve: the sheet is in order, and no good table exists                                           (line 0)
+ *     14  due: the table does not pass the judge                                                           (line 0)
+ *     15  due: the text is not of the form above, or a letter in it is undefined or stands twice, with
+ *         either sign                                                                                      (line 0)
+ *     16  due: no case has heard exactly this before the minute                                            (line 0)
+ *     17  house: more than 64 rows would be left                                                           (line 0)
  *
- * Of the sheet, the first line at fault decides, on that line the lowest number. A fault of the sheet (1 to 10) comes before all
- * others. Then each call has its own, in this order: solver 12, 13; judge 11; due 11, 14, 15, 16; listing 11, 12; house 17, 12.
+ * 1 is tried before any line. Then the first line at fault decides, and on that line the lowest number. A fault of the sheet
+ * (1 to 10) comes before all others. Then each call has its own, in this order: solve 12, 13; judge 11; due 11, 14, 15, 16;
+ * listing 11, 12; house 17, 12.
  *
- * Example:
+ * Example, with <stdio.h> and <string.h>:
  *
  *     static const char text[] = "horizon,60\nevents,3\nstart\ncall\ndoor\nsignals,1\np,call\nrules,2\n"
  *                                "min,start,call,5,-\nmin,call,door,15,p\n";
@@ -65,22 +98,22 @@
  *         return 1;
  *     }
  *     for (unsigned i = 0; i < opening_minutes(solved); i++)
- *         printf("%u\n", table[2 * i] + 256u * table[2 * i + 1]);            prints 0, 5, 6 and 0, 5, 20
+ *         printf("%u\n", table[2 * i] + 256u * table[2 * i + 1]);            // prints 0, 5, 6 and 0, 5, 20
  *
  *     uint64_t judged = opening_judge(sheet, strlen(text), table, 2 * opening_minutes(solved));
  *     if (opening_number(judged) == 0 && opening_word(judged) == OPENING_PASS)
  *         puts("good");
  *
- *     const char *heard = "";                                                nothing so far
+ *     const char *heard = "";                                                // nothing so far
  *     for (uint16_t minute = 0; minute <= 60; minute++) {
  *         uint64_t due = opening_due(sheet, strlen(text), table, 2 * opening_minutes(solved), minute,
  *                                    (const uint8_t *)heard, strlen(heard));
  *         if (opening_number(due) != 0)
  *             return 1;
  *         if (opening_events(due) & 1u << 2)
- *             printf("door at %u\n", minute);                                20 where p is true, 6 where it is false
+ *             printf("door at %u\n", minute);                                // 20 where p is true, 6 where it is false
  *         if (opening_events(due) & 1u << 1)
- *             heard = caller_says_p() ? "p" : "!p";                          the call, heard from the next minute on
+ *             heard = caller_says_p() ? "p" : "!p";                          // the call, heard from the next minute on
  *     }
  */
 
@@ -106,51 +139,60 @@ enum { OPENING_PASS = 0, OPENING_LATE = 1, OPENING_RULE = 2, OPENING_UNHEARD = 3
 /* Writes the least good table of the sheet, that is the good table in which no event is later than in any other.
  *
  * Whole pairs are counted: of an odd table_len the last byte is not used. If the answer's number is 0, the first
- * 2 * opening_minutes(answer) bytes of the table are written, and all bytes behind them are unaltered; a table longer than needed
- * is no fault. Otherwise the table keeps all its contents. */
+ * 2 * opening_minutes(answer) bytes of the table are written, and all bytes behind them are unaltered; a table longer than
+ * needed is no fault. Otherwise the table keeps all its contents. */
 uint64_t opening_solve(const uint8_t *sheet, size_t sheet_len, uint8_t *table, size_t table_len);
 
 /* Says whether a table, whoever wrote it, is good for the sheet, and if not, what the first breach is.
  *
- * table_len is the exact number of bytes. Nothing is written. If the answer's number is 0, opening_word(answer) is
+ * table_len is the exact number of bytes of the table, and not that of the memory it stands in. Nothing is written. Number 0
+ * says only that there is a verdict; opening_word(answer) then is
  *
  *     OPENING_PASS     the table is good
  *     OPENING_LATE     in case opening_first, event opening_second is over the horizon, or is the start and not at 0
  *     OPENING_RULE     in case opening_first, rule opening_second of the sheet (the first is 0) is broken
  *     OPENING_UNHEARD  in case opening_first, event opening_third has another minute than in case opening_second, although no
- *                      signal that tells the two cases apart was given before it in case opening_first
+ *                      signal that tells the two cases apart has in case opening_first an earlier minute than that event
  *
- * Cases, events and rules are counted from 0. Numbers that a word does not use are 0. */
+ * All cells are tried for Late first, by case and then event; then all rules, by case and then rule; then the pairs of cases,
+ * by the first, the second and then the event. Numbers that a word does not use are 0. */
 uint64_t opening_judge(const uint8_t *sheet, size_t sheet_len, const uint8_t *table, size_t table_len);
 
 /* Says which events are due at a minute, for those who have heard exactly these signals before it.
  *
  * A signal is heard before the minute if its event was due at an earlier one: what is given at 5 is heard from 6 on. The text
- * must be all that has been heard, and no more. Nothing is written. If the answer's number is 0, bit u of opening_events(answer)
- * says whether event u is due; the first event of the sheet is 0. That nothing is due is no fault, nor is a minute over the
- * horizon.
+ * must be all that has been heard, and no more, in any order. Two cases that have heard the same get the same events. Nothing
+ * is written; table_len is as for the judge. If the answer's number is 0, bit u of opening_events(answer) says whether event u
+ * is due. That nothing is due is no fault, nor is a minute over the horizon.
  *
  * The judge is asked first, at each call: a table that it does not pass is answered with 14 at every minute, whatever has been
  * heard. opening_judge says what is wrong with such a table. */
 uint64_t opening_due(const uint8_t *sheet, size_t sheet_len, const uint8_t *table, size_t table_len, uint16_t minute,
                      const uint8_t *heard, size_t heard_len);
 
-/* Writes the listing of a table: a line with the events' names, then a line for each case.
+/* Writes the listing of a table: a line with `case`, then a comma and a name for each event; and for each case a line with
+ * `T` or `F` for each signal (`-` if there is none), then a comma and a minute for each event. Each line ends with a line feed.
  *
- * table_len is the exact number of bytes. The table need not be good: any minutes are listed. If the answer's number is 0, the
- * first opening_bytes(answer) bytes of out are the listing, with no NUL behind it, and all bytes behind them are unaltered; an
- * out longer than needed is no fault, and OPENING_LISTING_MOST bytes are always enough. Otherwise out keeps all its contents. */
+ * table_len is as for the judge. The table need not be good: any minutes are listed. If the answer's number is 0, the first
+ * opening_bytes(answer) bytes of out are the listing, with no NUL behind it, and all bytes behind them are unaltered; an out
+ * longer than needed is no fault, and OPENING_LISTING_MOST bytes are always enough. Otherwise out keeps all its contents. */
 uint64_t opening_listing(const uint8_t *sheet, size_t sheet_len, const uint8_t *table, size_t table_len, uint8_t *out,
                          size_t out_len);
 
-/* Writes the sheet in its house form: every rule as `max` rows, of those with equal ends and label the tightest, in one order.
+/* Writes the sheet in its house form: horizon, events and signals as they are, and every rule as `max` rows (a `min` with its
+ * ends swapped and its limit negated, a `fix` as both). Of rows with equal ends and label the one with the least limit stays.
+ * They are ordered by `from`, then `to`, in event order, then by the sum of the weights of the label's true letters (signal i
+ * has weight 1 << i), then of its false ones; a label's letters stand in signal order.
  *
- * The form is itself a sheet, with the same good tables. If the answer's number is 0, the first opening_bytes(answer) bytes of
- * out are the form, with no NUL behind it, and all bytes behind them are unaltered; an out longer than needed is no fault, and
- * OPENING_SHEET_MOST bytes are always enough. Otherwise out keeps all its contents. */
+ * The form is itself a sheet, with the same good tables, and it is its own form; its rules have other places than the sheet's,
+ * so a Rule verdict on the one does not name a rule of the other. Two sheets have the same form, byte for byte, if and only if
+ * horizons, events, signals and the rows that stay are equal. If the answer's number is 0, the first opening_bytes(answer)
+ * bytes of out are the form, with no NUL behind it, and all bytes behind them are unaltered; an out longer than needed is no
+ * fault, and OPENING_SHEET_MOST bytes are always enough. Otherwise out keeps all its contents. A sheet that has a good table
+ * may still be refused with 17. */
 uint64_t opening_house(const uint8_t *sheet, size_t sheet_len, uint8_t *out, size_t out_len);
 
-/* Of every answer: the number of the refusal, 0 if the call succeeded. */
+/* Of every answer: the number of the refusal, or 0. */
 static inline unsigned opening_number(uint64_t answer) { return (unsigned)(answer & 0xff); }
 
 /* Of every answer: the line of the refusal, 0 if there is none. */

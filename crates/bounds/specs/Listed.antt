@@ -25,12 +25,9 @@ upperWeight (negsuc w) = L.horizon + suc w
 abbrev pub lowerWeight : ℤ → ℕ
 lowerWeight w = upperWeight (negℤ w)
 
--- at most two bounds of each rule for a scenario, three numbers for each bound, and the greatest weight
-abbrev pub most : ℕ
-most = 2 * L.rules
-
+-- three numbers for each bound of each scenario; and the greatest weight
 abbrev pub room : ℕ
-room = L.cases * most * 3
+room = L.cases * L.bounds * 3
 
 abbrev pub heaviest : ℕ
 heaviest = 2 * L.horizon
@@ -53,7 +50,7 @@ module _ (lists : List ℕ) where
 abbrev pub listed : List ℕ → List ℕ → ℕ → List ℕ → ℕ → ℕ
 listed counts lists s row u =
     maxBelow (getD counts s 0)
-    (λ j. asking (target lists (s * most + j)) (source lists (s * most + j)) (weight lists (s * most + j)) row u)
+    (λ j. let b = s * L.bounds + j in asking (target lists b) (source lists b) (weight lists b) row u)
 
 -- one bound more for scenario s
 unfoldable pub countAfter : List ℕ → ℕ → List ℕ

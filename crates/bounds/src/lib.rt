@@ -1,24 +1,22 @@
 // Constraints as lists of difference bounds, one list for each scenario: how they are listed, and how a row of times
 // is raised by them. A bound asks that the time of its target is at least the time of its source and its weight, less
 // 10,080. The lists are lent: counts has how many bounds each scenario has, and lists has three numbers for each:
-// target, source, weight; those of scenario s stand from bound BOUNDS * s on.
+// target, source, weight; those of scenario s stand from bound Network::BOUNDS * s on.
 ghost use mathlib.Core.Path.{_≡_};
 ghost use Prim.Native.Nat.{ℕ, _+_, _-_, _*_, _≤_, _<_, max};
 ghost use lib.ListN.{length, getD};
 ghost use Rattle.network.specs.Limits as L;
 ghost use Rattle.network.specs.WellFormed.{InLimits};
 ghost use Rattle.rows.specs.Rows.{Few, Row};
-ghost use Rattle.bounds.specs.Listed.{most, room, Lists, Short, Bound, Added, listed};
+ghost use Rattle.bounds.specs.Listed.{room, Lists, Short, Bound, Added, listed};
 ghost use Rattle.bounds.specs.Listed.{upperWeight, lowerWeight, countAfter, listAfter};
 ghost use Rattle.bounds.specs.Halves.{Listable, UpperAdded, LowerAdded};
 use network::Constraint;
 use network::Network;
 use rows::Frame;
 
-// The most bounds of one scenario, two for each rule, and the numbers of all lists, three for each bound.
-pub const BOUNDS: usize = 2 * Network::RULES;
-
-pub const LIST: usize = Network::CASES * BOUNDS * 3;
+// The numbers of all lists, three for each bound of each scenario.
+pub const LIST: usize = Network::CASES * Network::BOUNDS * 3;
 
 // The weight that keeps `to` at most the limit after `from`: 10,080 less the limit, which never is negative.
 fn upper_weight(limit: i32) -> u16
@@ -46,13 +44,13 @@ fn append(
     lists: &mut [u16; LIST],
 )
     requires { ⌜ (s < L.cases) × (target < L.events) × (source < L.events) × (length (now counts) ≡ L.cases)
-        × (length (now lists) ≡ room) × (getD (now counts) s 0 < most) ⌝ }
+        × (length (now lists) ≡ room) × (getD (now counts) s 0 < L.bounds) ⌝ }
     ensures { λ _. ⌜ (now (counts .exit) ≡ countAfter (now (counts .entry)) s)
         × (now (lists .exit) ≡ listAfter (now (lists .entry))
-        (s * most + getD (now (counts .entry)) s 0) target source weight) ⌝ }
+        (s * L.bounds + getD (now (counts .entry)) s 0) target source weight) ⌝ }
 {
     let count = counts[s];
-    let e = (s * BOUNDS + count) * 3;
+    let e = (s * Network::BOUNDS + count) * 3;
     lists[e] = target as u16;
     lists[e + 1] = source as u16;
     lists[e + 2] = weight;
@@ -70,7 +68,7 @@ fn list_bound(
     lists: &mut [u16; LIST],
 )
     requires { ⌜ Bound frame c target source weight × Lists (frame .events) (now counts) (now lists)
-        × Short (most - 1) (now counts) ⌝ }
+        × Short (L.bounds - 1) (now counts) ⌝ }
     ensures { λ _. ⌜ Added c target source weight (now (counts .entry)) (now (lists .entry)) (now (counts .exit))
         (now (lists .exit)) (frame .scenarios) ⌝ }
 {
@@ -91,7 +89,8 @@ pub fn list_upper(
     counts: &mut [usize; Network::CASES],
     lists: &mut [u16; LIST],
 )
-    requires { ⌜ Listable frame c × Lists (frame .events) (now counts) (now lists) × Short (most - 1) (now counts) ⌝ }
+    requires { ⌜ Listable frame c × Lists (frame .events) (now counts) (now lists)
+        × Short (L.bounds - 1) (now counts) ⌝ }
     ensures { λ _. ⌜ UpperAdded frame c (now (counts .entry)) (now (lists .entry)) (now (counts .exit))
         (now (lists .exit)) ⌝ }
 {
@@ -106,7 +105,8 @@ pub fn list_lower(
     counts: &mut [usize; Network::CASES],
     lists: &mut [u16; LIST],
 )
-    requires { ⌜ Listable frame c × Lists (frame .events) (now counts) (now lists) × Short (most - 1) (now counts) ⌝ }
+    requires { ⌜ Listable frame c × Lists (frame .events) (now counts) (now lists)
+        × Short (L.bounds - 1) (now counts) ⌝ }
     ensures { λ _. ⌜ LowerAdded frame c (now (counts .entry)) (now (lists .entry)) (now (counts .exit))
         (now (lists .exit)) ⌝ }
 {
@@ -134,14 +134,14 @@ pub fn raise_by_bounds(
     row: &[u16; Network::EVENTS],
     o: &mut [u16; Network::EVENTS],
 )
-    requires { ⌜ (s < L.cases) × Lists L.events (now counts) (now lists) × Short most (now counts)
+    requires { ⌜ (s < L.cases) × Lists L.events (now counts) (now lists) × Short L.bounds (now counts)
         × Few L.horizon (now row) × (length (now o) ≡ L.events) × Few 32767 (now o) ⌝ }
     ensures { λ _. ⌜ Row (now (o .exit))
         (λ u. max (getD (now (o .entry)) u 0)
         (listed (now (counts .entry)) (now (lists .entry)) s (now (row .entry)) u)) ⌝ }
 {
     let count = counts[s];
-    let base = s * BOUNDS;
+    let base = s * Network::BOUNDS;
     let mut j: usize = 0;
     while j < count {
         let e = (base + j) * 3;

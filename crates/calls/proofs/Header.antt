@@ -17,7 +17,7 @@ use Rattle.calls.specs.Values.{Values}
 use Rattle.calls.specs.Lent.{asBytes, inPairs}
 use Rattle.calls.specs.Calls.{writtenValues, judgingTests, housed}
 use Rattle.calls.specs.Play.{dueValues}
-use Rattle.calls.specs.Bench.{benchJudgement, benchSolving, benchListed, benchDue, Said, nothingSaid}
+use Rattle.calls.specs.Bench.{benchJudgement, benchSolving, benchListed, benchDue, Finding, noFinding}
 use Rattle.calls.specs.Bench.{judgementValues, refused, packed, Small, packedCount}
 use Rattle.calls.specs.Answers.{Own, OneOf, Answers}
 use Rattle.calls.specs.Numbers.{bytes, judges, solves, lists, houses, plays, misnamedIn, unheardBy}
@@ -53,7 +53,7 @@ module _ {A : Type 0} {nothing : A} (sheet : List ℕ) (own : List Own) (v : Val
   line-few : v .line < 65536
   line-few = omega (arith, line-short sheet own v above a)
 
-judge-holds : (v : Values Said) → Small v → JudgeHolds (packed v) v
+judge-holds : (v : Values Finding) → Small v → JudgeHolds (packed v) v
 judge-holds v s = record {
   number = omega (arith, s .number);
   line = omega (arith, s .number, s .line);
@@ -84,7 +84,7 @@ module _ (sheet b : List ℕ) where
 
   refused-small : (r : _) → J.Refused r ≡ answer → Small (judgementValues answer)
   refused-small r e =
-      let a : Answers sheet (judges (bytes b)) nothingSaid (refused r) = rw (← e) at (numbers .bench-judge sheet b) in
+      let a : Answers sheet (judges (bytes b)) noFinding (refused r) = rw (← e) at (numbers .bench-judge sheet b) in
       rw (← e)
       (omega (
         arith,

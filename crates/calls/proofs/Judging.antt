@@ -24,7 +24,7 @@ use Rattle.calls.specs.Values.{Values}
 use Rattle.calls.specs.Call.{withoutLine}
 use Rattle.calls.specs.Lent.{Handed}
 use Rattle.calls.specs.Calls.{judgingTests, judging}
-use Rattle.calls.specs.Bench.{Said, nothingSaid, passed, breachValues, verdictValues, judgementValues}
+use Rattle.calls.specs.Bench.{Finding, noFinding, passed, breachValues, verdictValues, judgementValues}
 use Rattle.calls.specs.Answers.{Answers}
 use Rattle.calls.specs.Numbers.{judges}
 use Rattle.calls.specs.declared.Judgement.{Judgement}
@@ -35,7 +35,7 @@ use Rattle.calls.proofs.Matched.{answers-call}
 use Rattle.calls.proofs.Handed.{Rightly}
 
 -- the verdict of which these are the values
-abbrev verdictOf : Said → Verdict
+abbrev verdictOf : Finding → Verdict
 verdictOf x =
     cond (eqb (x .word) 0) Pass
     (cond (eqb (x .word) 1) (Breached (Late (x .first) (x .second)))
@@ -49,7 +49,7 @@ told-back (Breached (Rule s c)) = refl
 told-back (Breached (Unheard s r u)) = refl
 
 told-apart : (v w : Verdict) → verdictValues v ≡ verdictValues w → v ≡ w
-told-apart v w e = sym (told-back v) ∙ ap (λ (x : Values Said). verdictOf (x .value)) e ∙ told-back w
+told-apart v w e = sym (told-back v) ∙ ap (λ (x : Values Finding). verdictOf (x .value)) e ∙ told-back w
 
 -- a verdict is no refusal
 no-refusal : (v : Verdict) → (verdictValues v .number ≡ 0) × (verdictValues v .line ≡ 0)
@@ -69,9 +69,9 @@ module _ (sheet : List ℕ) (t : Handed) (right : Network → Type 0) where
   answer = judging sheet t
 
   pub judge-answers : (read sheet .outcome ≡ Accepted → Rightly t right net)
-      → Answers sheet (judges right) nothingSaid (judgementValues answer)
+      → Answers sheet (judges right) noFinding (judgementValues answer)
   judge-answers rightly =
-      answers-call judgementValues nothingSaid J.Refused (λ r. refl) sheet (judgingTests t)
+      answers-call judgementValues noFinding J.Refused (λ r. refl) sheet (judgingTests t)
       (λ Γ. J.Judged (verdict Γ (t .minutes))) (judges right) refl (λ a. (refl, rightly a .no, λ _. tt))
       (λ Γ. no-refusal (verdict Γ (t .minutes)))
 

@@ -37,48 +37,48 @@ benchDue sheet b m text = playing sheet (asBytes b) (λ Γ. dueText Γ (minutesO
 
 -- the values of a verdict: word 0 is a pass, 1 Late with case and event, 2 Rule with case and rule, 3 Unheard with both
 -- cases and the event
-pub record Said : Type 0 where
+pub record Finding : Type 0 where
   pub word : ℕ
   pub first : ℕ
   pub second : ℕ
   pub third : ℕ
 
-abbrev pub said : ℕ → ℕ → ℕ → ℕ → Said
-said w a b c = record { word = w; first = a; second = b; third = c }
+abbrev pub finding : ℕ → ℕ → ℕ → ℕ → Finding
+finding w a b c = record { word = w; first = a; second = b; third = c }
 
-abbrev pub nothingSaid : Said
-nothingSaid = said 0 0 0 0
+abbrev pub noFinding : Finding
+noFinding = finding 0 0 0 0
 
-abbrev pub refused : Refusal → Values Said
-refused r = turnedAway nothingSaid r
+abbrev pub refused : Refusal → Values Finding
+refused r = turnedAway noFinding r
 
-abbrev pub judged : ℕ → ℕ → ℕ → ℕ → Values Said
-judged w a b c = done (said w a b c)
+abbrev pub judged : ℕ → ℕ → ℕ → ℕ → Values Finding
+judged w a b c = done (finding w a b c)
 
-abbrev pub passed : Values Said
+abbrev pub passed : Values Finding
 passed = judged 0 0 0 0
 
-abbrev pub breachValues : Breach → Values Said
+abbrev pub breachValues : Breach → Values Finding
 breachValues (Late s u) = judged 1 s u 0
 breachValues (Rule s c) = judged 2 s c 0
 breachValues (Unheard s r u) = judged 3 s r u
 
-abbrev pub verdictValues : Verdict → Values Said
+abbrev pub verdictValues : Verdict → Values Finding
 verdictValues Pass = passed
 verdictValues (Breached b) = breachValues b
 
-abbrev pub judgementValues : Judgement → Values Said
+abbrev pub judgementValues : Judgement → Values Finding
 judgementValues (J.Judged v) = verdictValues v
 judgementValues (J.Refused r) = refused r
 
 -- the judge's answer for C, lowest byte first: number, line (two bytes), word, three values
-abbrev pub packed : Values Said → ℕ
+abbrev pub packed : Values Finding → ℕ
 packed v =
     let x = v .value in
     v .number + 256 * (v .line + 65536 * (x .word + 256 * (x .first + 256 * (x .second + 256 * x .third))))
 
 -- each value fits its bytes
-pub record Small (v : Values Said) : Type 0 where
+pub record Small (v : Values Finding) : Type 0 where
   pub number : v .number < 256
   pub line : v .line < 65536
   pub word : v .value .word < 4

@@ -3,7 +3,7 @@
 use mathlib.Core.Path.{_≡_}
 use Prim.Native.Nat.{ℕ, _/_, _%_, _^_}
 use Rattle.calls.specs.Values.{Values}
-use Rattle.calls.specs.Bench.{Said}
+use Rattle.calls.specs.Bench.{Finding}
 
 -- `answer >> s`, and its n lowest bits
 abbrev pub shifted : ℕ → ℕ → ℕ
@@ -40,7 +40,7 @@ abbrev pub openingThird : ℕ → ℕ
 openingThird a = bits a 48 8
 
 -- of the judge's answer; its last byte is 0
-pub record JudgeHolds (a : ℕ) (v : Values Said) : Type 0 where
+pub record JudgeHolds (a : ℕ) (v : Values Finding) : Type 0 where
   pub number : openingNumber a ≡ v .number
   pub line : openingLine a ≡ v .line
   pub word : openingWord a ≡ v .value .word

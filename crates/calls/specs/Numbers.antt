@@ -20,7 +20,7 @@ use Rattle.tighten.specs.Tightest.{remainingOf}
 use Rattle.canonical.specs.House.{houseText}
 use Rattle.calls.specs.Calls.{summary, noCounts, summaryValues, judgement, writtenValues, solving, listed}
 use Rattle.calls.specs.Calls.{housed}
-use Rattle.calls.specs.Bench.{nothingSaid, judgementValues, benchJudgement, benchSolving, benchListed, benchDue}
+use Rattle.calls.specs.Bench.{noFinding, judgementValues, benchJudgement, benchSolving, benchListed, benchDue}
 use Rattle.calls.specs.Play.{eventsDue, eventsDueOn, dueValues}
 use Rattle.calls.specs.Answers.{Own, Answers, Writes}
 
@@ -90,7 +90,7 @@ misnamedIn text Γ = WellWritten Γ text → ⊥
 
 pub record Numbers : Type 0 where
   pub reader : (sheet : List ℕ) → Answers sheet [] noCounts (summaryValues (summary sheet))
-  pub judge : (sheet t : List ℕ) → Answers sheet (judges (minutes t)) nothingSaid (judgementValues (judgement sheet t))
+  pub judge : (sheet t : List ℕ) → Answers sheet (judges (minutes t)) noFinding (judgementValues (judgement sheet t))
   pub solver : (sheet m : List ℕ) → Writes sheet (solves (length m)) writtenValues 0 (solving sheet m) m
   pub lister : (sheet t m : List ℕ) → Writes sheet (lists (minutes t) sheet t m) writtenValues 0 (listed sheet t m) m
   pub house-writer : (sheet m : List ℕ) → Writes sheet (houses sheet m) writtenValues 0 (housed sheet m) m
@@ -100,7 +100,7 @@ pub record Numbers : Type 0 where
       → Answers sheet (plays (minutes t) t (misnamedOn x) (unheardOn t m x)) 0 (dueValues (eventsDueOn sheet t m x))
   -- of the bench's calls; its house form is that of the public call
   pub bench-judge : (sheet b : List ℕ)
-      → Answers sheet (judges (bytes b)) nothingSaid (judgementValues (benchJudgement sheet b))
+      → Answers sheet (judges (bytes b)) noFinding (judgementValues (benchJudgement sheet b))
   pub bench-solver : (sheet b : List ℕ) → Writes sheet (solves (length b / 2)) writtenValues 0 (benchSolving sheet b) b
   pub bench-lister : (sheet b m : List ℕ)
       → Writes sheet (lists (bytes b) sheet (minutesOf b) m) writtenValues 0 (benchListed sheet b m) m

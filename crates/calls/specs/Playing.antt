@@ -36,7 +36,7 @@ module _ (sheet t : List ℕ) where
     -- so playing s from minute 0 with what it has heard so far gives its row: each event once, at its minute
     pub row : (m s : ℕ) → s < scenarios Γ → RowAt Γ t m s (answer m (historyOf Γ t m s))
     -- and what it has heard so far is told by the answers before: a signal is heard when its event was due its
-    -- reaction ago or sooner
+    -- reaction ago or earlier
     pub heard : (m s p : ℕ) → s < scenarios Γ → p < Γ .signals
         → (known Γ t s p m ≡ true)
         ↔ ((i : ℕ) × (i + reaction Γ p ≤ m) × (truth (answer i (historyOf Γ t i s) .value) (observation Γ p) ≡ true))

@@ -16,8 +16,8 @@ ghost use Rattle.network.specs.declared.Network.{Network};
 ghost use Rattle.checker.specs.Verdict.{doesHold, firstLate, firstBroken, firstUnheard, verdictOf, verdict};
 ghost use Rattle.checker.specs.Plain as P;
 
-// Point 1: over the horizon, or an origin that is not at 0. Point 2: a constraint that its scenario covers. Point 3:
-// an event whose time differs between two scenarios before anything that differs is known.
+// Point 1: over the horizon, or an origin that is not at 0. Point 2: a constraint that covers the scenario and does
+// not hold in it. Point 3: an event whose time differs between two scenarios before anything that differs is known.
 pub enum Breach {
     Late {
         scenario: usize,

@@ -15,26 +15,26 @@ use Rattle.network.specs.Build.{letter}
 use Rattle.network.specs.declared.Network.{Network}
 use Rattle.names.specs.Defined.{allDefined}
 use Rattle.dispatch.specs.Heard.{lettersOf, Lettered, recordsFrom}
-use Rattle.dispatch.specs.Said.{place, withBit, saidOn, standsOn, added, saidFrom, recordsOn}
+use Rattle.dispatch.specs.Said.{bitOf, withBit, saidOn, standsOn, withHeard, saidFrom, recordsOn}
 use Rattle.dispatch.specs.declared.Heard.{Heard}
 use Rattle.dispatch.proofs.Bits.{add-bit}
 use Rattle.dispatch.proofs.History.{isDefined, found-defined}
 use Rattle.dispatch.proofs.Letters.{nothing-said, said-with}
-use Rattle.dispatch.proofs.Fold.{free, fits, free-unsaid, added-free, fits-added, fits-first}
+use Rattle.dispatch.proofs.Fold.{free, fits, free-unsaid, withHeard-free, fits-withHeard, fits-first}
 
 abbrev weights : List Heard → ℕ
 weights [] = 0
-weights (h ∷ hs) = 2 ^ place (h .letter) (h .truth) + weights hs
+weights (h ∷ hs) = 2 ^ bitOf (h .letter) (h .truth) + weights hs
 
-with-free : (x l : ℕ) → free x l ≡ true → (v : Bool) → withBit x (place l v) ≡ x + 2 ^ place l v
-with-free x l f v = add-bit x (place l v) (free-unsaid x l f v)
+with-free : (x l : ℕ) → free x l ≡ true → (v : Bool) → withBit x (bitOf l v) ≡ x + 2 ^ bitOf l v
+with-free x l f v = add-bit x (bitOf l v) (free-unsaid x l f v)
 
 pub said-weights : (x : ℕ) (hs : List Heard) → fits x (lettersOf hs) ≡ true → saidFrom x hs ≡ x + weights hs
 said-weights x [] w = omega arith
 said-weights x (h ∷ hs) w =
     let f = fits-first x (h .letter) (lettersOf hs) w in
-    let rest = said-weights (added x h) hs (fits-added x h f (lettersOf hs) ∙ w) in
-    omega (arith, rest, added-free x h f, with-free x (h .letter) f (h .truth))
+    let rest = said-weights (withHeard x h) hs (fits-withHeard x h f (lettersOf hs) ∙ w) in
+    omega (arith, rest, withHeard-free x h f, with-free x (h .letter) f (h .truth))
 
 module _ (Γ : Network) where
   -- the records that x names of the n signals from i on
@@ -43,7 +43,7 @@ module _ (Γ : Network) where
 
   -- the weight of the record that x names of the letter l
   abbrev weight : ℕ → ℕ → ℕ
-  weight x l = cond (standsOn x l) (2 ^ place l (saidOn x l true)) 0
+  weight x l = cond (standsOn x l) (2 ^ bitOf l (saidOn x l true)) 0
 
   weights-from : (x i n : ℕ)
       → weights (named-from x i (suc n)) ≡ weight x (letter Γ i) + weights (named-from x (suc i) n)
@@ -51,7 +51,7 @@ module _ (Γ : Network) where
     where
       by : (s v : Bool) (hs : List Heard)
           → weights (cond s (record { letter = letter Γ i; truth = v } ∷ hs) hs)
-          ≡ cond s (2 ^ place (letter Γ i) v) 0 + weights hs
+          ≡ cond s (2 ^ bitOf (letter Γ i) v) 0 + weights hs
       by true v hs = refl
       by false v hs = omega arith
 
@@ -67,13 +67,13 @@ module _ (Γ : Network) where
     -- one record more, of the signal q
     module _ (x q : ℕ) (v : Bool) (h : q < Γ .signals) (f : free x (letter Γ q) ≡ true) where
       abbrev more : ℕ
-      more = withBit x (place (letter Γ q) v)
+      more = withBit x (bitOf (letter Γ q) v)
 
       said-of : (p : ℕ) (w : Bool) → p < Γ .signals
           → saidOn more (letter Γ p) w ≡ (eqb (letter Γ q) (letter Γ p) && Bool·beq v w) || saidOn x (letter Γ p) w
       said-of p w k = said-with x (letter Γ q) v (lettered .lower q h) (letter Γ p) w (lettered .lower p k)
 
-      weight-own : weight more (letter Γ q) ≡ 2 ^ place (letter Γ q) v
+      weight-own : weight more (letter Γ q) ≡ 2 ^ bitOf (letter Γ q) v
       weight-own =
           let l = letter Γ q in
           let none = free-unsaid x l f in
@@ -81,8 +81,8 @@ module _ (Γ : Network) where
         where
           by : (v : Bool)
               → cond ((Bool·beq v true || false) || (Bool·beq v false || false))
-              (2 ^ place (letter Γ q) (Bool·beq v true || false)) 0
-              ≡ 2 ^ place (letter Γ q) v
+              (2 ^ bitOf (letter Γ q) (Bool·beq v true || false)) 0
+              ≡ 2 ^ bitOf (letter Γ q) v
           by true = refl
           by false = refl
 
@@ -102,7 +102,7 @@ module _ (Γ : Network) where
           )
 
       named-more : (i n : ℕ) → i ≤ q → q < i + n → i + n ≤ Γ .signals
-          → weights (named-from more i n) ≡ weights (named-from x i n) + 2 ^ place (letter Γ q) v
+          → weights (named-from more i n) ≡ weights (named-from x i n) + 2 ^ bitOf (letter Γ q) v
       named-more i zero a b k = absurd (omega arith)
       named-more i (suc n) a b k = elim (eq-or-ne q i) [
         | inl e ↦ rw (← e) (omega (
@@ -133,8 +133,9 @@ module _ (Γ : Network) where
         let ds = and-true (isDefined Γ (h .letter)) (allDefined (Γ .signals) (Γ .letters) ls) d in
         let s = found-defined Γ (h .letter) (ds .0) in
         let g = rw (← s .is) at f in
-        let one : added x h ≡ withBit x (place (letter Γ (s .signal)) (h .truth)) = rw (s .is) (added-free x h f) in
-        named-again (added x h) hs (ds .1) (fits-added x h f ls ∙ w)
+        let one : withHeard x h ≡ withBit x (bitOf (letter Γ (s .signal)) (h .truth)) =
+        rw (s .is) (withHeard-free x h f) in
+        named-again (withHeard x h) hs (ds .1) (fits-withHeard x h f ls ∙ w)
         (rw one (omega (
           arith,
           e,

@@ -21,7 +21,7 @@ use Rattle.network.specs.Strategy.{time, knownFrom}
 use Rattle.network.specs.declared.Network.{Network}
 use Rattle.names.proofs.Finds.{finds-on, finds-at, finds-end}
 use Rattle.dispatch.specs.Due.{asHeard, dueIn, hasHeard}
-use Rattle.dispatch.specs.Said.{saidOn, standsOn, asSaid, added, saidFrom}
+use Rattle.dispatch.specs.Said.{saidOn, standsOn, asSaid, withHeard, saidFrom}
 use Rattle.dispatch.specs.Said.{recordsOn, wellNamedOn, dueOn}
 use Rattle.dispatch.specs.declared.Dispatched.the-variants.{Events, Misnamed, NeverHeard}
 use Rattle.dispatch.proofs.Bits.{one-shifted, mask-small}
@@ -94,7 +94,7 @@ naming-start Γ x = record {
 module _ {Γ : Network} {x named p : ℕ} (here : Naming Γ x named p) where
   module _ (h : p < Γ .signals) where
     pub naming-one : standsOn x (letter Γ p) ≡ true
-        → Naming Γ x (added named (record { letter = letter Γ p; truth = saidOn x (letter Γ p) true })) (p + 1)
+        → Naming Γ x (withHeard named (record { letter = letter Γ p; truth = saidOn x (letter Γ p) true })) (p + 1)
     naming-one s =
         record { within = omega arith; rest = λ n e. rw add-one (rw s at (here .rest (suc n) (omega arith))) }
 

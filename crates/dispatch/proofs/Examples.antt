@@ -12,7 +12,7 @@ use Rattle.network.specs.Build.{empty, withEvent, withSignal}
 use Rattle.network.specs.Strategy.{reaction}
 use Rattle.network.specs.declared.Network.{Network}
 use Rattle.dispatch.specs.Due.{due}
-use Rattle.dispatch.specs.Said.{added, saidFrom, dueOn}
+use Rattle.dispatch.specs.Said.{withHeard, saidFrom, dueOn}
 use Rattle.dispatch.specs.declared.Heard.{Heard}
 use Rattle.dispatch.specs.declared.Dispatched.{Dispatched}
 use Rattle.dispatch.specs.declared.Dispatched.the-variants.{Events, Misnamed, NeverHeard}
@@ -113,5 +113,5 @@ masks =
     (47 ∷ 17 ∷ 26 ∷ 31 ∷ 58 ∷ 62 ∷ 63 ∷ 64 ∷ []))
 
 pub played : all questions && (ends && masks) ≡ true
-unfolding reaction due added dueOn
+unfolding reaction due withHeard dueOn
 played = refl

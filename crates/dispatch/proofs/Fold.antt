@@ -1,6 +1,6 @@
 -- The mask of a list, one record at a time, from any mask x. The letters of the list fit x where each is one of a to
 -- z that does not stand in x, and none stands twice. One record more whose letter is free leaves the rest to fit as
--- it did (`fits-added`), and one whose letter is not sets the bit `misnamed`. So by induction that bit is clear at
+-- it did (`fits-withHeard`), and one whose letter is not sets the bit `misnamed`. So by induction that bit is clear at
 -- the end just where it was in x and the list fits (`named-said`), and then the mask says what x said and what the
 -- list says (`said-more`); from the empty mask, what the list says (`said-says`). Assumes nothing.
 use mathlib.Core.Path.{_≡_, refl, sym, _∙_}
@@ -18,7 +18,7 @@ use Rattle.prelude.proofs.Tests.{either, and-true, eqb-same}
 use Rattle.network.specs.Scenario.{truth}
 use Rattle.names.specs.Names.{isLetter}
 use Rattle.dispatch.specs.Heard.{lettersOf, says}
-use Rattle.dispatch.specs.Said.{place, misnamed, withBit, saidOn, standsOn, added, saidFrom}
+use Rattle.dispatch.specs.Said.{bitOf, misnamed, withBit, saidOn, standsOn, withHeard, saidFrom}
 use Rattle.dispatch.specs.declared.Heard.{Heard}
 use Rattle.dispatch.proofs.Letters.{nothing-said, unsaid, truth-withBit, said-with, misnamed-with}
 
@@ -62,7 +62,7 @@ module _ (x l : ℕ) (f : free x l ≡ true) where
 -- what is free once the letter l stands
 module _ (x l : ℕ) (v : Bool) (e : isLetter l ≡ true) where
   abbrev more : ℕ
-  more = withBit x (place l v)
+  more = withBit x (bitOf l v)
 
   free-with : (k : ℕ) → free more k ≡ free x k && not (eqb l k)
   free-with k =
@@ -84,33 +84,33 @@ module _ (x l : ℕ) (v : Bool) (e : isLetter l ≡ true) where
 
 -- one record more
 module _ (x : ℕ) (h : Heard) where
-  pub added-other : free x (h .letter) ≡ false → added x h ≡ withBit x misnamed
-  unfolding added
-  added-other n = rw n
+  pub withHeard-other : free x (h .letter) ≡ false → withHeard x h ≡ withBit x misnamed
+  unfolding withHeard
+  withHeard-other n = rw n
 
-  misnamed-set : free x (h .letter) ≡ false → truth (added x h) misnamed ≡ true
+  misnamed-set : free x (h .letter) ≡ false → truth (withHeard x h) misnamed ≡ true
   misnamed-set n =
-      rw (added-other n) (truth-withBit x misnamed misnamed (omega arith) (omega arith)
+      rw (withHeard-other n) (truth-withBit x misnamed misnamed (omega arith) (omega arith)
       ∙ or-true-right (truth x misnamed))
 
   module _ (f : free x (h .letter) ≡ true) where
-    pub added-free : added x h ≡ withBit x (place (h .letter) (h .truth))
-    unfolding added
-    added-free = rw f
+    pub withHeard-free : withHeard x h ≡ withBit x (bitOf (h .letter) (h .truth))
+    unfolding withHeard
+    withHeard-free = rw f
 
     letter : isLetter (h .letter) ≡ true
     letter = free-letter x (h .letter) f
 
-    misnamed-kept : truth (added x h) misnamed ≡ truth x misnamed
-    misnamed-kept = rw added-free (misnamed-with x (h .letter) (h .truth) letter)
+    misnamed-kept : truth (withHeard x h) misnamed ≡ truth x misnamed
+    misnamed-kept = rw withHeard-free (misnamed-with x (h .letter) (h .truth) letter)
 
-    said-added : (l : ℕ) (v : Bool) → isLetter l ≡ true
-        → saidOn (added x h) l v ≡ (eqb (h .letter) l && Bool·beq (h .truth) v) || saidOn x l v
-    said-added l v e = rw added-free (said-with x (h .letter) (h .truth) letter l v e)
+    said-withHeard : (l : ℕ) (v : Bool) → isLetter l ≡ true
+        → saidOn (withHeard x h) l v ≡ (eqb (h .letter) l && Bool·beq (h .truth) v) || saidOn x l v
+    said-withHeard l v e = rw withHeard-free (said-with x (h .letter) (h .truth) letter l v e)
 
-    pub fits-added : (ls : List ℕ) → fits (added x h) ls ≡ fits x (h .letter ∷ ls)
-    fits-added ls =
-        rw (added-free, every-free x (h .letter) (h .truth) letter ls, f)
+    pub fits-withHeard : (ls : List ℕ) → fits (withHeard x h) ls ≡ fits x (h .letter ∷ ls)
+    fits-withHeard ls =
+        rw (withHeard-free, every-free x (h .letter) (h .truth) letter ls, f)
         (and-assoc (every (free x) ls) (not (isIn (h .letter) ls)) (distinct ls))
 
 -- the bit `misnamed` after the list
@@ -118,9 +118,9 @@ pub named-said : (x : ℕ) (hs : List Heard) → not (truth (saidFrom x hs) misn
     && fits x (lettersOf hs)
 named-said x [] = sym (and-true-right (not (truth x misnamed)))
 named-said x (h ∷ hs) =
-    named-said (added x h) hs
+    named-said (withHeard x h) hs
     ∙ elim (either (free x (h .letter))) [
-      | inl f ↦ rw (misnamed-kept x h f, fits-added x h f (lettersOf hs))
+      | inl f ↦ rw (misnamed-kept x h f, fits-withHeard x h f (lettersOf hs))
       | inr n ↦ rw (misnamed-set x h n, n) (sym (and-false-right (not (truth x misnamed))))
     ]
 
@@ -137,8 +137,9 @@ said-more x [] l v e w = sym (or-false-right (saidOn x l v))
 said-more x (h ∷ hs) l v e w =
     let ls = lettersOf hs in
     let f = fits-first x (h .letter) ls w in
-    said-more (added x h) hs l v e (fits-added x h f ls ∙ w)
-    ∙ rw (said-added x h f l v e) (or-swap (eqb (h .letter) l && Bool·beq (h .truth) v) (saidOn x l v) (says hs l v))
+    said-more (withHeard x h) hs l v e (fits-withHeard x h f ls ∙ w)
+    ∙ rw (said-withHeard x h f l v e)
+    (or-swap (eqb (h .letter) l && Bool·beq (h .truth) v) (saidOn x l v) (says hs l v))
 
 -- a letter stands in the list with one truth or the other
 says-either : (hs : List Heard) (l : ℕ) → says hs l true || says hs l false ≡ isIn l (lettersOf hs)

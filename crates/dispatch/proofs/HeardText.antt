@@ -20,11 +20,11 @@ use Rattle.names.specs.Names.{Literal, isLetter, literals}
 use Rattle.dispatch.specs.Heard.{noHeard, WellNamed, Lettered}
 use Rattle.dispatch.specs.History.{History}
 use Rattle.dispatch.specs.Due.{due}
-use Rattle.dispatch.specs.Said.{misnamed, withBit, added, saidFrom, dueOn}
+use Rattle.dispatch.specs.Said.{misnamed, withBit, withHeard, saidFrom, dueOn}
 use Rattle.dispatch.specs.HeardText.{isHeard, recordOf, heardIn, WellWritten, dueText, saidText}
 use Rattle.dispatch.specs.declared.Dispatched.the-variants.{Misnamed, NeverHeard}
 use Rattle.dispatch.proofs.Answers.{due-misnamed, due-never}
-use Rattle.dispatch.proofs.Fold.{added-other}
+use Rattle.dispatch.proofs.Fold.{withHeard-other}
 use Rattle.dispatch.proofs.Mask.{due-said}
 
 -- the mask of a text of the form, and of any other
@@ -49,7 +49,7 @@ module _ (Γ : Network) (σ : List ℕ) (m : ℕ) (lettered : Lettered Γ) where
 
   misnamed-alone : dueOn Γ σ m (withBit 0 misnamed) ≡ Misnamed
   misnamed-alone =
-      ap (dueOn Γ σ m) (sym (added-other 0 noHeard refl)) ∙ due-said Γ σ m (noHeard ∷ []) lettered
+      ap (dueOn Γ σ m) (sym (withHeard-other 0 noHeard refl)) ∙ due-said Γ σ m (noHeard ∷ []) lettered
       ∙ due-misnamed Γ σ m lettered (noHeard ∷ []) .1 unnamed
 
   module _ (text : List ℕ) where
@@ -125,7 +125,7 @@ module _ {t : List ℕ} {x : ℕ} {bang : Bool} {i : ℕ} (here : Saying t x ban
   }
 
   pub saying-letter : i < length t → (getD t i 0 ≡ 33 → ⊥)
-      → Saying t (added x (record { letter = getD t i 0; truth = not bang })) (eqb (getD t i 0) 33) (i + 1)
+      → Saying t (withHeard x (record { letter = getD t i 0; truth = not bang })) (eqb (getD t i 0) 33) (i + 1)
   saying-letter h n = record {
     within = omega arith;
     rest = ap (λ (ls : List Literal). saidFrom x (map recordOf ls))

@@ -1,5 +1,5 @@
 -- Letters, which lie between two bytes, and their bits in a mask. Two letters with truths have one bit only where both
--- agree, and none has the bit `misnamed` (`place-same`, `place-lt`); so a letter that is added with a truth is said
+-- agree, and none has the bit `misnamed` (`bitOf-same`, `bitOf-lt`); so a letter that is added with a truth is said
 -- with it, and all else is as it was (`said-with`, `misnamed-with`). The empty mask says nothing. Assumes nothing.
 use mathlib.Core.Path.{_≡_, sym, _∙_}
 use mathlib.Core.Logic.{_⊎_, inl, inr}
@@ -14,7 +14,7 @@ use Rattle.prelude.proofs.Tests.{or-false, eqb-same}
 use Rattle.network.specs.Scenario.{truth}
 use Rattle.names.specs.Names.{isLetter}
 use Rattle.names.proofs.Tokens.{letter-bounds, letter-low, letter-from}
-use Rattle.dispatch.specs.Said.{place, misnamed, withBit, saidOn, standsOn}
+use Rattle.dispatch.specs.Said.{bitOf, misnamed, withBit, saidOn, standsOn}
 use Rattle.dispatch.proofs.Bits.{truth-or, truth-power}
 
 pub letter-between : (l : ℕ) → 97 ≤ l → l ≤ 122 → isLetter l ≡ true
@@ -25,30 +25,30 @@ not-letter l (inl h) = letter-low l h
 not-letter l (inr h) = letter-from l (omega arith) ∙ lt-leb l 122 h
 
 -- each has a bit for either truth
-pub place-lt : (l : ℕ) (v : Bool) → isLetter l ≡ true → place l v < misnamed
-place-lt l true e = let h = letter-bounds l e in omega arith
-place-lt l false e = let h = letter-bounds l e in omega arith
+pub bitOf-lt : (l : ℕ) (v : Bool) → isLetter l ≡ true → bitOf l v < misnamed
+bitOf-lt l true e = let h = letter-bounds l e in omega arith
+bitOf-lt l false e = let h = letter-bounds l e in omega arith
 
-pub place-fits : (l : ℕ) (v : Bool) → isLetter l ≡ true → place l v < 64
-place-fits l v e = omega (arith, place-lt l v e)
+pub bitOf-fits : (l : ℕ) (v : Bool) → isLetter l ≡ true → bitOf l v < 64
+bitOf-fits l v e = omega (arith, bitOf-lt l v e)
 
-pub place-same : (l k : ℕ) (v w : Bool) → isLetter l ≡ true → isLetter k ≡ true
-    → eqb (place l v) (place k w) ≡ eqb l k && Bool·beq v w
-place-same l k v w e f = go v w (letter-bounds l e) (letter-bounds k f)
+pub bitOf-same : (l k : ℕ) (v w : Bool) → isLetter l ≡ true → isLetter k ≡ true
+    → eqb (bitOf l v) (bitOf k w) ≡ eqb l k && Bool·beq v w
+bitOf-same l k v w e f = go v w (letter-bounds l e) (letter-bounds k f)
   where
-    go : (v w : Bool) → (97 ≤ l) × (l ≤ 122) → (97 ≤ k) × (k ≤ 122) → eqb (place l v) (place k w) ≡ eqb l k
+    go : (v w : Bool) → (97 ≤ l) × (l ≤ 122) → (97 ≤ k) × (k ≤ 122) → eqb (bitOf l v) (bitOf k w) ≡ eqb l k
         && Bool·beq v w
     go true true h i =
-        eqb-same (place l true) (place k true) l k (λ q. omega arith) (λ q. omega arith)
+        eqb-same (bitOf l true) (bitOf k true) l k (λ q. omega arith) (λ q. omega arith)
         ∙ sym (and-true-right (eqb l k))
     go false false h i =
-        eqb-same (place l false) (place k false) l k (λ q. omega arith) (λ q. omega arith)
+        eqb-same (bitOf l false) (bitOf k false) l k (λ q. omega arith) (λ q. omega arith)
         ∙ sym (and-true-right (eqb l k))
-    go true false h i = ne-eqb (place l true) (place k false) (λ q. omega arith) ∙ sym (and-false-right (eqb l k))
-    go false true h i = ne-eqb (place l false) (place k true) (λ q. omega arith) ∙ sym (and-false-right (eqb l k))
+    go true false h i = ne-eqb (bitOf l true) (bitOf k false) (λ q. omega arith) ∙ sym (and-false-right (eqb l k))
+    go false true h i = ne-eqb (bitOf l false) (bitOf k true) (λ q. omega arith) ∙ sym (and-false-right (eqb l k))
 
 pub nothing-said : (l : ℕ) (v : Bool) → saidOn 0 l v ≡ false
-nothing-said l v = rw (zero-div (2 ^ place l v))
+nothing-said l v = rw (zero-div (2 ^ bitOf l v))
 
 -- what does not stand is not said with either truth
 pub unsaid : (x l : ℕ) (v : Bool) → standsOn x l ≡ false → saidOn x l v ≡ false
@@ -61,15 +61,15 @@ truth-withBit x j k h l = rw (truth-or, truth-power j k h l)
 
 module _ (x l : ℕ) (v : Bool) (e : isLetter l ≡ true) where
   pub said-with : (k : ℕ) (w : Bool) → isLetter k ≡ true
-      → saidOn (withBit x (place l v)) k w ≡ (eqb l k && Bool·beq v w) || saidOn x k w
+      → saidOn (withBit x (bitOf l v)) k w ≡ (eqb l k && Bool·beq v w) || saidOn x k w
   said-with k w f =
-      let a = place-lt l v e in
-      let b = place-lt k w f in
-      truth-withBit x (place l v) (place k w) (omega arith) (omega arith)
-      ∙ rw (place-same l k v w e f) (or-comm (saidOn x k w) (eqb l k && Bool·beq v w))
+      let a = bitOf-lt l v e in
+      let b = bitOf-lt k w f in
+      truth-withBit x (bitOf l v) (bitOf k w) (omega arith) (omega arith)
+      ∙ rw (bitOf-same l k v w e f) (or-comm (saidOn x k w) (eqb l k && Bool·beq v w))
 
-  pub misnamed-with : truth (withBit x (place l v)) misnamed ≡ truth x misnamed
+  pub misnamed-with : truth (withBit x (bitOf l v)) misnamed ≡ truth x misnamed
   misnamed-with =
-      let a = place-lt l v e in
-      truth-withBit x (place l v) misnamed (omega arith) (omega arith)
-      ∙ rw (ne-eqb (place l v) misnamed (λ q. omega arith)) (or-false-right (truth x misnamed))
+      let a = bitOf-lt l v e in
+      truth-withBit x (bitOf l v) misnamed (omega arith) (omega arith)
+      ∙ rw (ne-eqb (bitOf l v) misnamed (λ q. omega arith)) (or-false-right (truth x misnamed))

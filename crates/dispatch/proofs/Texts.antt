@@ -7,7 +7,7 @@ use mathlib.Core.List.{List, [], _∷_, map}
 use Prim.Native.Nat.{ℕ, _+_, _^_}
 use Prim.Native.String.{String}
 use Rattle.prelude.specs.Bytes.{ascii}
-use Rattle.dispatch.specs.Said.{misnamed, added}
+use Rattle.dispatch.specs.Said.{misnamed, withHeard}
 use Rattle.dispatch.specs.HeardText.{isHeard, heardIn, saidText}
 use Rattle.dispatch.specs.declared.Heard.{Heard}
 use Rattle.dispatch.proofs.Examples.{p, q}
@@ -60,5 +60,5 @@ masks =
     ∷ []
 
 pub masks-made : map (λ x. saidText (ascii (x .0))) masks ≡ map (λ x. x .1) masks
-unfolding added saidText
+unfolding withHeard saidText
 masks-made = refl

@@ -37,7 +37,8 @@ module _ (Γ : Network) (σ : List ℕ) (m : ℕ) where
   abbrev pub hearer : (ℕ → Bool → Bool) → Option ℕ
   hearer said = firstBelow (scenarios Γ) (λ s. when (hasHeard said s) s)
 
-  -- what is due in that case; any other that has heard the same has the same due (`dispatch/proofs/Alike.antt`)
+  -- what is due in that case; in a good table any other that has heard the same has the same due
+  -- (`dispatch/proofs/Alike.antt`)
   abbrev pub dueFor : Option ℕ → Dispatched
   dueFor none = NeverHeard
   dueFor (some s) = Events (dueIn (Γ .events) σ m s)

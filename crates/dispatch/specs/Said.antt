@@ -16,8 +16,8 @@ use Rattle.dispatch.specs.declared.Heard.{Heard}
 use Rattle.dispatch.specs.declared.Dispatched.{Dispatched}
 
 -- the bit of a letter with a truth
-abbrev pub place : ℕ → Bool → ℕ
-place l v = cond v (l - code "a") (l - code "a" + 32)
+abbrev pub bitOf : ℕ → Bool → ℕ
+bitOf l v = cond v (l - code "a") (l - code "a" + 32)
 
 -- the bit of a list that holds a byte that is no letter, or a letter twice
 abbrev pub misnamed : ℕ
@@ -28,7 +28,7 @@ withBit x k = bitOr x (2 ^ k)
 
 -- whether the letter l is said to be v
 abbrev pub saidOn : ℕ → ℕ → Bool → Bool
-saidOn x l v = truth x (place l v)
+saidOn x l v = truth x (bitOf l v)
 
 -- whether it stands, with either truth
 abbrev pub standsOn : ℕ → ℕ → Bool
@@ -40,14 +40,14 @@ asSaid x l known t =
     Bool·beq (saidOn x l true) (known && Bool·beq t true) && Bool·beq (saidOn x l false) (known && Bool·beq t false)
 
 -- one record more
-unfoldable pub added : ℕ → Heard → ℕ
-added x h =
-    cond (isLetter (h .letter) && not (standsOn x (h .letter))) (withBit x (place (h .letter) (h .truth)))
+unfoldable pub withHeard : ℕ → Heard → ℕ
+withHeard x h =
+    cond (isLetter (h .letter) && not (standsOn x (h .letter))) (withBit x (bitOf (h .letter) (h .truth)))
     (withBit x misnamed)
 
 abbrev pub saidFrom : ℕ → List Heard → ℕ
 saidFrom x [] = x
-saidFrom x (h ∷ hs) = saidFrom (added x h) hs
+saidFrom x (h ∷ hs) = saidFrom (withHeard x h) hs
 
 module _ (Γ : Network) where
   -- the records that a mask names: one of each signal whose letter stands, true where it is said to be

@@ -52,9 +52,9 @@ fn with(mask: u64, bit: u32) -> u64
 }
 
 // The bit of a letter with a truth.
-fn place(letter: u8, truth: bool) -> u32
+fn bit_of(letter: u8, truth: bool) -> u32
     requires { ⌜ isLetter letter ≡ true ⌝ }
-    ensures { λ r. ⌜ r ≡ M.place letter truth ⌝ }
+    ensures { λ r. ⌜ r ≡ M.bitOf letter truth ⌝ }
 {
     let l = (letter - b'a') as u32;
     if truth {
@@ -68,15 +68,15 @@ fn stands(said: u64, letter: u8) -> bool
     requires { ⌜ isLetter letter ≡ true ⌝ }
     ensures { λ r. ⌜ r ≡ M.standsOn said letter ⌝ }
 {
-    if has(said, place(letter, true)) {
+    if has(said, bit_of(letter, true)) {
         return true;
     }
-    has(said, place(letter, false))
+    has(said, bit_of(letter, false))
 }
 
 // One record more, behind those that the mask has; 0 has none.
 pub fn add(said: u64, heard: Heard) -> u64
-    ensures { λ r. ⌜ r ≡ M.added said heard ⌝ }
+    ensures { λ r. ⌜ r ≡ M.withHeard said heard ⌝ }
 {
     let letter = heard.letter;
     if letter < b'a' || b'z' < letter {
@@ -85,7 +85,7 @@ pub fn add(said: u64, heard: Heard) -> u64
     if stands(said, letter) {
         return with(said, MISNAMED);
     }
-    with(said, place(letter, heard.truth))
+    with(said, bit_of(letter, heard.truth))
 }
 
 // All records, in any order.
@@ -112,7 +112,7 @@ fn well_named(network: Network, said: u64) -> bool
     while p < signals {
         let letter = network.letters[p];
         if stands(said, letter) {
-            let truth = has(said, place(letter, true));
+            let truth = has(said, bit_of(letter, true));
             named = add(named, Heard { letter, truth });
         }
         p += 1;
@@ -125,8 +125,8 @@ fn as_said(said: u64, letter: u8, known: bool, truth: bool) -> bool
     requires { ⌜ isLetter letter ≡ true ⌝ }
     ensures { λ r. ⌜ r ≡ M.asSaid said letter known truth ⌝ }
 {
-    let positive = has(said, place(letter, true));
-    let negative = has(said, place(letter, false));
+    let positive = has(said, bit_of(letter, true));
+    let negative = has(said, bit_of(letter, false));
     if !known {
         return !positive && !negative;
     }

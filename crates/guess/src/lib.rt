@@ -162,17 +162,17 @@ pub fn after_tries(w: Watching, turns: u32, made: u32) -> Watching {
 
 // Which counts of moves are tried: first the most that the horizon allows; if that is too many, few, and twice as
 // many as long as they hold; then half as many each time.
-pub struct Counts {
+pub struct Tries {
     pub j: u32,
     pub first: bool,
     pub up: bool,
 }
 
-pub fn first_count(most: u32) -> Counts
+pub fn first_count(most: u32) -> Tries
     requires { ⌜ most ≤ L.horizon ⌝ }
     ensures { λ r. ⌜ r .j ≤ L.horizon ⌝ }
 {
-    Counts {
+    Tries {
         j: most,
         first: true,
         up: false,
@@ -200,25 +200,25 @@ fn twice(j: u32) -> u32
 }
 
 // The next count, after one that held or did not.
-pub fn next_count(c: Counts, held: bool) -> Counts
+pub fn next_count(c: Tries, held: bool) -> Tries
     requires { ⌜ c .j ≤ L.horizon ⌝ }
     ensures { λ r. ⌜ r .j ≤ L.horizon ⌝ }
 {
     if c.first && !held {
-        return Counts {
+        return Tries {
             j: few(c.j),
             first: false,
             up: true,
         };
     }
     if c.up && held {
-        return Counts {
+        return Tries {
             j: twice(c.j),
             first: false,
             up: true,
         };
     }
-    Counts {
+    Tries {
         j: c.j / 2,
         first: false,
         up: false,

@@ -1,4 +1,4 @@
--- What the readers of a line answer, and what they are lent.
+-- What the readers of a line answer, by the parts of a network that they are handed.
 use mathlib.Core.Bool.{Bool, false, cond}
 use mathlib.Core.Option.{Option, none, some}
 use mathlib.Core.List.{List, []}

@@ -27,7 +27,7 @@ pub enum Entry {
     Rule(Constraint),
 }
 
-// A line behind a section's: why it is refused, or what it holds, and how long it is without its line feed.
+// A line behind a section's heading: why it is refused, or what it holds, and how long it is without its line feed.
 pub enum EntryLine {
     Refused(Cause),
     Holds { entry: Entry, length: usize },

@@ -18,6 +18,10 @@ signals = 4
 abbrev pub rules : ℕ
 rules = 64
 
+-- a rule sets at most two bounds between the times of its events: a `fix` two, the others one
+abbrev pub bounds : ℕ
+bounds = 2 * rules
+
 -- "a signal given at minute 5 may change what happens from minute 6 on": the reaction of every signal
 abbrev pub reaction : ℕ
 reaction = 1

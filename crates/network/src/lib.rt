@@ -70,6 +70,9 @@ impl Network {
 
     pub const RULES: usize = 64;
 
+    // As many bounds between two times as the rules set at most.
+    pub const BOUNDS: usize = 2 * Self::RULES;
+
     // How many minutes after its event a signal is known.
     pub const REACTION: u16 = 1;
 

@@ -30,13 +30,13 @@ use Rattle.calls.specs.Lent.{asMinutes}
 use Rattle.calls.specs.Calls.{rightLength}
 use Rattle.calls.proofs.Call.{call-refused, call-fails, call-works}
 use Rattle.calls.proofs.Play.{lettered as letters}
-use Rattle.opening.specs.Prologue.{behind, handedIn}
+use Rattle.opening.specs.Prologue.{afterTest, handedIn}
 
 -- both passed
-pub behind-accepted : (o : Outcome) (b : Bool) (c : Cause) → behind o b c ≡ Accepted → (o ≡ Accepted) × (b ≡ true)
-behind-accepted Accepted true c e = (refl, refl)
-behind-accepted Accepted false c e = zero-is-one cc
-behind-accepted (Refused r) b c e = zero-is-one cc
+pub afterTest-accepted : (o : Outcome) (b : Bool) (c : Cause) → afterTest o b c ≡ Accepted → (o ≡ Accepted) × (b ≡ true)
+afterTest-accepted Accepted true c e = (refl, refl)
+afterTest-accepted Accepted false c e = zero-is-one cc
+afterTest-accepted (Refused r) b c e = zero-is-one cc
 
 -- one of them did not, and the call is refused with it
 module _ {A : Type 0} (refuse : Refusal → A) (sheet : List ℕ) (test : Network → Bool) (c : Cause)
@@ -47,11 +47,11 @@ module _ {A : Type 0} (refuse : Refusal → A) (sheet : List ℕ) (test : Networ
   abbrev net : Network
   net = read sheet .network
 
-  pub behind-refused : (r : Refusal) → behind (read sheet .outcome) (test net) c ≡ Refused r
+  pub afterTest-refused : (r : Refusal) → afterTest (read sheet .outcome) (test net) c ≡ Refused r
       → refuse r ≡ call refuse sheet tests work
-  behind-refused r = by-outcome (read sheet .outcome) refl (test net) refl
+  afterTest-refused r = by-outcome (read sheet .outcome) refl (test net) refl
     where
-      by-outcome : (o : Outcome) → read sheet .outcome ≡ o → (b : Bool) → test net ≡ b → behind o b c ≡ Refused r
+      by-outcome : (o : Outcome) → read sheet .outcome ≡ o → (b : Bool) → test net ≡ b → afterTest o b c ≡ Refused r
           → refuse r ≡ call refuse sheet tests work
       by-outcome Accepted p true q e = zero-is-one cc
       by-outcome Accepted p false q e =
@@ -86,7 +86,7 @@ pub record Right (sheet t : List ℕ) (Γ : Network) : Type 0 where
 module _ (sheet t : List ℕ) (g : Reading) (e : g ≡ handedIn sheet (length t)) where
   pub right : g .outcome ≡ Accepted → Right sheet t (g .network)
   right a =
-      let b = behind-accepted _ _ _ (sym (ap (λ (x : Reading). x .outcome) e) ∙ a) in
+      let b = afterTest-accepted _ _ _ (sym (ap (λ (x : Reading). x .outcome) e) ∙ a) in
       let w = accepted-well-formed sheet (b .0) in
       let length-is = eqb-true (length t) (cells (read sheet .network)) (b .1) in
       let n : g .network ≡ read sheet .network = ap (λ (x : Reading). x .network) e in
@@ -102,7 +102,7 @@ module _ (sheet t : List ℕ) (g : Reading) (e : g ≡ handedIn sheet (length t)
   pub handed-refused : {A : Type 0} (refuse : Refusal → A) (rest : Network → Tests) (work : Network → A) (r : Refusal)
       → g .outcome ≡ Refused r → refuse r ≡ call refuse sheet (λ Γ. rightLength (asMinutes t) Γ ∷ rest Γ) work
   handed-refused refuse rest work r p =
-      behind-refused refuse sheet (λ Γ. eqb (length t) (cells Γ)) C.WrongTableLength rest work r
+      afterTest-refused refuse sheet (λ Γ. eqb (length t) (cells Γ)) C.WrongTableLength rest work r
       (sym (ap (λ (x : Reading). x .outcome) e) ∙ p)
 
   -- and the other tests of the call

@@ -29,8 +29,8 @@ use Rattle.calls.specs.Lent.{inPlace}
 use Rattle.calls.specs.Calls.{writing, refusing, rests, solvingTests, solving}
 use Rattle.calls.specs.declared.Written.the-variants as W
 use Rattle.calls.proofs.Call.{call-fails, call-works}
-use Rattle.opening.specs.Prologue.{behind}
-use Rattle.opening.proofs.Prologue.{behind-accepted, behind-refused}
+use Rattle.opening.specs.Prologue.{afterTest}
+use Rattle.opening.proofs.Prologue.{afterTest-accepted, afterTest-refused}
 use Rattle.opening.proofs.Leaves.{leaves-as, kept}
 
 -- the network is consistent, or it is not
@@ -61,25 +61,25 @@ module _ (Γ : Network) (m x : List ℕ) (s : Solved) (is : SolvedIs Γ m x s) w
 
 -- the solver is asked where the sheet was read and there is room for n minutes, as many as its table has
 module _ (sheet m : List ℕ) (g : Reading) (e : g ≡ read sheet) (n : ℕ) (counted : n ≡ cells (g .network)) (o : Outcome)
-    (is-behind : o ≡ behind (g .outcome) (leb n (length m)) BufferTooShort) where
+    (is-after : o ≡ afterTest (g .outcome) (leb n (length m)) BufferTooShort) where
   abbrev net : Network
   net = read sheet .network
 
-  outcome-is : o ≡ behind (read sheet .outcome) (leb (cells net) (length m)) BufferTooShort
+  outcome-is : o ≡ afterTest (read sheet .outcome) (leb (cells net) (length m)) BufferTooShort
   outcome-is =
-      is-behind ∙ ap (λ (k : ℕ). behind (g .outcome) (leb k (length m)) BufferTooShort) counted
-      ∙ ap (λ (x : Reading). behind (x .outcome) (leb (cells (x .network)) (length m)) BufferTooShort) e
+      is-after ∙ ap (λ (k : ℕ). afterTest (g .outcome) (leb k (length m)) BufferTooShort) counted
+      ∙ ap (λ (x : Reading). afterTest (x .outcome) (leb (cells (x .network)) (length m)) BufferTooShort) e
 
   pub solving-refused : (r : Refusal) → o ≡ Refused r → Leaves (solving sheet m) (W.Refused r) m
   solving-refused r p =
       kept m r
-      (behind-refused (refusing (inPlace m)) sheet (λ Γ. leb (cells Γ) (length m)) BufferTooShort
+      (afterTest-refused (refusing (inPlace m)) sheet (λ Γ. leb (cells Γ) (length m)) BufferTooShort
       (λ Γ. (rests (solve Γ .end), Inconsistent) ∷ []) (λ Γ. writing (inPlace m) (solve Γ .reached)) r
       (sym outcome-is ∙ p))
 
   module _ (p : o ≡ Accepted) where
     passed : (read sheet .outcome ≡ Accepted) × (leb (cells net) (length m) ≡ true)
-    passed = behind-accepted (read sheet .outcome) (leb (cells net) (length m)) BufferTooShort (sym outcome-is ∙ p)
+    passed = afterTest-accepted (read sheet .outcome) (leb (cells net) (length m)) BufferTooShort (sym outcome-is ∙ p)
 
     pub solving-asked : WellFormed (g .network) × (cells (g .network) ≤ length m)
     solving-asked =

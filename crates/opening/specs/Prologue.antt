@@ -22,14 +22,14 @@ use Rattle.calls.specs.declared.Written.{Written}
 use Rattle.calls.specs.declared.Written.the-variants as W
 
 -- the outcome, and behind it one test of the call
-abbrev pub behind : Outcome → Bool → Cause → Outcome
-behind o passes c = tested o (firstFailing ((passes, c) ∷ []))
+abbrev pub afterTest : Outcome → Bool → Cause → Outcome
+afterTest o passes c = tested o (firstFailing ((passes, c) ∷ []))
 
 -- the reading, for a call that is handed so many minutes
 abbrev pub handedIn : List ℕ → ℕ → Reading
 handedIn sheet n =
     let g = read sheet in
-    record { outcome = behind (g .outcome) (eqb n (cells (g .network))) C.WrongTableLength; network = g .network }
+    record { outcome = afterTest (g .outcome) (eqb n (cells (g .network))) C.WrongTableLength; network = g .network }
 
 -- what a writer did, as the call's answer
 abbrev pub handedOut : Filled → Written

@@ -4,7 +4,7 @@ ghost use mathlib.Core.Path.{_≡_};
 ghost use Rattle.calls.specs.Call.{withoutLine, Leaves};
 ghost use Rattle.calls.specs.Calls.{summary, judgement, solving, listed, housed};
 ghost use Rattle.calls.specs.Play.{eventsDue, eventsDueOn};
-ghost use Rattle.opening.specs.Prologue.{behind, handedIn, handedOut, answerTo};
+ghost use Rattle.opening.specs.Prologue.{afterTest, handedIn, handedOut, answerTo};
 use calls::Counts;
 use calls::Due;
 use calls::Judgement;
@@ -38,8 +38,8 @@ fn without_line(cause: Cause) -> Refusal
 }
 
 // The refusal before a call's own work: the sheet's own, or behind it that of a test of the call.
-fn behind(outcome: Outcome, passes: bool, cause: Cause) -> Outcome
-    ensures { λ r. ⌜ r ≡ behind outcome passes cause ⌝ }
+fn after_test(outcome: Outcome, passes: bool, cause: Cause) -> Outcome
+    ensures { λ r. ⌜ r ≡ afterTest outcome passes cause ⌝ }
 {
     if let Outcome::Refused(refusal) = outcome {
         return Outcome::Refused(refusal);
@@ -59,7 +59,7 @@ fn handed_in(sheet: &[u8], minutes: usize) -> Reading
     let network = reading.network;
     let right = minutes == network::cell_count(network.events, network.signals);
     Reading {
-        outcome: behind(outcome, right, Cause::WrongTableLength),
+        outcome: after_test(outcome, right, Cause::WrongTableLength),
         network,
     }
 }
@@ -103,7 +103,7 @@ pub fn solve_sheet(sheet: &[u8], table: &mut [u16]) -> Written
     let read = reading.outcome;
     let network = reading.network;
     let cells = network::cell_count(network.events, network.signals);
-    let outcome = behind(read, cells <= table.len(), Cause::BufferTooShort);
+    let outcome = after_test(read, cells <= table.len(), Cause::BufferTooShort);
     if let Outcome::Refused(refusal) = outcome {
         return Written::Refused(refusal);
     }

@@ -14,6 +14,6 @@ pub record In {A : Type 0} (x : A) (xs : List A) (d : A) : Type 0 where
 pub record Distinct {A : Type 0} (xs : List A) (d : A) : Type 0 where
   pub once : (i j : ℕ) → i < length xs → j < length xs → getD xs i d ≡ getD xs j d → i ≡ j
 
--- f holds of each of them
+-- P holds of each of them
 pub record Each {A : Type 0} (P : A → Type 0) (xs : List A) (d : A) : Type 0 where
   pub each : (i : ℕ) → i < length xs → P (getD xs i d)

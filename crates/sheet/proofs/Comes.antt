@@ -20,32 +20,31 @@ use Rattle.line.specs.declared.Section.{Section}
 use Rattle.line.specs.declared.Section.the-variants.{Events, Signals, Rules}
 use Rattle.sheet.specs.Reading.{Progress, Stop, Go, stopOr, andThen, readEntries, readSection, readHorizon}
 use Rattle.sheet.specs.Reading.{follows}
-use Rattle.sheet.specs.Place.{Due, Horizon, Heading, Entry, NoMore, behind, entries, Place, testsAt, dueAfter}
-use Rattle.sheet.specs.Place.{definedAfter}
-use Rattle.sheet.specs.Place.{next, place, tests}
+use Rattle.sheet.specs.Place.{Expected, Horizon, Heading, Entry, NoMore, behind, entries, Place, testsAt}
+use Rattle.sheet.specs.Place.{expectedAfter, definedAfter, next, place, tests}
 use Rattle.sheet.specs.Fault.{FirstFault}
 use Rattle.sheet.proofs.Whole.{toEvents, toSignals, toRules}
 
 module _ (sheet : List ℕ) where
   -- line k begins at this place, and the lines above it pass
-  pub record At (d : Due) (Γ : Network) (at k : ℕ) : Type 0 where
+  pub record At (d : Expected) (Γ : Network) (at k : ℕ) : Type 0 where
     pub above : ℕ
     pub number : k ≡ suc above
-    pub is : place sheet above ≡ record { due = d; network = Γ; at = at }
+    pub is : place sheet above ≡ record { expected = d; network = Γ; at = at }
     pub pass : (j : ℕ) → j < above → Hold (tests sheet j)
 
-  -- the reading has come so far, to where this is due, or it has stopped at the first fault
-  abbrev pub Comes : (ℕ → Due) → Progress → Type 0
+  -- the reading has come so far, to where this is expected, or it has stopped at the first fault
+  abbrev pub Comes : (ℕ → Expected) → Progress → Type 0
   Comes d (Stop r) = FirstFault sheet r
   Comes d (Go Γ at k) = At (d at) Γ at k
 
-  -- what is due behind a section that ends here
-  abbrev next-of : Section → ℕ → Due
+  -- what is expected behind a section that ends here
+  abbrev next-of : Section → ℕ → Expected
   next-of s at = behind s (follows sheet at)
 
-  module _ (d : Due) (Γ : Network) (at k : ℕ) (a : At d Γ at k) where
+  module _ (d : Expected) (Γ : Network) (at k : ℕ) (a : At d Γ at k) where
     own-tests : tests sheet (a .above) ≡ testsAt sheet d Γ at
-    own-tests = ap (λ (p : Place). testsAt sheet (p .due) (p .network) (p .at)) (a .is)
+    own-tests = ap (λ (p : Place). testsAt sheet (p .expected) (p .network) (p .at)) (a .is)
 
     pub stops : (c : Cause) → FirstFails (testsAt sheet d Γ at) c → FirstFault sheet (refusal c k)
     stops c f = record { above = a .above; line = a .number; pass = a .pass; fault = rw own-tests f }
@@ -59,7 +58,7 @@ module _ (sheet : List ℕ) where
 
     goes-on : Hold (testsAt sheet d Γ at)
         → let fs = fields (lineAt sheet at) in
-        At (dueAfter d (follows sheet (afterLine sheet at)) fs) (definedAfter sheet d Γ at fs) (afterLine sheet at)
+        At (expectedAfter d (follows sheet (afterLine sheet at)) fs) (definedAfter sheet d Γ at fs) (afterLine sheet at)
         (suc k)
     goes-on h = record {
       above = suc (a .above);
@@ -69,7 +68,7 @@ module _ (sheet : List ℕ) where
     }
 
   -- a line by its tests
-  by-line : (d : ℕ → Due) (k : ℕ) (ts : Tests) (p : Progress)
+  by-line : (d : ℕ → Expected) (k : ℕ) (ts : Tests) (p : Progress)
       → ((c : Cause) → FirstFails ts c → FirstFault sheet (refusal c k)) → (Hold ts → Comes d p)
       → Comes d (stopOr k (firstFailing ts) p)
   by-line d k ts p stop go = by-refusal (firstFailing ts) refl
@@ -108,7 +107,7 @@ module _ (sheet : List ℕ) where
       (stops Horizon (empty 0) 0 1 a)
       (goes-on Horizon (empty 0) 0 1 a)
 
-  then-comes : (d e : ℕ → Due) (p : Progress) (f : Network → ℕ → ℕ → Progress) → Comes d p
+  then-comes : (d e : ℕ → Expected) (p : Progress) (f : Network → ℕ → ℕ → Progress) → Comes d p
       → ((Γ : Network) (at k : ℕ) → At (d at) Γ at k → Comes e (f Γ at k)) → Comes e (andThen p f)
   then-comes d e (Stop r) f c g = c
   then-comes d e (Go Γ at k) f c g = g Γ at k c

@@ -13,7 +13,7 @@ use Rattle.refusal.specs.declared.Cause.{Cause}
 use Rattle.network.specs.declared.Network.{Network}
 use Rattle.line.specs.Tests.{Tests, sectionTests, eventTests, signalTests, endsTests, ruleTests}
 use Rattle.line.specs.declared.Section.the-variants.{Events, Signals, Rules}
-use Rattle.sheet.specs.Place.{Due, Horizon, Heading, Entry, NoMore, testsAt, place, tests}
+use Rattle.sheet.specs.Place.{Expected, Horizon, Heading, Entry, NoMore, testsAt, place, tests}
 use Rattle.sheet.specs.Fault.{Fails}
 
 -- the tests stand in the order of their numbers, which are above lo and at most hi
@@ -49,17 +49,17 @@ first-fails-lowest lo hi (t ∷ ts) c d o (inr f) (inl g) = clash (t .0) (f .0) 
 first-fails-lowest lo hi (t ∷ ts) c d o (inr f) (inr g) = first-fails-lowest (numberOf (t .1)) hi ts c d (o .1) (f .1) g
 
 module _ (sheet : List ℕ) where
-  due-in-order : (d : Due) (Γ : Network) (at : ℕ) → InOrder 1 10 (testsAt sheet d Γ at)
+  expected-in-order : (d : Expected) (Γ : Network) (at : ℕ) → InOrder 1 10 (testsAt sheet d Γ at)
   unfolding sectionTests eventTests signalTests endsTests ruleTests
-  due-in-order Horizon Γ at = omega arith & omega arith & omega arith & omega arith & omega arith
-  due-in-order (Heading s) Γ at = omega arith & omega arith & omega arith & omega arith & omega arith
-  due-in-order (Entry Events m) Γ at = omega arith & omega arith & omega arith & omega arith & omega arith
-  due-in-order (Entry Signals m) Γ at = omega arith & omega arith & omega arith & omega arith & omega arith
+  expected-in-order Horizon Γ at = omega arith & omega arith & omega arith & omega arith & omega arith
+  expected-in-order (Heading s) Γ at = omega arith & omega arith & omega arith & omega arith & omega arith
+  expected-in-order (Entry Events m) Γ at = omega arith & omega arith & omega arith & omega arith & omega arith
+  expected-in-order (Entry Signals m) Γ at = omega arith & omega arith & omega arith & omega arith & omega arith
       & omega arith
-  due-in-order (Entry Rules m) Γ at =
+  expected-in-order (Entry Rules m) Γ at =
       omega arith & omega arith & omega arith & omega arith & omega arith & omega arith & omega arith & omega arith
-  due-in-order NoMore Γ at = omega arith & omega arith
+  expected-in-order NoMore Γ at = omega arith & omega arith
 
   -- the tests of each line stand in the order of their numbers, from 2 to 10
   pub tests-in-order : (k : ℕ) → InOrder 1 10 (tests sheet k)
-  tests-in-order k = let p = place sheet k in due-in-order (p .due) (p .network) (p .at)
+  tests-in-order k = let p = place sheet k in expected-in-order (p .expected) (p .network) (p .at)

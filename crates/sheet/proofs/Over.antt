@@ -12,17 +12,17 @@ use Rattle.prelude.specs.Checks.{Hold}
 use Rattle.prelude.proofs.Tests.{lt-or-ge, eq-or-ne}
 use Rattle.text.specs.Lines.{afterLine}
 use Rattle.network.specs.declared.Network.{Network}
-use Rattle.sheet.specs.Place.{Due, Horizon, Heading, Entry, NoMore, Place, testsAt}
+use Rattle.sheet.specs.Place.{Expected, Horizon, Heading, Entry, NoMore, Place, testsAt}
 use Rattle.sheet.specs.Place.{next, place, tests}
 use Rattle.sheet.proofs.Places.{line-inside}
 
 module _ (sheet : List ℕ) where
   -- a sheet that has no more to come passes every test, however far one counts
   pub record Over (p : Place) : Type 0 where
-    pub over : p .due ≡ NoMore
+    pub over : p .expected ≡ NoMore
     pub end : length sheet ≤ p .at
 
-  pub over-holds : (p : Place) → Over p → Hold (testsAt sheet (p .due) (p .network) (p .at))
+  pub over-holds : (p : Place) → Over p → Hold (testsAt sheet (p .expected) (p .network) (p .at))
   over-holds p o = rw (o .over, testsAt, le-ltb (p .at) (length sheet) (o .end)) (refl, tt)
 
   over-on : (p : Place) → Over p → Over (next sheet p)
@@ -45,7 +45,7 @@ module _ (sheet : List ℕ) where
       ]
 
   -- each line that passes has its line feed, so that no more lines stand above one than bytes
-  line-after : (d : Due) (Γ : Network) (at : ℕ) → Hold (testsAt sheet d Γ at)
+  line-after : (d : Expected) (Γ : Network) (at : ℕ) → Hold (testsAt sheet d Γ at)
       → (afterLine sheet at ≤ length sheet) ⊎ ((d ≡ NoMore) × (length sheet ≤ at))
   line-after Horizon Γ at h = inl (line-inside sheet at (h .0))
   line-after (Heading s) Γ at h = inl (line-inside sheet at (h .0))
@@ -59,7 +59,7 @@ module _ (sheet : List ℕ) where
       let p = place sheet k in
       elim (lines-inside k (λ j l. pass j (omega arith))) [
         | inr o ↦ inr (over-on p o)
-        | inl i ↦ elim (line-after (p .due) (p .network) (p .at) (pass k (omega arith))) [
+        | inl i ↦ elim (line-after (p .expected) (p .network) (p .at) (pass k (omega arith))) [
           | inl e ↦ inl (omega (arith, i .0), e)
           | inr o ↦ inr (over-on p (record { over = o .0; end = o .1 }))
         ]

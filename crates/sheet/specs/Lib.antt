@@ -1,5 +1,5 @@
--- The sheet. Read in this order: the whole; what is due on each line, and the first line at fault; and what holds at
--- every line.
+-- The sheet. Read in this order: the whole; what is expected on each line, and the first line at fault; and what holds
+-- at every line.
 pub mod Reading
 pub mod Place
 pub mod Fault

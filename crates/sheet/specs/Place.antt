@@ -1,4 +1,4 @@
--- What is due on each line of a sheet, and the tests of that place (01, The sheet and Refused sheets and calls).
+-- What is expected on each line of a sheet, and the tests of that place (01, The sheet and Refused sheets and calls).
 use mathlib.Core.Bool.{Bool}
 use mathlib.Core.List.{List}
 use Prim.Native.Nat.{ℕ, zero, suc}
@@ -12,53 +12,53 @@ use Rattle.line.specs.declared.Section.{Section}
 use Rattle.line.specs.declared.Section.the-variants.{Events, Signals, Rules}
 use Rattle.sheet.specs.Reading.{follows, endTests}
 
--- what is due on a line: the horizon, the word and the count of a section, a line of a section with so many more behind
--- it, or no more
-pub data Due : Type 0 where
-  Horizon : Due
-  Heading : Section → Due
-  Entry : Section → ℕ → Due
-  NoMore : Due
+-- what is expected on a line: the horizon, the word and the count of a section, a line of a section with so many more
+-- behind it, or no more
+pub data Expected : Type 0 where
+  Horizon : Expected
+  Heading : Section → Expected
+  Entry : Section → ℕ → Expected
+  NoMore : Expected
 
--- "Sections stand in this order, each after its count" (01, The sheet). What is due behind a section is told whether
--- bytes follow, since a section may be absent (02, points 3 and 6); of these three none may
-abbrev pub behind : Section → Bool → Due
+-- "Sections stand in this order, each after its count" (01, The sheet). What is expected behind a section is told
+-- whether bytes follow, since a section may be absent (02, points 3 and 6); of these three none may
+abbrev pub behind : Section → Bool → Expected
 behind Events more = Heading Signals
 behind Signals more = Heading Rules
 behind Rules more = NoMore
 
 -- so many lines of a section, and then what is behind it
-abbrev pub entries : Section → Bool → ℕ → Due
+abbrev pub entries : Section → Bool → ℕ → Expected
 entries s more zero = behind s more
 entries s more (suc m) = Entry s m
 
--- what is due behind a line with these fields
-abbrev pub dueAfter : Due → Bool → List (List ℕ) → Due
-dueAfter Horizon more fs = Heading Events
-dueAfter (Heading s) more fs = entries s more (sectionCount fs)
-dueAfter (Entry s m) more fs = entries s more m
-dueAfter NoMore more fs = NoMore
+-- what is expected behind a line with these fields
+abbrev pub expectedAfter : Expected → Bool → List (List ℕ) → Expected
+expectedAfter Horizon more fs = Heading Events
+expectedAfter (Heading s) more fs = entries s more (sectionCount fs)
+expectedAfter (Entry s m) more fs = entries s more m
+expectedAfter NoMore more fs = NoMore
 
--- what is due on a line, what the lines above it have defined, and where it begins
+-- what is expected on a line, what the lines above it have defined, and where it begins
 pub record Place : Type 0 where
-  pub due : Due
+  pub expected : Expected
   pub network : Network
   pub at : ℕ
 
 -- the first line
 abbrev pub top : Place
-top = record { due = Horizon; network = empty 0; at = 0 }
+top = record { expected = Horizon; network = empty 0; at = 0 }
 
 module _ (sheet : List ℕ) where
-  -- the tests of what is due; behind the last rule no byte follows
-  abbrev pub testsAt : Due → Network → ℕ → Tests
+  -- the tests of what is expected; behind the last rule no byte follows
+  abbrev pub testsAt : Expected → Network → ℕ → Tests
   testsAt Horizon Γ at = lineTests (drop at sheet) (headingTests horizonHeading)
   testsAt (Heading s) Γ at = lineTests (drop at sheet) (headingTests (headingOf s))
   testsAt (Entry s m) Γ at = lineTests (drop at sheet) (testsOf sheet s Γ)
   testsAt NoMore Γ at = endTests sheet at
 
   -- what is defined behind a line with these fields that begins here
-  abbrev pub definedAfter : Due → Network → ℕ → List (List ℕ) → Network
+  abbrev pub definedAfter : Expected → Network → ℕ → List (List ℕ) → Network
   definedAfter Horizon Γ at fs = empty (sectionCount fs)
   definedAfter (Heading s) Γ at fs = Γ
   definedAfter (Entry s m) Γ at fs = withLine sheet s Γ at fs
@@ -68,8 +68,8 @@ module _ (sheet : List ℕ) where
   next p =
       let fs = fields (lineAt sheet (p .at)) in
       record {
-        due = dueAfter (p .due) (follows sheet (afterLine sheet (p .at))) fs;
-        network = definedAfter (p .due) (p .network) (p .at) fs;
+        expected = expectedAfter (p .expected) (follows sheet (afterLine sheet (p .at))) fs;
+        network = definedAfter (p .expected) (p .network) (p .at) fs;
         at = afterLine sheet (p .at);
       }
 
@@ -79,4 +79,4 @@ module _ (sheet : List ℕ) where
   place (suc k) = next (place k)
 
   abbrev pub tests : ℕ → Tests
-  tests k = let p = place k in testsAt (p .due) (p .network) (p .at)
+  tests k = let p = place k in testsAt (p .expected) (p .network) (p .at)

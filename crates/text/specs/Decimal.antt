@@ -5,7 +5,7 @@ use Prim.Native.Nat.{ℕ, zero, suc, _+_, _/_, _%_}
 use Prim.Native.Char.{code}
 use lib.Dec.{ltb}
 
--- the digits of v, of which there are fewer than the first number
+-- the digits of v, of which there are at most as many as the first number says
 abbrev pub digitsWithin : ℕ → ℕ → List ℕ
 digitsWithin zero v = []
 digitsWithin (suc f) v =

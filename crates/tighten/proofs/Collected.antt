@@ -17,7 +17,7 @@ use Rattle.network.specs.Build.{noConstraint}
 use Rattle.network.specs.declared.Constraint.{Constraint}
 use Rattle.tighten.specs.declared.Encodings.{Encodings}
 use Rattle.tighten.specs.Tightest.{ranks, tightest, remaining}
-use Rattle.tighten.specs.Encoding.{perKey, decoded, behind, top, leastBelow}
+use Rattle.tighten.specs.Encoding.{perKey, decoded, floorAfter, top, leastBelow}
 use Rattle.tighten.specs.Fronts.{Front, EncodingsAre, UppersAre}
 use Rattle.tighten.proofs.Regular.{Regular}
 use Rattle.tighten.proofs.Fronts.{front-few, front-more, front-nothing}
@@ -99,7 +99,7 @@ module _ {xs : List Constraint} (r : Encodings) (regular : Each Regular xs noCon
           }
 
       -- one more in the array
-      pub collected-more : {x : Constraint} {floor′ : ℕ} → count < L.rules → x ≡ decoded v → floor′ ≡ behind v
+      pub collected-more : {x : Constraint} {floor′ : ℕ} → count < L.rules → x ≡ decoded v → floor′ ≡ floorAfter v
           → Collected xs (count + 1) (set uppers count x) floor′
       collected-more {x} {floor′} h p q = record {
         done = f .done ++ x ∷ [];

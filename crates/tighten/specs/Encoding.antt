@@ -33,8 +33,8 @@ pub record Encodable (from to : ℕ) (w : ℤ) (ℓ : Label) : Type 0 where
   pub bound : InLimits w
 
 -- the least number behind all those with the key of v
-abbrev pub behind : ℕ → ℕ
-behind v = (v / perKey + 1) * perKey
+abbrev pub floorAfter : ℕ → ℕ
+floorAfter v = (v / perKey + 1) * perKey
 
 -- more than the number of any upper bound
 abbrev pub top : ℕ

@@ -5,11 +5,12 @@ ghost use mathlib.Core.Path.{_≡_};
 ghost use mathlib.Core.List.{[], _∷_, map};
 ghost use Prim.Native.Nat.{_+_, _≤_, _<_};
 ghost use lib.ListN.{length, getD};
+ghost use Rattle.network.specs.Limits as L;
 ghost use Rattle.network.specs.WellFormed.{WellFormed};
 ghost use Rattle.tighten.specs.Upper.{upper, uppers, uppersOf};
 ghost use Rattle.tighten.specs.Tightest.{remainingOf};
 ghost use Rattle.tighten.specs.Encoding as E;
-ghost use Rattle.tighten.specs.Fronts.{most, Added, EncodingsAre, UppersAre};
+ghost use Rattle.tighten.specs.Fronts.{Added, EncodingsAre, UppersAre};
 use network::Constraint;
 use network::Kind;
 use network::Label;
@@ -22,13 +23,10 @@ pub struct UpperBounds {
     pub uppers: [Constraint; Network::RULES],
 }
 
-// The most upper bounds: two a rule.
-const MOST: usize = 2 * Network::RULES;
-
 // Upper bounds as numbers: the first `count` of the list.
 struct Encodings {
     count: usize,
-    list: [u32; MOST],
+    list: [u32; Network::BOUNDS],
 }
 
 // The upper bound `max,from,to,bound,label` as a number.
@@ -59,8 +57,8 @@ fn decode(number: u32) -> Constraint
 }
 
 // One number more.
-fn add(list: &mut [u32; MOST], count: usize, number: u32) -> usize
-    requires { ⌜ (length (now list) ≡ most) × (count < most) ⌝ }
+fn add(list: &mut [u32; Network::BOUNDS], count: usize, number: u32) -> usize
+    requires { ⌜ (length (now list) ≡ L.bounds) × (count < L.bounds) ⌝ }
     ensures { λ r. ⌜ Added (now (list .entry)) count (number ∷ []) (now (list .exit)) r ⌝ }
 {
     list[count] = number;
@@ -68,8 +66,8 @@ fn add(list: &mut [u32; MOST], count: usize, number: u32) -> usize
 }
 
 // The numbers of a rule: "a `min` swaps its ends and negates its limit, and a `fix` becomes both".
-fn add_rule(list: &mut [u32; MOST], count: usize, rule: Constraint) -> usize
-    requires { ⌜ (length (now list) ≡ most) × (count + 2 ≤ most)
+fn add_rule(list: &mut [u32; Network::BOUNDS], count: usize, rule: Constraint) -> usize
+    requires { ⌜ (length (now list) ≡ L.bounds) × (count + 2 ≤ L.bounds)
         × E.Encodable (rule .from) (rule .to) (rule .bound) (rule .label) ⌝ }
     ensures { λ r. ⌜ Added (now (list .entry)) count (map E.encoded (uppers (rule .kind) rule))
         (now (list .exit)) r ⌝ }
@@ -93,7 +91,7 @@ fn encodings_of(network: Network) -> Encodings
     requires { ⌜ WellFormed network ⌝ }
     ensures { λ r. ⌜ EncodingsAre (uppersOf network) r ⌝ }
 {
-    let mut list = [0u32; MOST];
+    let mut list = [0u32; Network::BOUNDS];
     let mut count = 0;
     for c in 0..network.rules {
         count = add_rule(&mut list, count, network.constraints[c]);
@@ -105,8 +103,8 @@ fn encodings_of(network: Network) -> Encodings
 const TOP: u32 = 2147483648;
 
 // The least of the first `count` numbers that is at least the floor, or TOP where there is none.
-fn least_from(list: &[u32; MOST], count: usize, floor: u32) -> u32
-    requires { ⌜ count ≤ most ⌝ }
+fn least_from(list: &[u32; Network::BOUNDS], count: usize, floor: u32) -> u32
+    requires { ⌜ count ≤ L.bounds ⌝ }
     ensures { λ r. ⌜ r ≡ E.leastBelow count (λ i. getD (now (list .entry)) i 0) floor ⌝ }
 {
     let mut least = TOP;
@@ -122,9 +120,9 @@ fn least_from(list: &[u32; MOST], count: usize, floor: u32) -> u32
 }
 
 // The least number behind all those with the key of this one.
-fn behind(number: u32) -> u32
+fn floor_after(number: u32) -> u32
     requires { ⌜ number < E.top ⌝ }
-    ensures { λ r. ⌜ r ≡ E.behind number ⌝ }
+    ensures { λ r. ⌜ r ≡ E.floorAfter number ⌝ }
 {
     (number / 32768 + 1) * 32768
 }
@@ -158,6 +156,6 @@ pub fn remaining(network: Network) -> UpperBounds
         }
         uppers[count] = decode(least);
         count += 1;
-        floor = behind(least);
+        floor = floor_after(least);
     }
 }

@@ -5,7 +5,7 @@ use mathlib.Core.Bool.{true, false, _&&_, not, cond}
 use borrow.Author.Needs.{needs}
 use Rattle.network.specs.Scenario.{truth}
 use Rattle.dispatch.specs.Said.{asSaid}
-use Rattle.dispatch.proofs.Letters.{place-fits}
+use Rattle.dispatch.proofs.Letters.{bitOf-fits}
 use Rattle.dispatch.proofs.Core.{as-said-is}
 use Rattle.dispatch.proofs.as_said.Statement.{statement}
 use Rattle.dispatch.proofs.as_said.Tie as tie
@@ -21,16 +21,16 @@ tested c =
     let at-has = c .before .before in
     let a = at-has .before .before .args in
     as-said-is (a .said) (a .letter) (at-has .has .result) (c .has2 .result) (a .known) (a .truth)
-    (at-has .has .ensures ∙ ap (truth (a .said)) (at-has .before .place .ensures))
-    (c .has2 .ensures ∙ ap (truth (a .said)) (c .before .place2 .ensures))
+    (at-has .has .ensures ∙ ap (truth (a .said)) (at-has .before .bit-of .ensures))
+    (c .has2 .ensures ∙ ap (truth (a .said)) (c .before .bit-of2 .ensures))
 
 has-requires : tie.Need-has-requires
-has-requires c κs = rw (c .place .ensures) (place-fits (c .before .args .letter) true (c .before .pre))
+has-requires c κs = rw (c .bit-of .ensures) (bitOf-fits (c .before .args .letter) true (c .before .pre))
 
 has-requires-2 : tie.Need-has-requires-2
 has-requires-2 c κs =
     let start = c .before .before .before in
-    rw (c .place2 .ensures) (place-fits (start .args .letter) false (start .pre))
+    rw (c .bit-of2 .ensures) (bitOf-fits (start .args .letter) false (start .pre))
 
 returns : tie.Need-returns
 returns c = rw (tested (c .before .before), c .before .if1 .taken, c .if2 .taken)

@@ -54,7 +54,7 @@ use denote.Triple.Table.{entered, cited}
 use denote.Triple.Walked.{says, Stays, stay-none-slice, walkOf, goes-none-slice, Walks, ends-at, walked, walk-meets}
 use denote.Exit.{yes}
 use Rattle.dispatch.specs.Heard.{noHeard}
-use Rattle.dispatch.specs.Said.{added, saidFrom}
+use Rattle.dispatch.specs.Said.{withHeard, saidFrom}
 use Rattle.dispatch.specs.declared.Heard.{Heard}
 use Rattle.dispatch.proofs.Heard as T
 use Rattle.dispatch.proofs.Heard.Laws as T′
@@ -95,7 +95,7 @@ module _ (hs : List Heard) where
     next = getD hs (t .i) noHeard
 
     module _ (l : t .i < length hs) where
-      abbrev one-more : (r : ℕ) → r ≡ added (t .x) next → r < 2 ^ 64 → Upto
+      abbrev one-more : (r : ℕ) → r ≡ withHeard (t .x) next → r < 2 ^ 64 → Upto
       one-more r e g = record {
         i = t .i + 1;
         x = r;
@@ -194,8 +194,8 @@ module _
   abbrev Told : ℕ → Heard → ℕ → SProp 𝓤
   Told x h r = ensured 𝓤 H A add.ended (add.clauses 𝓤 H A mem run) tt (x, (h, tt)) tt r
 
-  told : (x : ℕ) (h : Heard) (r : ℕ) → ent 𝓤 (Told x h r) (fact 𝓤 (r ≡ added x h))
-  told x h r = exE 𝓤 _ (λ ws. snd∗ 𝓤 (sem 𝓤 H A (lasts add.ended tt (x, (h, tt)) ws)) (fact 𝓤 (r ≡ added x h)))
+  told : (x : ℕ) (h : Heard) (r : ℕ) → ent 𝓤 (Told x h r) (fact 𝓤 (r ≡ withHeard x h))
+  told x h r = exE 𝓤 _ (λ ws. snd∗ 𝓤 (sem 𝓤 H A (lasts add.ended tt (x, (h, tt)) ws)) (fact 𝓤 (r ≡ withHeard x h)))
 
   -- ---- the loop. `gn` says that the count of the records and that of their bytes fit a word
   module _
@@ -280,8 +280,8 @@ module _
         (λ u.
         use1 W (later (some (λ (r : ℕ). (‵ ftrue ⊛ ‵ (u64 .own r (u ∷ []))) ⊛ raw (Told (t .x) h r)))) (id⊢ 𝓤 _) $
         await ! tt $ pick ! (λ r.
-        split ! $ move ! (1 ∷ []) $ use1 W (raw (fact 𝓤 (r ≡ added (t .x) h))) (told (t .x) h r) $
-        heard ! (r ≡ added (t .x) h) (λ e. split ! $ move ! (1 ∷ []) $
+        split ! $ move ! (1 ∷ []) $ use1 W (raw (fact 𝓤 (r ≡ withHeard (t .x) h))) (told (t .x) h r) $
+        heard ! (r ≡ withHeard (t .x) h) (λ e. split ! $ move ! (1 ∷ []) $
         -- [the result; true; the token; the borrow; _7; ..; .. _0; ..; the slice's name; its fact]
         peeks ! u64 (Is u64) (shows 𝓤 H A u64) r (u ∷ []) (λ is.
         land ! (from ! (stop !)) (store ! 14 refl (uint-lawful 𝓤 H A W w64 .typed r (u ∷ []) is .0)) $

@@ -1,28 +1,28 @@
 -- `stands` meets its contract: the second bit is asked where the first is not there. Assumes nothing.
 use mathlib.Core.Bool.{true, false}
 use borrow.Author.Needs.{needs}
-use Rattle.dispatch.proofs.Letters.{place-fits}
+use Rattle.dispatch.proofs.Letters.{bitOf-fits}
 use Rattle.dispatch.proofs.stands.Statement.{statement}
 use Rattle.dispatch.proofs.stands.Tie as tie
 
 has-requires : tie.Need-has-requires
-has-requires c κs = rw (c .place .ensures) (place-fits (c .before .args .letter) true (c .before .pre))
+has-requires c κs = rw (c .bit-of .ensures) (bitOf-fits (c .before .args .letter) true (c .before .pre))
 
 returns : tie.Need-returns
-returns c = rw (← c .before .before .place .ensures, ← c .before .has .ensures, c .if1 .taken)
+returns c = rw (← c .before .before .bit-of .ensures, ← c .before .has .ensures, c .if1 .taken)
 
 has-requires-2 : tie.Need-has-requires-2
 has-requires-2 c κs =
     let start = c .before .before .before .before in
-    rw (c .place2 .ensures) (place-fits (start .args .letter) false (start .pre))
+    rw (c .bit-of2 .ensures) (bitOf-fits (start .args .letter) false (start .pre))
 
 returns-2 : tie.Need-returns-2
 returns-2 c =
     let at-if = c .before .before in
     rw (
-      ← c .before .place2 .ensures,
+      ← c .before .bit-of2 .ensures,
       ← c .has2 .ensures,
-      ← at-if .before .before .place .ensures,
+      ← at-if .before .before .bit-of .ensures,
       ← at-if .before .has .ensures,
       at-if .if1 .left,
     )

@@ -7,7 +7,7 @@ use Prim.Native.Nat.{_-_}
 use borrow.Author.Needs.{needs}
 use Rattle.network.specs.Build.{letter}
 use Rattle.names.specs.Names.{isLetter}
-use Rattle.dispatch.proofs.Letters.{place-fits}
+use Rattle.dispatch.proofs.Letters.{bitOf-fits}
 use Rattle.dispatch.proofs.Core.{Naming, naming-start, naming-one, naming-none, naming-end}
 use Rattle.dispatch.proofs.well_named.Statement.{statement}
 use Rattle.dispatch.proofs.well_named.Tie as tie
@@ -31,11 +31,11 @@ loop-holds c = naming-start _ _
 stands-requires : tie.Need-stands-requires Inv-loop μ-loop
 stands-requires c κs = lettered c
 
-place-requires : tie.Need-place-requires Inv-loop μ-loop
-place-requires c κs = lettered (c .before .before)
+bit-of-requires : tie.Need-bit-of-requires Inv-loop μ-loop
+bit-of-requires c κs = lettered (c .before .before)
 
 has-requires : tie.Need-has-requires Inv-loop μ-loop
-has-requires c κs = rw (c .place .ensures) (place-fits _ true (lettered (c .before .before .before)))
+has-requires c κs = rw (c .bit-of .ensures) (bitOf-fits _ true (lettered (c .before .before .before)))
 
 loop-again : tie.Need-loop-again Inv-loop μ-loop
 loop-again c =
@@ -55,5 +55,5 @@ returns c = naming-end (c .before .loop .inv) (c .loop-test .left)
 pub well-named-spec : {M : Type 1} → statement M
 well-named-spec =
     tie.close
-    (tie.spec Inv-loop μ-loop loop-holds (λ c. search needs) stands-requires place-requires has-requires
+    (tie.spec Inv-loop μ-loop loop-holds (λ c. search needs) stands-requires bit-of-requires has-requires
     (λ c κs. search needs) (λ c. search needs) (λ c. search needs) loop-again returns)

@@ -2,7 +2,6 @@
 -- nothing.
 use denote.Ref.{now}
 use Rattle.sheet.specs.Reading.{read}
-use Rattle.opening.specs.Prologue.{behind}
 use Rattle.opening.proofs.Prologue.{read-few}
 use borrow.Author.Needs.{needs}
 use Rattle.opening.proofs.handed_in.Statement.{statement}
@@ -21,7 +20,7 @@ returns c =
     let at-cell-count = c .before in
     let at-read = at-cell-count .before .before in
     let read = at-read .read in
-    rw (c .behind .ensures, at-cell-count .cell-count .ensures, read .ensures)
+    rw (c .after-test .ensures, at-cell-count .cell-count .ensures, read .ensures)
 
 pub handed-in-spec : {M : Type 1} → statement M
 handed-in-spec = tie.close (tie.spec (λ c κs. search needs) cell-count-requires (λ c κs. search needs) returns)

@@ -52,8 +52,8 @@ returns-2 c =
     collected-many _ h are (loop .inv .1 _ h are) (least .result) (least .ensures) (c .before .if1 .left)
     (c .if2 .taken)
 
-behind-requires : tie.Need-behind-requires Inv-loop μ-loop
-behind-requires c κs =
+floor-after-requires : tie.Need-floor-after-requires Inv-loop μ-loop
+floor-after-requires c κs =
     let z = c .before .before .before .before .before .before .before .before .before in
     let loop = c .before .before .before .before .before .loop in
     let least = c .before .before .before .least-from in
@@ -70,12 +70,12 @@ loop-again c =
       omega arith,
       λ xs h are.
           collected-more _ h are (loop .inv .1 xs h are) (least .result) (least .ensures) some-left (omega arith) next
-          (c .behind .ensures),
+          (c .floor-after .ensures),
     )
 
 pub remaining-spec : {M : Type 1} → statement M
 remaining-spec =
     tie.close
     (tie.spec Inv-loop μ-loop (λ c κs. search needs) loop-holds least-from-requires returns returns-2
-    (λ c κs. search needs) (λ c. search needs) (λ c. search needs) (λ c. search needs) behind-requires
+    (λ c κs. search needs) (λ c. search needs) (λ c. search needs) (λ c. search needs) floor-after-requires
     (λ c. search needs) loop-again)
