@@ -9,7 +9,7 @@ use Rattle.network.specs.declared.Constraint.{Constraint}
 use Rattle.network.specs.declared.Network.{Network}
 use Rattle.rows.specs.declared.Frame.{Frame}
 use Rattle.rows.specs.Framed.{Framed}
-use Rattle.rows.proofs.Packed.{sixteen}
+use Rattle.rows.proofs.Gapless.{sixteen}
 use Rattle.bounds.specs.Listed.{upperWeight, lowerWeight, Lists, Bound}
 use Rattle.bounds.specs.Halves.{Listable, UpperAdded, LowerAdded}
 use Rattle.bounds.proofs.Weights.{upper-few, lower-few}

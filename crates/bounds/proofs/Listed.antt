@@ -13,7 +13,7 @@ use Rattle.prelude.proofs.Tests.{eq-or-ne}
 use Rattle.network.specs.Constraint.{covers}
 use Rattle.network.specs.declared.Constraint.{Constraint}
 use Rattle.network.specs.declared.Network.{Network}
-use Rattle.bounds.specs.Listed.{asking, target, source, weight, listed, countAfter, listAfter, Lists, Short}
+use Rattle.bounds.specs.Listed.{asking, target, source, weight, listAsks, countAfter, listAfter, Lists, NoLonger}
 use Rattle.bounds.specs.Listed.{Added}
 
 pub maxBelow-ext : (f g : ℕ → ℕ) (n : ℕ) → ((k : ℕ) → k < n → f k ≡ g k) → maxBelow n f ≡ maxBelow n g
@@ -119,7 +119,7 @@ module _ (n : ℕ) (counts lists : List ℕ) (s x y z : ℕ) (L : Lists n counts
         ≡ asking (target lists k) (source lists k) (weight lists k) row u
     same k e = asks-three (listAfter lists b x y z) k _ _ _ row u (listAfter-other lists b x y z k e)
 
-    append-here : listed (countAfter counts s) (listAfter lists b x y z) s row u ≡ max (listed counts lists s row u)
+    append-here : listAsks (countAfter counts s) (listAfter lists b x y z) s row u ≡ max (listAsks counts lists s row u)
         (asking x y z row u)
     append-here =
         let rest = maxBelow-ext _ _ (getD counts s 0) (λ j l. same (s * 128 + j) (λ e. omega arith)) in
@@ -127,7 +127,7 @@ module _ (n : ℕ) (counts lists : List ℕ) (s x y z : ℕ) (L : Lists n counts
         (omega (arith, rest, asks-three (listAfter lists b x y z) b x y z row u here))
 
     append-other : (r : ℕ) → (r ≡ s → ⊥) → getD counts r 0 ≤ 128
-        → listed (countAfter counts s) (listAfter lists b x y z) r row u ≡ listed counts lists r row u
+        → listAsks (countAfter counts s) (listAfter lists b x y z) r row u ≡ listAsks counts lists r row u
     append-other r e l =
         rw (countAfter-other counts s r e)
         (maxBelow-ext _ _ (getD counts r 0) (λ j m. same (r * 128 + j) (λ q. e (omega arith))))
@@ -157,7 +157,7 @@ module _ (c : Constraint) (x y z : ℕ) (counts lists : List ℕ) where
       later = λ r l. A .later r (omega arith);
     }
 
-    module _ (n : ℕ) (L : Lists n counts′ lists′) (short : Short 127 counts) (h : s < 16) where
+    module _ (n : ℕ) (L : Lists n counts′ lists′) (short : NoLonger 127 counts) (h : s < 16) where
       pub room : getD counts′ s 0 < 128
       room = omega (arith, A .count-later s (omega arith), short s)
 

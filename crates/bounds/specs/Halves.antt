@@ -5,7 +5,7 @@ use Rattle.network.specs.Limits as L
 use Rattle.network.specs.WellFormed.{InLimits}
 use Rattle.network.specs.declared.Constraint.{Constraint}
 use Rattle.rows.specs.declared.Frame.{Frame}
-use Rattle.bounds.specs.Listed.{Small, Added, upperWeight, lowerWeight}
+use Rattle.bounds.specs.Listed.{SmallSums, Added, upperWeight, lowerWeight}
 
 -- a constraint that can be listed
 pub record Listable (frame : Frame) (c : Constraint) : Type 0 where
@@ -14,7 +14,7 @@ pub record Listable (frame : Frame) (c : Constraint) : Type 0 where
   pub from : c .from < frame .events
   pub to : c .to < frame .events
   pub bound : InLimits (c .bound)
-  pub label : Small (c .label)
+  pub label : SmallSums (c .label)
 
 -- the bound of one of its halves is listed
 abbrev pub UpperAdded : Frame → Constraint → List ℕ → List ℕ → List ℕ → List ℕ → Type 0

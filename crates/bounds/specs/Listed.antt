@@ -47,8 +47,8 @@ module _ (lists : List ℕ) where
   weight b = getD lists (b * 3 + 2) 0
 
 -- what the list of scenario s asks
-abbrev pub listed : List ℕ → List ℕ → ℕ → List ℕ → ℕ → ℕ
-listed counts lists s row u =
+abbrev pub listAsks : List ℕ → List ℕ → ℕ → List ℕ → ℕ → ℕ
+listAsks counts lists s row u =
     maxBelow (getD counts s 0)
     (λ j. let b = s * L.bounds + j in asking (target lists b) (source lists b) (weight lists b) row u)
 
@@ -68,11 +68,11 @@ pub record Lists (n : ℕ) (counts lists : List ℕ) : Type 0 where
   pub weights : (b : ℕ) → weight lists b ≤ heaviest
 
 -- each list has at most m bounds
-abbrev pub Short : ℕ → List ℕ → Type 0
-Short m counts = (s : ℕ) → getD counts s 0 ≤ m
+abbrev pub NoLonger : ℕ → List ℕ → Type 0
+NoLonger m counts = (s : ℕ) → getD counts s 0 ≤ m
 
 -- a label's letters are among four
-pub record Small (ℓ : Label) : Type 0 where
+pub record SmallSums (ℓ : Label) : Type 0 where
   pub positive : ℓ .positive < L.cases
   pub negative : ℓ .negative < L.cases
 
@@ -80,7 +80,7 @@ pub record Small (ℓ : Label) : Type 0 where
 pub record Bound (frame : Frame) (c : Constraint) (target source weight : ℕ) : Type 0 where
   pub scenarios : frame .scenarios ≤ L.cases
   pub events : frame .events ≤ L.events
-  pub label : Small (c .label)
+  pub label : SmallSums (c .label)
   pub target-in : target < frame .events
   pub source-in : source < frame .events
   pub weight-in : weight ≤ heaviest
@@ -91,7 +91,7 @@ pub record Added (c : Constraint) (target source weight : ℕ) (counts lists cou
   pub keeps : (n : ℕ) → target < n → source < n → weight ≤ heaviest → Lists n counts lists → Lists n counts′ lists′
   pub grows : (s : ℕ) → getD counts′ s 0 ≤ getD counts s 0 + 1
   pub adds : (Γ : Network) (s : ℕ) → s < k → (row : List ℕ) (u : ℕ)
-      → listed counts′ lists′ s row u ≡ max (listed counts lists s row u)
+      → listAsks counts′ lists′ s row u ≡ max (listAsks counts lists s row u)
       (cond (covers Γ c s) (asking target source weight row u) 0)
   pub count-later : (s : ℕ) → k ≤ s → getD counts′ s 0 ≡ getD counts s 0
-  pub later : (s : ℕ) → k ≤ s → (row : List ℕ) (u : ℕ) → listed counts′ lists′ s row u ≡ listed counts lists s row u
+  pub later : (s : ℕ) → k ≤ s → (row : List ℕ) (u : ℕ) → listAsks counts′ lists′ s row u ≡ listAsks counts lists s row u

@@ -8,7 +8,7 @@ ghost use lib.ListN.{length, getD};
 ghost use Rattle.network.specs.Limits as L;
 ghost use Rattle.network.specs.WellFormed.{InLimits};
 ghost use Rattle.rows.specs.Rows.{Few, Row};
-ghost use Rattle.bounds.specs.Listed.{room, Lists, Short, Bound, Added, listed};
+ghost use Rattle.bounds.specs.Listed.{room, Lists, NoLonger, Bound, Added, listAsks};
 ghost use Rattle.bounds.specs.Listed.{upperWeight, lowerWeight, countAfter, listAfter};
 ghost use Rattle.bounds.specs.Halves.{Listable, UpperAdded, LowerAdded};
 use network::Constraint;
@@ -68,7 +68,7 @@ fn list_bound(
     lists: &mut [u16; LIST],
 )
     requires { ⌜ Bound frame c target source weight × Lists (frame .events) (now counts) (now lists)
-        × Short (L.bounds - 1) (now counts) ⌝ }
+        × NoLonger (L.bounds - 1) (now counts) ⌝ }
     ensures { λ _. ⌜ Added c target source weight (now (counts .entry)) (now (lists .entry)) (now (counts .exit))
         (now (lists .exit)) (frame .scenarios) ⌝ }
 {
@@ -90,7 +90,7 @@ pub fn list_upper(
     lists: &mut [u16; LIST],
 )
     requires { ⌜ Listable frame c × Lists (frame .events) (now counts) (now lists)
-        × Short (L.bounds - 1) (now counts) ⌝ }
+        × NoLonger (L.bounds - 1) (now counts) ⌝ }
     ensures { λ _. ⌜ UpperAdded frame c (now (counts .entry)) (now (lists .entry)) (now (counts .exit))
         (now (lists .exit)) ⌝ }
 {
@@ -106,7 +106,7 @@ pub fn list_lower(
     lists: &mut [u16; LIST],
 )
     requires { ⌜ Listable frame c × Lists (frame .events) (now counts) (now lists)
-        × Short (L.bounds - 1) (now counts) ⌝ }
+        × NoLonger (L.bounds - 1) (now counts) ⌝ }
     ensures { λ _. ⌜ LowerAdded frame c (now (counts .entry)) (now (lists .entry)) (now (counts .exit))
         (now (lists .exit)) ⌝ }
 {
@@ -134,11 +134,11 @@ pub fn raise_by_bounds(
     row: &[u16; Network::EVENTS],
     o: &mut [u16; Network::EVENTS],
 )
-    requires { ⌜ (s < L.cases) × Lists L.events (now counts) (now lists) × Short L.bounds (now counts)
+    requires { ⌜ (s < L.cases) × Lists L.events (now counts) (now lists) × NoLonger L.bounds (now counts)
         × Few L.horizon (now row) × (length (now o) ≡ L.events) × Few 32767 (now o) ⌝ }
     ensures { λ _. ⌜ Row (now (o .exit))
         (λ u. max (getD (now (o .entry)) u 0)
-        (listed (now (counts .entry)) (now (lists .entry)) s (now (row .entry)) u)) ⌝ }
+        (listAsks (now (counts .entry)) (now (lists .entry)) s (now (row .entry)) u)) ⌝ }
 {
     let count = counts[s];
     let base = s * Network::BOUNDS;

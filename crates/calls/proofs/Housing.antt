@@ -17,7 +17,7 @@ use Rattle.canonical.specs.Same.{Same}
 use Rattle.canonical.proofs.Again.{form-accepted, form-again, form-few, form-tables}
 use Rattle.canonical.proofs.Forms.{forms-equal}
 use Rattle.calls.specs.Calls.{housed}
-use Rattle.calls.specs.Answers.{Reads, Wrote}
+use Rattle.calls.specs.Answers.{Reads, WroteText}
 use Rattle.calls.specs.Housing.{Form, SameTables, Housing}
 use Rattle.calls.proofs.Call.{reads-well-formed}
 use Rattle.calls.proofs.Writing.{house-wrote}
@@ -31,9 +31,9 @@ by-sheet P h sheet f Γ form =
     let n = form .reads .network in
     rw (form .form, ← n) (h sheet (form .reads .accepted) (rw (← n) at (form .few)))
 
-all-written : (sheet m f : List ℕ) (Γ : Network) → Form sheet Γ f → length f ≤ length m → Wrote f m (housed sheet m)
+all-written : (sheet m f : List ℕ) (Γ : Network) → Form sheet Γ f → length f ≤ length m → WroteText f m (housed sheet m)
 all-written sheet m f Γ form =
-    by-sheet (λ sheet Γ f. length f ≤ length m → Wrote f m (housed sheet m)) (λ sheet a. house-wrote sheet m a)
+    by-sheet (λ sheet Γ f. length f ≤ length m → WroteText f m (housed sheet m)) (λ sheet a. house-wrote sheet m a)
     sheet f Γ form
 
 again : (sheet f : List ℕ) (Γ : Network) → Form sheet Γ f → (Δ : Network) × Form f Δ f
@@ -49,7 +49,7 @@ again =
     ))
 
 second-pass : (sheet f m : List ℕ) (Γ : Network) → Form sheet Γ f → length f ≤ length m
-    → Wrote f m (housed f m)
+    → WroteText f m (housed f m)
 second-pass sheet f m Γ form l = let own = again sheet f Γ form in all-written f m f (own .0) (own .1) l
 
 tables : (sheet f : List ℕ) (Γ Δ : Network) → Form sheet Γ f → Reads f Δ → SameTables Γ Δ

@@ -34,7 +34,7 @@ use Rattle.calls.specs.Call.{Left}
 use Rattle.calls.specs.Lent.{asMinutes, inPlace}
 use Rattle.calls.specs.Calls.{solving, listed, housed}
 use Rattle.calls.specs.Table.{refusedText, orRefused, listingOn, tableOn, formOn}
-use Rattle.calls.specs.Answers.{Wrote}
+use Rattle.calls.specs.Answers.{WroteText}
 use Rattle.calls.specs.Numbers.{minutes}
 use Rattle.calls.specs.Printing.{Printing}
 use Rattle.calls.specs.declared.Written.{Written}
@@ -44,7 +44,7 @@ use Rattle.calls.proofs.Writing.{wrote, listing-wrote, house-wrote, hou
 use Rattle.calls.proofs.Solving.{solves-least, refuses-none}
 
 -- a call that wrote, and one that refused
-wrote-on : (l : Left Written) (text m : List ℕ) (next : List ℕ → List ℕ) → Wrote text m l
+wrote-on : (l : Left Written) (text m : List ℕ) (next : List ℕ → List ℕ) → WroteText text m l
     → orRefused l next ≡ next text
 wrote-on l text m next w =
     ap (λ (v : Values ℕ). elim (eqb (v .number) 0) as (λ _. List ℕ) [

@@ -18,7 +18,7 @@ use Rattle.canonical.specs.House.{houseText}
 use Rattle.calls.specs.Call.{withoutLine, Left}
 use Rattle.calls.specs.Lent.{Handed, inPlace}
 use Rattle.calls.specs.Calls.{writtenValues, writing, refusing, listingTests, listingOf, houseTests, housed}
-use Rattle.calls.specs.Answers.{Writes, Wrote}
+use Rattle.calls.specs.Answers.{Writes, WroteText}
 use Rattle.calls.specs.Numbers.{lists, houses}
 use Rattle.calls.specs.declared.Written.{Written}
 use Rattle.calls.proofs.Call.{call-fails, call-works}
@@ -26,7 +26,7 @@ use Rattle.calls.proofs.Matched.{writes-call}
 use Rattle.calls.proofs.Handed.{Rightly}
 use Rattle.calls.proofs.Fit.{few-fit, many-do-not, not-fit-many}
 
-pub wrote : {l : Left Written} (text m : List ℕ) → writing (inPlace m) text ≡ l → Wrote text m l
+pub wrote : {l : Left Written} (text m : List ℕ) → writing (inPlace m) text ≡ l → WroteText text m l
 wrote text m e = rw (← e) (record { answer = refl; memory = refl })
 
 -- there is room, or there is not
@@ -49,7 +49,7 @@ module _ (sheet : List ℕ) (t : Handed) (right : Network → Type 0) (m : List 
       (λ a. (refl, rightly a .no, λ _. (refl, short (length (text net)) (length m), λ _. tt))) (λ Γ. (refl, refl))
 
   pub listing-wrote : read sheet .outcome ≡ Accepted → Rightly t right net → right net → length (text net) ≤ length m
-      → Wrote (text net) m (listingOf sheet t m)
+      → WroteText (text net) m (listingOf sheet t m)
   listing-wrote a rightly h room =
       wrote (text net) m
       (call-works (refusing (inPlace m)) sheet (listingTests sheet t (inPlace m)) (λ Γ. writing (inPlace m) (text Γ))
@@ -75,7 +75,7 @@ module _ (sheet m : List ℕ) where
   module _ (a : read sheet .outcome ≡ Accepted) where
     pub house-wrote : length (remainingOf (read sheet .network)) ≤ L.rules
         → length (houseText sheet (read sheet .network)) ≤ length m
-        → Wrote (houseText sheet (read sheet .network)) m (housed sheet m)
+        → WroteText (houseText sheet (read sheet .network)) m (housed sheet m)
     house-wrote few room =
         wrote (houseText sheet (read sheet .network)) m
         (call-works (refusing (inPlace m)) sheet (houseTests sheet (inPlace m)) form-work (read sheet) refl a

@@ -57,6 +57,6 @@ pub record Writes (sheet : List ℕ) (own : List Own) {A B : Type 0} (values : A
   pub keeps : (values (l .answer) .number ≡ 0 → ⊥) → l .memory ≡ m
 
 -- it has written this text: "the written part has exactly its stated contents and everything behind it is unaltered"
-pub record Wrote (text m : List ℕ) (l : Left Written) : Type 0 where
+pub record WroteText (text m : List ℕ) (l : Left Written) : Type 0 where
   pub answer : writtenValues (l .answer) ≡ done (length text)
   pub memory : l .memory ≡ text ++ drop (length text) m

@@ -21,7 +21,7 @@ use Rattle.calls.specs.Bench.{benchJudgement, benchSolving, benchListed,
 use Rattle.calls.specs.Bench.{benchDue, packed, packedCount}
 use Rattle.calls.specs.Play.{eventsDue, dueValues}
 use Rattle.calls.specs.Header.{JudgeHolds, CountHolds}
-use Rattle.calls.specs.Answers.{Reads, Wrote}
+use Rattle.calls.specs.Answers.{Reads, WroteText}
 
 pub record Benched : Type 0 where
   -- demand 2
@@ -38,7 +38,7 @@ pub record Benched : Type 0 where
   -- the listing, where there is room, and everything behind it unaltered
   pub lists : (sheet b m : List ℕ) (Γ : Network) → Reads sheet Γ → length b ≡ 2 * cells Γ
       → length (listing sheet Γ (minutesOf b)) ≤ length m
-      → Wrote (listing sheet Γ (minutesOf b)) m (benchListed sheet b m)
+      → WroteText (listing sheet Γ (minutesOf b)) m (benchListed sheet b m)
   -- a text of the form is played as the list of what it says
   pub plays : (sheet b : List ℕ) (Γ : Network) (m : ℕ) (text : List ℕ) → Reads sheet Γ → length b ≡ 2 * cells Γ
       → isHeard text ≡ true → benchDue sheet b m text ≡ eventsDue sheet (minutesOf b) m (heardIn text)

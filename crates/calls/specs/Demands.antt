@@ -31,7 +31,7 @@ use Rattle.listing.specs.Listing.{listing}
 use Rattle.calls.specs.Values.{done, refusedAs}
 use Rattle.calls.specs.Calls.{countsOf, summary, summaryValues, judgement, writtenValues, solving, listed}
 use Rattle.calls.specs.Bench.{passed, breachValues, judgementValues}
-use Rattle.calls.specs.Answers.{Reads, Wrote}
+use Rattle.calls.specs.Answers.{Reads, WroteText}
 use Rattle.calls.specs.Numbers.{Numbers}
 use Rattle.calls.specs.Benched.{Benched}
 
@@ -76,10 +76,10 @@ pub record Demands : Type 0 where
   -- "otherwise it writes a good table in which each event, in each case, is no later than in any other good table, and
   -- leaves everything behind it unaltered"
   pub solved : (sheet m : List ℕ) (Γ : Network) → Reads sheet Γ → cells Γ ≤ length m → (L.Inconsistent Γ → ⊥)
-      → (σ : List ℕ) × Least Γ σ × Wrote σ m (solving sheet m)
+      → (σ : List ℕ) × Least Γ σ × WroteText σ m (solving sheet m)
   -- of the listing's call, where there is room: the listing, and everything behind it unaltered
   pub lists : (sheet t m : List ℕ) (Γ : Network) → Reads sheet Γ → length t ≡ cells Γ
       → length (listing sheet Γ t) ≤ length m
-      → Wrote (listing sheet Γ t) m (listed sheet t m)
+      → WroteText (listing sheet Γ t) m (listed sheet t m)
   -- and of the bench's calls
   pub bench : Benched

@@ -15,7 +15,7 @@ use Rattle.tighten.specs.Tightest.{remainingOf}
 use Rattle.canonical.specs.House.{houseText}
 use Rattle.canonical.specs.Same.{Same}
 use Rattle.calls.specs.Calls.{housed}
-use Rattle.calls.specs.Answers.{Reads, Wrote}
+use Rattle.calls.specs.Answers.{Reads, WroteText}
 
 -- the sheet's network is Γ, no more rows remain of it than a sheet may have, and f is its form
 pub record Form (sheet : List ℕ) (Γ : Network) (f : List ℕ) : Type 0 where
@@ -33,7 +33,7 @@ pub record SameTables (Γ Δ : Network) : Type 0 where
 pub record Housing : Type 0 where
   -- where there is room the form is written, and everything behind it is unaltered
   pub written : (sheet m f : List ℕ) (Γ : Network) → Form sheet Γ f → length f ≤ length m
-      → Wrote f m (housed sheet m)
+      → WroteText f m (housed sheet m)
   -- the rows in it are those that remain of the sheet's, in document 02's words, and no other list is
   pub rows : (sheet : List ℕ) (Γ : Network) → Reads sheet Γ → Remaining (uppersOf Γ) (remainingOf Γ)
   pub rows-alone : (sheet : List ℕ) (Γ : Network) (rs : List Constraint) → Reads sheet Γ → Remaining (uppersOf Γ) rs
@@ -42,7 +42,7 @@ pub record Housing : Type 0 where
   pub again : (sheet f : List ℕ) (Γ : Network) → Form sheet Γ f → (Δ : Network) × Form f Δ f
   -- "a second pass changes no byte": the call on the form writes the form
   pub second-pass : (sheet f m : List ℕ) (Γ : Network) → Form sheet Γ f → length f ≤ length m
-      → Wrote f m (housed f m)
+      → WroteText f m (housed f m)
   -- "The form reads back to the same good tables"
   pub tables : (sheet f : List ℕ) (Γ Δ : Network) → Form sheet Γ f → Reads f Δ → SameTables Γ Δ
   -- "Two sheets give equal bytes if and only if their horizons, event lists, signal lists and remaining rows are equal"

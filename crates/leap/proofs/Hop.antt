@@ -11,7 +11,7 @@ use Rattle.network.specs.Build.{scenarios}
 use Rattle.network.specs.declared.Network.{Network}
 use Rattle.rows.specs.declared.Frame.{Frame}
 use Rattle.rows.specs.Rows.{Times}
-use Rattle.rows.proofs.Packed.{length-packed}
+use Rattle.rows.proofs.Gapless.{length-gapless}
 use Rattle.rounds.specs.Propagate.{propagate}
 use Rattle.rounds.specs.Cap.{cap}
 use Rattle.rounds.specs.Compiled.{Compiled, Usable}
@@ -42,6 +42,6 @@ module _ {frame : Frame} {counts lists : List ℕ} where
         let led = leads-leap (propagate Γ) (cap Γ) (step-rises Γ) (step-near Γ) (held Γ t) (length-held Γ t)
         (held Γ d) p j (M Γ C) (L Γ C)
         (rw here at (placed-within Γ (C .formed .events) (placed-framed C P)))
-        (w .0) (omega (arith, w .1, length-packed (Γ .events) (scenarios Γ) t)) (w .2) in
+        (w .0) (omega (arith, w .1, length-gapless (Γ .events) (scenarios Γ) t)) (w .2) in
         rw (← here) at led;
   }

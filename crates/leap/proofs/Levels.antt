@@ -14,7 +14,7 @@ use Rattle.fixpoint.proofs.Moved.{length-moved, moved-at}
 use Rattle.fixpoint.proofs.Leads.{later}
 use Rattle.network.specs.Build.{scenarios}
 use Rattle.network.specs.declared.Network.{Network}
-use Rattle.rows.proofs.Packed.{length-packed}
+use Rattle.rows.proofs.Gapless.{length-gapless}
 use Rattle.rounds.specs.Propagate.{propagate}
 use Rattle.rounds.specs.Cap.{cap}
 use Rattle.rounds.specs.Rounds.{held}
@@ -59,7 +59,7 @@ module _ (Γ : Network) (few : Γ .events ≤ 16) (p j : ℕ) (t d : List ℕ) w
         let low : ℕ → ℕ = λ i. min (getD (held Γ d) i 0) (getD (held Γ d) c 0) in
         let inside : c < length (held Γ t) = omega (
           arith,
-          length-packed (Γ .events) (scenarios Γ) t,
+          length-gapless (Γ .events) (scenarios Γ) t,
           cell-lt (Γ .events) (scenarios Γ) s u hs hu,
         ) in
         let up = later (propagate Γ) (cap Γ) (step-rises Γ) (moved (held Γ t) j low)

@@ -16,7 +16,7 @@ use Rattle.fixpoint.proofs.Moved.{length-moved, moved-at}
 use Rattle.network.specs.Build.{scenarios, cells}
 use Rattle.network.specs.declared.Network.{Network}
 use Rattle.rows.specs.Rows.{Times}
-use Rattle.rows.proofs.Packed.{length-packed, packed-at}
+use Rattle.rows.proofs.Gapless.{length-gapless, gapless-at}
 use Rattle.rounds.specs.Cap.{cap}
 use Rattle.rounds.specs.Rounds.{held}
 use Rattle.rounds.proofs.Cap.{within-cap}
@@ -40,7 +40,7 @@ level-up D h N n =
 module _ (Γ : Network) (few : Γ .events ≤ 16) where
   pub held-at : (t : List ℕ) (s u : ℕ) → s < scenarios Γ → u < Γ .events
       → getD (held Γ t) (s * Γ .events + u) 0 ≡ getD t (s * 16 + u) 0
-  held-at t s u hs hu = packed-at (Γ .events) (scenarios Γ) t s u hs hu
+  held-at t s u hs hu = gapless-at (Γ .events) (scenarios Γ) t s u hs hu
 
   -- a strategy is what its cells are
   pub held-by : (t xs : List ℕ) → length xs ≡ cells Γ
@@ -48,7 +48,7 @@ module _ (Γ : Network) (few : Γ .events ≤ 16) where
       (s * Γ .events + u) 0)
       → held Γ t ≡ xs
   held-by t xs l h =
-      let n = length-packed (Γ .events) (scenarios Γ) t in
+      let n = length-gapless (Γ .events) (scenarios Γ) t in
       ext-getD 0 (held Γ t) xs (n ∙ sym l) (λ i b.
       by-cell (Γ .events) (scenarios Γ) (λ i. getD (held Γ t) i 0 ≡ getD xs i 0)
       (λ s u hs hu. held-at t s u hs hu ∙ h s u hs hu) i (omega (arith, n)))
@@ -71,7 +71,7 @@ module _ (Γ : Network) (few : Γ .events ≤ 16) where
   pub held-same : (t u : List ℕ) → ((i : ℕ) → i < scenarios Γ * 16 → getD t i 0 ≡ getD u i 0)
       → held Γ t ≡ held Γ u
   held-same t u h =
-      held-by t (held Γ u) (length-packed (Γ .events) (scenarios Γ) u) (λ s v hs hv.
+      held-by t (held Γ u) (length-gapless (Γ .events) (scenarios Γ) u) (λ s v hs hv.
       h (s * 16 + v) (omega arith) ∙ sym (held-at u s v hs hv))
 
   -- a table that is placed holds a strategy that is moved on
@@ -79,7 +79,7 @@ module _ (Γ : Network) (few : Γ .events ≤ 16) where
       → held Γ o ≡ moved (held Γ t) j (λ i. partOf lo hi (getD (held Γ d) i 0))
   held-moved {t} {d} {o} {lo} {hi} {j} P =
       let rise : ℕ → ℕ = λ i. partOf lo hi (getD (held Γ d) i 0) in
-      let m = length-packed (Γ .events) (scenarios Γ) t in
+      let m = length-gapless (Γ .events) (scenarios Γ) t in
       held-by o (moved (held Γ t) j rise) (length-moved (held Γ t) j rise ∙ m) (λ s u hs hu.
       let at-cell : s * Γ .events + u < length (held Γ t) = omega
       (arith, m, cell-lt (Γ .events) (scenarios Γ) s u hs hu) in

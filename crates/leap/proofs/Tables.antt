@@ -12,7 +12,7 @@ use Rattle.network.specs.Build.{scenarios}
 use Rattle.network.specs.declared.Network.{Network}
 use Rattle.rows.specs.declared.Frame.{Frame}
 use Rattle.rows.specs.Rows.{Times, Wrote}
-use Rattle.rows.proofs.Packed.{length-packed}
+use Rattle.rows.proofs.Gapless.{length-gapless}
 use Rattle.rounds.specs.declared.Effect.the-variants.{Rises}
 use Rattle.rounds.specs.Propagate.{propagate}
 use Rattle.rounds.specs.Cap.{cap}
@@ -44,7 +44,7 @@ module _ {frame : Frame} {counts lists : List ℕ} where
       omega (
         arith,
         held-few Γ (C .formed .events) d (framed-times C D) i
-            (omega (arith, length-packed (Γ .events) (scenarios Γ) t)),
+            (omega (arith, length-gapless (Γ .events) (scenarios Γ) t)),
       ))
 
   pub advanced-none : {t : List ℕ} → Times (frame .events) (frame .scenarios) t → Advanced frame counts lists 0 t t

@@ -12,7 +12,7 @@ use Rattle.network.specs.Build.{scenarios}
 use Rattle.network.specs.declared.Network.{Network}
 use Rattle.rows.specs.declared.Frame.{Frame}
 use Rattle.rows.specs.Rows.{Times}
-use Rattle.rows.proofs.Packed.{length-packed}
+use Rattle.rows.proofs.Gapless.{length-gapless}
 use Rattle.rounds.specs.Propagate.{propagate}
 use Rattle.rounds.specs.Compiled.{Compiled}
 use Rattle.rounds.specs.Rounds.{held}
@@ -45,7 +45,7 @@ module _ {frame : Frame} {counts lists : List ℕ} {Γ : Network} (C : Compiled 
         F .made Γ C
         ∙ ap (iterate p (propagate Γ))
         (moved-ext (held Γ t) j (λ i. partOf lo hi (getD (held Γ d) i 0)) (λ i. f (getD (held Γ d) i 0))
-        (λ i b. h i (omega (arith, length-packed (Γ .events) (scenarios Γ) t))))
+        (λ i b. h i (omega (arith, length-gapless (Γ .events) (scenarios Γ) t))))
 
     module _ (D : Times (frame .events) (frame .scenarios) d) where
       -- at a level between
@@ -78,7 +78,7 @@ module _ {frame : Frame} {counts lists : List ℕ} {Γ : Network} (C : Compiled 
             omega (
               arith,
               held-low Γ few d l (next-framed N .none z) i
-                  (omega (arith, length-packed (Γ .events) (scenarios Γ) t)),
+                  (omega (arith, length-gapless (Γ .events) (scenarios Γ) t)),
             )) in
             faster-by Γ few p j t d (between-framed B) (A .led Γ C .made ∙ ap (iterate p (propagate Γ)) (sym still))
             (omega arith)
@@ -100,7 +100,7 @@ module _ {frame : Frame} {counts lists : List ℕ} {Γ : Network} (C : Compiled 
         at-most-of L A B = record {
           faster = λ c b.
               each-level few L (faster-highest A B) (next-framed N) z c
-              (omega (arith, length-packed (Γ .events) (scenarios Γ) t));
+              (omega (arith, length-gapless (Γ .events) (scenarios Γ) t));
         }
 
         pub at-least-of : {o : List ℕ} {least most : ℕ} → least ≡ l + j * l → Lower Γ d l (Slower Γ p j t d)
@@ -109,5 +109,5 @@ module _ {frame : Frame} {counts lists : List ℕ} {Γ : Network} (C : Compiled 
         at-least-of e L F B = record {
           slower = λ c b.
               each-level few L (slower-highest e F B) (next-framed N) z c
-              (omega (arith, length-packed (Γ .events) (scenarios Γ) t));
+              (omega (arith, length-gapless (Γ .events) (scenarios Γ) t));
         }

@@ -59,15 +59,23 @@ module _ (Γ : Network) (m x : List ℕ) (s : Solved) (is : SolvedIs Γ m x s) w
       by-end Passes p = (rw p, is .table ∙ rw (p, tableAfter))
       by-end Spent p = (rw p, is .table ∙ rw (p, tableAfter))
 
--- the solver is asked where the sheet was read and there is room for n minutes, as many as its table has
-module _ (sheet m : List ℕ) (g : Reading) (e : g ≡ read sheet) (n : ℕ) (counted : n ≡ cells (g .network)) (o : Outcome)
-    (is-after : o ≡ afterTest (g .outcome) (leb n (length m)) BufferTooShort) where
+-- what is known before the solver is asked: the sheet was read, its table has n minutes, and whether there is room for
+-- them in m is in the outcome
+pub record Prepared (sheet m : List ℕ) (g : Reading) (n : ℕ) (o : Outcome) : Type 0 where
+  pub read-is : g ≡ read sheet
+  pub counted : n ≡ cells (g .network)
+  pub tested : o ≡ afterTest (g .outcome) (leb n (length m)) BufferTooShort
+
+module _ {sheet m : List ℕ} {g : Reading} {n : ℕ} {o : Outcome} (t : Prepared sheet m g n o) where
+  abbrev e : g ≡ read sheet
+  e = t .read-is
+
   abbrev net : Network
   net = read sheet .network
 
   outcome-is : o ≡ afterTest (read sheet .outcome) (leb (cells net) (length m)) BufferTooShort
   outcome-is =
-      is-after ∙ ap (λ (k : ℕ). afterTest (g .outcome) (leb k (length m)) BufferTooShort) counted
+      t .tested ∙ ap (λ (k : ℕ). afterTest (g .outcome) (leb k (length m)) BufferTooShort) (t .counted)
       ∙ ap (λ (x : Reading). afterTest (x .outcome) (leb (cells (x .network)) (length m)) BufferTooShort) e
 
   pub solving-refused : (r : Refusal) → o ≡ Refused r → Leaves (solving sheet m) (W.Refused r) m
@@ -85,7 +93,7 @@ module _ (sheet m : List ℕ) (g : Reading) (e : g ≡ read sheet) (n : ℕ) (co
     solving-asked =
         rw e (accepted-well-formed sheet (passed .0) .0, leb-true (cells net) (length m) (passed .1))
 
-    module _ (x : List ℕ) (s : Solved) (is : SolvedIs (g .network) m x s) where
+    module _ {x : List ℕ} {s : Solved} (is : SolvedIs (g .network) m x s) where
       is-read : SolvedIs net m x s
       is-read = rw e at is
 
@@ -93,7 +101,7 @@ module _ (sheet m : List ℕ) (g : Reading) (e : g ≡ read sheet) (n : ℕ) (co
       solving-consistent k q =
           let r = consistent-rests net m x s is-read k q in
           let size = solve-least net (accepted-well-formed sheet (passed .0) .0) (r .0) .solves .sized in
-          let all : n ≡ cells net = counted ∙ ap (λ (y : Reading). cells (y .network)) e in
+          let all : n ≡ cells net = t .counted ∙ ap (λ (y : Reading). cells (y .network)) e in
           leaves-as
           (call-works (refusing (inPlace m)) sheet (solvingTests (inPlace m))
           (λ Γ. writing (inPlace m) (solve Γ .reached)) (read sheet) refl (passed .0) (passed .1, (rw (r .0), tt)))

@@ -82,25 +82,33 @@ fn packed_word(word: u8, first: u8, second: u8, third: u8) -> u64
     16777216 * (word as u64 + 256 * (first as u64 + 256 * (second as u64 + 256 * (third as u64))))
 }
 
-// A verdict. Cases, events and rules are fewer than 256.
+// A breach. Cases, events and rules are fewer than 256.
+fn packed_breach(breach: Breach) -> u64
+    requires { ⌜ B.Small (B.breachValues breach) ⌝ }
+    ensures { λ r. ⌜ r ≡ B.packed (B.breachValues breach) ⌝ }
+{
+    match breach {
+        Breach::Late { scenario, event } => packed_word(1, scenario as u8, event as u8, 0),
+        Breach::Rule {
+            scenario,
+            constraint,
+        } => packed_word(2, scenario as u8, constraint as u8, 0),
+        Breach::Unheard {
+            scenario,
+            other,
+            event,
+        } => packed_word(3, scenario as u8, other as u8, event as u8),
+    }
+}
+
+// A verdict.
 fn packed_verdict(verdict: Verdict) -> u64
     requires { ⌜ B.Small (B.verdictValues verdict) ⌝ }
     ensures { λ r. ⌜ r ≡ B.packed (B.verdictValues verdict) ⌝ }
 {
     match verdict {
         Verdict::Pass => packed_word(0, 0, 0, 0),
-        Verdict::Breach(breach) => match breach {
-            Breach::Late { scenario, event } => packed_word(1, scenario as u8, event as u8, 0),
-            Breach::Rule {
-                scenario,
-                constraint,
-            } => packed_word(2, scenario as u8, constraint as u8, 0),
-            Breach::Unheard {
-                scenario,
-                other,
-                event,
-            } => packed_word(3, scenario as u8, other as u8, event as u8),
-        },
+        Verdict::Breach(breach) => packed_breach(breach),
     }
 }
 

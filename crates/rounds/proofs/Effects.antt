@@ -18,7 +18,7 @@ use Rattle.network.specs.declared.Network.{Network}
 use Rattle.rows.specs.declared.Frame.{Frame}
 use Rattle.rows.specs.Rows.{Times}
 use Rattle.rows.specs.Framed.{Framed}
-use Rattle.rows.proofs.Packed.{length-packed}
+use Rattle.rows.proofs.Gapless.{length-gapless}
 use Rattle.rounds.specs.declared.Effect.{Effect}
 use Rattle.rounds.specs.declared.Effect.the-variants.{Passes, Rests, Rises}
 use Rattle.rounds.specs.Propagate.{propagate}
@@ -54,7 +54,7 @@ times-framed Γ frame F T = rw (F .events, F .scenarios-are) T
 
 module _ (Γ : Network) where
   pub length-held : (t : List ℕ) → length (held Γ t) ≡ length (cap Γ)
-  length-held t = length-packed (Γ .events) (scenarios Γ) t ∙ sym (length-cap Γ)
+  length-held t = length-gapless (Γ .events) (scenarios Γ) t ∙ sym (length-cap Γ)
 
   pub step-rises : Rising (length (cap Γ)) (propagate Γ)
   step-rises = rw (length-cap Γ) (rising Γ)

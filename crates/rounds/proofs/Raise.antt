@@ -14,9 +14,9 @@ use Rattle.network.specs.declared.Network.{Network}
 use Rattle.rows.specs.declared.Frame.{Frame}
 use Rattle.rows.specs.Framed.{Framed}
 use Rattle.rows.specs.Rows.{rowOf, Row, Stored}
-use Rattle.rows.specs.Known.{First}
-use Rattle.rows.proofs.Packed.{row-at}
-use Rattle.bounds.specs.Listed.{listed}
+use Rattle.rows.specs.Known.{FirstKnown}
+use Rattle.rows.proofs.Gapless.{row-at}
+use Rattle.bounds.specs.Listed.{listAsks}
 use Rattle.bounds.proofs.Listed.{maxBelow-ext}
 use Rattle.rounds.specs.Rounds.{held, raisedAt}
 
@@ -27,10 +27,10 @@ across t first s d u = maxBelow d (λ e. min (getD t (bitXor s e * 16 + u) 0) (g
 module _ (counts lists t : List ℕ) (s : ℕ) where
   -- what the scenario's own bounds ask
   abbrev pub ruled : ℕ → ℕ
-  ruled u = max (getD t (s * 16 + u) 0) (listed counts lists s (rowOf t s) u - 10080)
+  ruled u = max (getD t (s * 16 + u) 0) (listAsks counts lists s (rowOf t s) u - 10080)
 
   pub ruled-is : {row a b o : List ℕ} → row ≡ rowOf t s → Row a (λ u. getD row u 0 + 10080)
-      → Row b (λ u. max (getD a u 0) (listed counts lists s row u)) → Row o (λ u. getD b u 0 - 10080) → Row o ruled
+      → Row b (λ u. max (getD a u 0) (listAsks counts lists s row u)) → Row o (λ u. getD b u 0 - 10080) → Row o ruled
   ruled-is e h i j = record {
     sized = j .sized;
     is = λ u l. omega (arith, j .is u l, (rw e at i) .is u l, (rw e at h) .is u l, row-at t s u l);
@@ -50,7 +50,7 @@ module _ (counts lists t : List ℕ) (s : ℕ) where
   rises f e h i u l = rw e (omega (arith, h .is u l, i .is u l, row-at t s u l))
 
   pub raised-row : {first o₀ o : List ℕ} (Γ : Network) {frame : Frame} → Framed Γ frame
-      → First (frame .signals) (knownFrom Γ (held Γ t) s) first → Row o₀ ruled
+      → FirstKnown (frame .signals) (knownFrom Γ (held Γ t) s) first → Row o₀ ruled
       → Row o (λ u. max (getD o₀ u 0) (across t first s (frame .scenarios) u))
       → Row o (λ u. raisedAt Γ counts lists t s u)
   unfolding raisedAt

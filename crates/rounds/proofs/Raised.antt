@@ -18,8 +18,8 @@ use Rattle.network.specs.declared.Network.{Network}
 use Rattle.rows.specs.declared.Frame.{Frame}
 use Rattle.rows.specs.Rows.{RowIn, rowOf, Times}
 use Rattle.rows.specs.Known.{firstOf}
-use Rattle.rows.proofs.Packed.{sixteen, packed-at, row-at}
-use Rattle.bounds.specs.Listed.{listed, asking, target, source, weight}
+use Rattle.rows.proofs.Gapless.{sixteen, gapless-at, row-at}
+use Rattle.bounds.specs.Listed.{listAsks, asking, target, source, weight}
 use Rattle.bounds.proofs.Listed.{maxBelow-ext}
 use Rattle.rounds.specs.Propagate.{raised, constraintsBound, hyperarc, hyperarcsBound}
 use Rattle.rounds.specs.Compiled.{Compiled}
@@ -41,7 +41,7 @@ pub row-in : {Γ : Network} {frame : Frame} {counts lists row : List ℕ} → Co
 row-in {Γ} C t s l e = record {
   at = λ u m.
       ap (λ (xs : List ℕ). getD xs u 0) e
-      ∙ (row-at t s u (omega (arith, C .formed .events)) ∙ sym (packed-at (Γ .events) (scenarios Γ) t s u l m));
+      ∙ (row-at t s u (omega (arith, C .formed .events)) ∙ sym (gapless-at (Γ .events) (scenarios Γ) t s u l m));
 }
 
 maxBelow-zero : (n : ℕ) (f : ℕ → ℕ) → ((k : ℕ) → k < n → f k ≡ 0) → maxBelow n f ≡ 0
@@ -56,7 +56,7 @@ module _ (Γ : Network) (frame : Frame) (counts lists t : List ℕ) (C : Compile
   few = sixteen (Γ .signals) (C .formed .signals)
 
   time-is : (r u : ℕ) → r < scenarios Γ → u < Γ .events → time (Γ .events) σ r u ≡ getD t (r * 16 + u) 0
-  time-is r u l m = packed-at (Γ .events) (scenarios Γ) t r u l m
+  time-is r u l m = gapless-at (Γ .events) (scenarios Γ) t r u l m
 
   module _ (u : ℕ) where
     across-is : u < Γ .events
@@ -81,7 +81,7 @@ module _ (Γ : Network) (frame : Frame) (counts lists t : List ℕ) (C : Compile
     unfolding raisedAt
     raised-is m =
         let own = time-is s u in-s m in
-        let rules : listed counts lists s (rowOf t s) u - 10080 ≡ constraintsBound Γ σ s u =
+        let rules : listAsks counts lists s (rowOf t s) u - 10080 ≡ constraintsBound Γ σ s u =
         C .listing .asks σ (rowOf t s) s u (omega (arith, C .framed .scenarios-are)) (row-in C t s in-s refl)
         in
         rw (rules, across-is m, ← own)
@@ -93,7 +93,7 @@ module _ (Γ : Network) (frame : Frame) (counts lists t : List ℕ) (C : Compile
     pub raised-beyond : Γ .events ≤ u → u < 16 → raisedAt Γ counts lists t s u ≡ 0
     unfolding raisedAt
     raised-beyond m l =
-        let rules : listed counts lists s (rowOf t s) u ≡ 0 =
+        let rules : listAsks counts lists s (rowOf t s) u ≡ 0 =
         maxBelow-zero (getD counts s 0)
         (λ j. asking (target lists (s * 128 + j)) (source lists (s * 128 + j)) (weight lists (s * 128 + j))
         (rowOf t s) u)

@@ -19,8 +19,8 @@ use Rattle.fixpoint.specs.Run.{within}
 use Rattle.network.specs.Build.{scenarios, cells}
 use Rattle.network.specs.declared.Network.{Network}
 use Rattle.rows.specs.declared.Frame.{Frame}
-use Rattle.rows.specs.Rows.{packed, Times}
-use Rattle.rows.proofs.Packed.{length-packed, packed-at}
+use Rattle.rows.specs.Rows.{gapless, Times}
+use Rattle.rows.proofs.Gapless.{length-gapless, gapless-at}
 use Rattle.rounds.specs.declared.Effect.{Effect}
 use Rattle.rounds.specs.declared.Effect.the-variants.{Passes, Rests, Rises}
 use Rattle.rounds.specs.Propagate.{propagate, raised}
@@ -36,7 +36,7 @@ module _ {Γ : Network} {frame : Frame} {counts lists t new climb highest : List
     (T : Times (Γ .events) (scenarios Γ) t)
     (R : Rounding (raisedAt Γ counts lists t) (scenarios Γ) t new climb highest (scenarios Γ)) where
   abbrev σ : List ℕ
-  σ = packed (Γ .events) (scenarios Γ) t
+  σ = gapless (Γ .events) (scenarios Γ) t
 
   abbrev made : ℕ → ℕ → ℕ
   made s u = raisedAt Γ counts lists t s u
@@ -59,14 +59,14 @@ module _ {Γ : Network} {frame : Frame} {counts lists t new climb highest : List
   sixteen-events : Γ .events ≤ 16
   sixteen-events = C .formed .events
 
-  pub packed-made : packed (Γ .events) (scenarios Γ) new ≡ propagate Γ σ
-  packed-made =
-      let n : length (packed (Γ .events) (scenarios Γ) new) ≡ cells Γ = length-packed (Γ .events) (scenarios Γ) new in
-      ext-getD 0 (packed (Γ .events) (scenarios Γ) new) (propagate Γ σ) (n ∙ sym (length-propagate Γ σ)) (λ i b.
+  pub gapless-made : gapless (Γ .events) (scenarios Γ) new ≡ propagate Γ σ
+  gapless-made =
+      let n : length (gapless (Γ .events) (scenarios Γ) new) ≡ cells Γ = length-gapless (Γ .events) (scenarios Γ) new in
+      ext-getD 0 (gapless (Γ .events) (scenarios Γ) new) (propagate Γ σ) (n ∙ sym (length-propagate Γ σ)) (λ i b.
       by-cell (Γ .events) (scenarios Γ)
-      (λ k. getD (packed (Γ .events) (scenarios Γ) new) k 0 ≡ getD (propagate Γ σ) k 0)
+      (λ k. getD (gapless (Γ .events) (scenarios Γ) new) k 0 ≡ getD (propagate Γ σ) k 0)
       (λ s u h l.
-      packed-at (Γ .events) (scenarios Γ) new s u h l ∙
+      gapless-at (Γ .events) (scenarios Γ) new s u h l ∙
       (R .done s u h (omega (arith, sixteen-events)) ∙ sym (made-at s u h l)))
       i (omega (arith, n)))
 
@@ -103,11 +103,11 @@ module _ {Γ : Network} {frame : Frame} {counts lists t new climb highest : List
 
   -- whether anything rose
   above : (s u : ℕ) → s < scenarios Γ → u < Γ .events → getD t (s * 16 + u) 0 ≤ made s u
-  above s u h l = omega (arith, made-is s u h l, packed-at (Γ .events) (scenarios Γ) t s u h l)
+  above s u h l = omega (arith, made-is s u h l, gapless-at (Γ .events) (scenarios Γ) t s u h l)
 
   same-is : greatest climb ≡ 0 → same (propagate Γ σ) σ ≡ true
   same-is e =
-      let n : length σ ≡ cells Γ = length-packed (Γ .events) (scenarios Γ) t in
+      let n : length σ ≡ cells Γ = length-gapless (Γ .events) (scenarios Γ) t in
       same-of-eq (propagate Γ σ) σ
       (ext-getD 0 (propagate Γ σ) σ (length-propagate Γ σ ∙ sym n) (λ i b.
       by-cell (Γ .events) (scenarios Γ) (λ k. getD (propagate Γ σ) k 0 ≡ getD σ k 0)
@@ -115,7 +115,7 @@ module _ {Γ : Network} {frame : Frame} {counts lists t new climb highest : List
       omega (
         arith,
         made-at s u h l,
-        packed-at (Γ .events) (scenarios Γ) t s u h l,
+        gapless-at (Γ .events) (scenarios Γ) t s u h l,
         above s u h l,
         le-greatest _ _ (R .climb-is) s u h (omega (arith, sixteen-events)),
       ))
@@ -131,7 +131,7 @@ module _ {Γ : Network} {frame : Frame} {counts lists t new climb highest : List
       omega (
         arith,
         made-at s u h l,
-        packed-at (Γ .events) (scenarios Γ) t s u h l,
+        gapless-at (Γ .events) (scenarios Γ) t s u h l,
         ap (λ (τ : List ℕ). getD τ (s * Γ .events + u) 0) z,
       ))
       (λ s u h l m. omega (arith, beyond s u h l m)))
@@ -140,7 +140,7 @@ module _ {Γ : Network} {frame : Frame} {counts lists t new climb highest : List
 
   -- the three ways
   rounded : (r : Effect) → r ≡ effectOf Γ σ → (r ≡ Rises → Times (Γ .events) (scenarios Γ) new) → Rounded Γ t new r
-  rounded r e f = record { sized = R .sized; made = packed-made; effect-is = e; times = f }
+  rounded r e f = record { sized = R .sized; made = gapless-made; effect-is = e; times = f }
 
   pub ends-passing : (Γ .horizon < greatest highest) ⊎ (0 < getD highest 0 0) → Rounded Γ t new Passes
   unfolding effectOf

@@ -13,8 +13,8 @@ use Rattle.network.specs.Strategy.{knownFrom}
 use Rattle.rows.specs.declared.Frame.{Frame}
 use Rattle.rows.specs.Known.{firstOf}
 use Rattle.rows.specs.Rows.{Few, Row, Times, rowOf}
-use Rattle.rows.proofs.Packed.{sixteen, row-at}
-use Rattle.bounds.specs.Listed.{Lists, Short}
+use Rattle.rows.proofs.Gapless.{sixteen, row-at}
+use Rattle.bounds.specs.Listed.{Lists, NoLonger}
 use Rattle.bounds.proofs.Listed.{lists-wider}
 use Rattle.bounds.proofs.Asked.{asked-few}
 use Rattle.rounds.specs.Compiled.{Usable}
@@ -36,7 +36,7 @@ module _ {frame : Frame} {counts lists : List ℕ} (U : Usable frame counts list
       lists-wider (frame .events) 16 counts lists
       (omega (arith, U .compiled .framed .events, U .compiled .formed .events)) (U .compiled .listing .lists-are)
 
-  pub short-in : Short 128 counts
+  pub short-in : NoLonger 128 counts
   short-in s = omega (arith, U .compiled .listing .short s, U .compiled .formed .rules)
 
   pub other-in : (s d : ℕ) → s < frame .scenarios → d < frame .scenarios → bitXor s d < frame .scenarios

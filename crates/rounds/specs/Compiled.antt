@@ -12,7 +12,7 @@ use Rattle.network.specs.declared.Network.{Network}
 use Rattle.rows.specs.declared.Frame.{Frame}
 use Rattle.rows.specs.Framed.{Framed}
 use Rattle.rows.specs.Rows.{RowIn}
-use Rattle.bounds.specs.Listed.{Lists, Short, listed}
+use Rattle.bounds.specs.Listed.{Lists, NoLonger, listAsks}
 use Rattle.rounds.specs.Propagate.{upperBound, lowerBound}
 
 -- the constraint is listed
@@ -20,15 +20,15 @@ pub record Constrained (frame : Frame) (c : Constraint) (counts lists counts′ 
   pub lists-are : Lists (frame .events) counts′ lists′
   pub grows : (s : ℕ) → getD counts′ s 0 ≤ getD counts s 0 + 2
   pub asks : (Γ : Network) (σ row : List ℕ) (s u : ℕ) → Framed Γ frame → s < frame .scenarios → RowIn Γ σ s row
-      → listed counts′ lists′ s row u - L.horizon
-      ≡ max (listed counts lists s row u - L.horizon) (max (upperBound Γ σ s u c) (lowerBound Γ σ s u c))
+      → listAsks counts′ lists′ s row u - L.horizon
+      ≡ max (listAsks counts lists s row u - L.horizon) (max (upperBound Γ σ s u c) (lowerBound Γ σ s u c))
 
 -- the first i constraints are listed
 pub record Listing (Γ : Network) (frame : Frame) (counts lists : List ℕ) (i : ℕ) : Type 0 where
   pub lists-are : Lists (frame .events) counts lists
-  pub short : Short (i + i) counts
+  pub short : NoLonger (i + i) counts
   pub asks : (σ row : List ℕ) (s u : ℕ) → s < frame .scenarios → RowIn Γ σ s row
-      → listed counts lists s row u - L.horizon
+      → listAsks counts lists s row u - L.horizon
       ≡ maxBelow i (λ c. max (upperBound Γ σ s u (constraint Γ c)) (lowerBound Γ σ s u (constraint Γ c)))
 
 pub record Compiled (Γ : Network) (frame : Frame) (counts lists : List ℕ) : Type 0 where

@@ -12,9 +12,9 @@ use Rattle.network.specs.Limits as L
 use Rattle.network.specs.Build.{scenarios}
 use Rattle.network.specs.Strategy.{knownFrom}
 use Rattle.network.specs.declared.Network.{Network}
-use Rattle.rows.specs.Rows.{packed, rowOf, Times}
+use Rattle.rows.specs.Rows.{gapless, rowOf, Times}
 use Rattle.rows.specs.Known.{firstOf}
-use Rattle.bounds.specs.Listed.{listed}
+use Rattle.bounds.specs.Listed.{listAsks}
 use Rattle.rounds.specs.declared.Effect.{Effect}
 use Rattle.rounds.specs.declared.Effect.the-variants.{Passes, Rests, Rises}
 use Rattle.rounds.specs.Propagate.{propagate}
@@ -22,13 +22,13 @@ use Rattle.rounds.specs.Cap.{cap}
 
 -- the strategy that a table holds
 abbrev pub held : Network → List ℕ → List ℕ
-held Γ t = packed (Γ .events) (scenarios Γ) t
+held Γ t = gapless (Γ .events) (scenarios Γ) t
 
 -- what it makes of event u in scenario s: the other scenarios are told by the set d of propositions on which they
 -- differ from s
 unfoldable pub raisedAt : Network → List ℕ → List ℕ → List ℕ → ℕ → ℕ → ℕ
 raisedAt Γ counts lists t s u =
-    max (max (getD t (s * 16 + u) 0) (listed counts lists s (rowOf t s) u - L.horizon))
+    max (max (getD t (s * 16 + u) 0) (listAsks counts lists s (rowOf t s) u - L.horizon))
     (maxBelow (scenarios Γ)
     (λ d. min (getD t (bitXor s d * 16 + u) 0) (firstOf (Γ .signals) (knownFrom Γ (held Γ t) s) d)))
 

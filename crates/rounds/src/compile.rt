@@ -4,7 +4,7 @@ ghost use Prim.Native.Nat.{ℕ};
 ghost use lib.ListN.{getD};
 ghost use Rattle.network.specs.WellFormed.{WellFormed};
 ghost use Rattle.rows.specs.Framed.{Framed};
-ghost use Rattle.bounds.specs.Listed.{Lists, Short};
+ghost use Rattle.bounds.specs.Listed.{Lists, NoLonger};
 ghost use Rattle.bounds.specs.Halves.{Listable};
 ghost use Rattle.rounds.specs.Compiled.{Constrained, Compiled};
 use network::Constraint;
@@ -19,7 +19,7 @@ fn list_constraint(
     counts: &mut [usize; Network::CASES],
     lists: &mut [u16; bounds::LIST],
 )
-    requires { ⌜ Listable frame c × Lists (frame .events) (now counts) (now lists) × Short 126 (now counts) ⌝ }
+    requires { ⌜ Listable frame c × Lists (frame .events) (now counts) (now lists) × NoLonger 126 (now counts) ⌝ }
     ensures { λ _. ⌜ Constrained frame c (now (counts .entry)) (now (lists .entry)) (now (counts .exit))
         (now (lists .exit)) ⌝ }
 {

@@ -1,5 +1,5 @@
 -- In reading order: numbers compared with a sign; numbers that are written; rows and tables; first known times.
 pub mod Compare
 pub mod Wrote
-pub mod Packed
-pub mod First
+pub mod Gapless
+pub mod FirstKnown

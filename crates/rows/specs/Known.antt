@@ -12,7 +12,7 @@ abbrev pub firstOf : ℕ → (ℕ → ℕ) → ℕ → ℕ
 firstOf k f d = minWhere k (truth d) f 32767
 
 -- the table of it
-pub record First (k : ℕ) (f : ℕ → ℕ) (first : List ℕ) : Type 0 where
+pub record FirstKnown (k : ℕ) (f : ℕ → ℕ) (first : List ℕ) : Type 0 where
   pub sized : length first ≡ 16
   pub is : (d : ℕ) → d < 2 ^ k → getD first d 0 ≡ firstOf k f d
 

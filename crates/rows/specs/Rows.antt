@@ -11,8 +11,8 @@ use Rattle.network.specs.Strategy.{time}
 use Rattle.network.specs.declared.Network.{Network}
 
 -- the strategy that a table holds: n events in c scenarios, without gaps
-unfoldable pub packed : ℕ → ℕ → List ℕ → List ℕ
-packed n c t = tabulate (n * c) (λ i. getD t (i / n * 16 + i % n) 0)
+unfoldable pub gapless : ℕ → ℕ → List ℕ → List ℕ
+gapless n c t = tabulate (n * c) (λ i. getD t (i / n * 16 + i % n) 0)
 
 -- the row of scenario s
 abbrev pub rowOf : List ℕ → ℕ → List ℕ

@@ -9,7 +9,7 @@ ghost use Rattle.network.specs.WellFormed.{WellFormed};
 ghost use Rattle.network.specs.declared.Network.{Network};
 ghost use Rattle.rows.specs.Framed.{Framed};
 ghost use Rattle.rows.specs.Rows.{Few, RowIn};
-ghost use Rattle.rows.specs.Known.{Doubled, First};
+ghost use Rattle.rows.specs.Known.{Doubled, FirstKnown};
 use crate::Frame;
 use network::Network;
 
@@ -41,7 +41,7 @@ fn known_from(row: &[u16; Network::EVENTS], frame: Frame, p: usize, reaction: u1
 pub fn first_known(row: &[u16; Network::EVENTS], frame: Frame, first: &mut [u16; Network::CASES])
     requires { ⌜ (frame .signals ≤ L.signals) × Few L.horizon (now row) × (length (now first) ≡ L.cases) ⌝ }
     ensures { λ _. ⌜ ((Γ : Network) (σ : List ℕ) (s : ℕ) → WellFormed Γ → Framed Γ frame
-        → RowIn Γ σ s (now (row .entry)) → First (frame .signals) (knownFrom Γ σ s) (now (first .exit))) ⌝ }
+        → RowIn Γ σ s (now (row .entry)) → FirstKnown (frame .signals) (knownFrom Γ σ s) (now (first .exit))) ⌝ }
 {
     first[0] = 32767;
     let signals = frame.signals;

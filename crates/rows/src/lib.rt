@@ -8,7 +8,7 @@ ghost use Rattle.prelude.specs.Bounded.{maxBelow};
 ghost use Rattle.network.specs.Limits as L;
 ghost use Rattle.network.specs.WellFormed.{WellFormed};
 ghost use Rattle.rows.specs.Framed.{Framed};
-ghost use Rattle.rows.specs.Rows.{Few, Row, Stored, Wrote, packed};
+ghost use Rattle.rows.specs.Rows.{Few, Row, Stored, Wrote, gapless};
 use network::Network;
 
 pub mod known;
@@ -186,7 +186,7 @@ fn copy_row(t: &[u16; Network::CELLS], s: usize, n: usize, a: usize, out: &mut [
 // The times of n events in c scenarios, without gaps.
 pub fn copy_out(t: &[u16; Network::CELLS], n: usize, c: usize, out: &mut [u16])
     requires { ⌜ (c ≤ L.cases) × (1 ≤ n) × (n ≤ L.events) × (n * c ≤ length (now out)) ⌝ }
-    ensures { λ _. ⌜ now (out .exit) ≡ packed n c (now (t .entry)) ++ drop (n * c) (now (out .entry)) ⌝ }
+    ensures { λ _. ⌜ now (out .exit) ≡ gapless n c (now (t .entry)) ++ drop (n * c) (now (out .entry)) ⌝ }
 {
     let mut s: usize = 0;
     let mut a: usize = 0;

@@ -11,13 +11,14 @@ use Rattle.prelude.proofs.Cells.{by-cell}
 use Rattle.prelude.proofs.Tests.{zero-is-one}
 use Rattle.fixpoint.specs.Run.{room, End, Rests, Passes, Spent}
 use Rattle.fixpoint.proofs.Budget.{enough}
+use Rattle.network.specs.Limits as L
 use Rattle.network.specs.Build.{scenarios, cells}
 use Rattle.network.specs.WellFormed.{WellFormed}
 use Rattle.network.specs.declared.Network.{Network}
 use Rattle.rows.specs.declared.Frame.{Frame}
-use Rattle.rows.specs.Rows.{packed, Times}
+use Rattle.rows.specs.Rows.{gapless, Times}
 use Rattle.rows.specs.Framed.{Framed}
-use Rattle.rows.proofs.Packed.{sixteen, length-packed, packed-at}
+use Rattle.rows.proofs.Gapless.{sixteen, length-gapless, gapless-at}
 use Rattle.bounds.specs.Listed.{Lists}
 use Rattle.rounds.specs.Propagate.{propagate}
 use Rattle.rounds.specs.Cap.{cap}
@@ -31,17 +32,24 @@ use Rattle.solver.specs.Solve.{floor, solve}
 use Rattle.solver.specs.Solved.{solvedOf, tableAfter, SolvedIs}
 use Rattle.solver.specs.Run.{endedBy, RunIs}
 
+-- as the code has them: as many rounds as no network uses up, and a table that holds nothing yet
+abbrev pub budget : ℕ
+budget = L.cells * L.horizon + 1
+
+abbrev pub zeros : List ℕ
+zeros = replicate L.cells 0
+
 -- tables and lists that hold nothing yet
 pub zeros-at : (n i : ℕ) → getD {A = ℕ} (replicate n 0) i 0 ≡ 0
 zeros-at zero i = refl
 zeros-at (suc n) zero = refl
 zeros-at (suc n) (suc i) = zeros-at n i
 
-pub zero-times : (n c : ℕ) → Times n c (replicate 256 0)
+pub zero-times : (n c : ℕ) → Times n c zeros
 zero-times n c = record {
-  sized = length-replicate {A = ℕ} 256 0;
-  few = λ s u h l. rw (zeros-at 256 (s * 16 + u)) (omega arith);
-  beyond = λ s u h l m. zeros-at 256 (s * 16 + u);
+  sized = length-replicate {A = ℕ} L.cells 0;
+  few = λ s u h l. rw (zeros-at L.cells (s * 16 + u)) (omega arith);
+  beyond = λ s u h l m. zeros-at L.cells (s * 16 + u);
 }
 
 pub zero-lists : (n : ℕ) → 1 ≤ n → Lists n (replicate 16 0) (replicate 6144 0)
@@ -81,13 +89,13 @@ solved-none Γ Passes k p q n table = record { answer = rw (p, solvedOf, q); tab
 solved-none Γ Spent k p q n table = record { answer = rw (p, solvedOf, q); table = rw (p, tableAfter) }
 
 module _ (Γ : Network) (W : WellFormed Γ) where
-  held-zeros : held Γ (replicate 256 0) ≡ floor Γ
+  held-zeros : held Γ zeros ≡ floor Γ
   held-zeros =
-      let n : length (held Γ (replicate 256 0)) ≡ cells Γ = length-packed (Γ .events) (scenarios Γ) (replicate 256 0) in
-      ext-getD 0 (held Γ (replicate 256 0)) (floor Γ) (n ∙ sym (length-replicate {A = ℕ} (cells Γ) 0)) (λ i b.
-      by-cell (Γ .events) (scenarios Γ) (λ k. getD (held Γ (replicate 256 0)) k 0 ≡ getD (floor Γ) k 0)
+      let n : length (held Γ zeros) ≡ cells Γ = length-gapless (Γ .events) (scenarios Γ) zeros in
+      ext-getD 0 (held Γ zeros) (floor Γ) (n ∙ sym (length-replicate {A = ℕ} (cells Γ) 0)) (λ i b.
+      by-cell (Γ .events) (scenarios Γ) (λ k. getD (held Γ zeros) k 0 ≡ getD (floor Γ) k 0)
       (λ s u h l.
-      packed-at (Γ .events) (scenarios Γ) (replicate 256 0) s u h l
+      gapless-at (Γ .events) (scenarios Γ) zeros s u h l
       ∙ (zeros-at 256 (s * 16 + u) ∙ sym (zeros-at (cells Γ) (s * Γ .events + u))))
       i (omega (arith, n)))
 
@@ -100,16 +108,16 @@ module _ (Γ : Network) (W : WellFormed Γ) where
       in
       omega (arith, most, length-cap Γ, size)
 
-  module _ {exit : List ℕ} {r : Ended} (A : RunIs Γ 2580481 (replicate 256 0) exit r) where
+  module _ {exit : List ℕ} {r : Ended} (A : RunIs Γ budget zeros exit r) where
     run-solves : A .run ≡ solve Γ
     unfolding solve
     run-solves =
         A .run-is
         ∙ rw held-zeros
-        (enough (propagate Γ) (cap Γ) (step-rises Γ) 0 (suc (room (cap Γ) (floor Γ))) 2580481 (floor Γ)
-        (ap length (sym held-zeros) ∙ length-held Γ (replicate 256 0)) (omega arith) (omega (arith, room-few)))
+        (enough (propagate Γ) (cap Γ) (step-rises Γ) 0 (suc (room (cap Γ) (floor Γ))) budget (floor Γ)
+        (ap length (sym held-zeros) ∙ length-held Γ zeros) (omega arith) (omega (arith, room-few)))
 
-  pub solved-resting : {exit : List ℕ} {k j : ℕ} → RunIs Γ 2580481 (replicate 256 0) exit (ended.Rests k j)
+  pub solved-resting : {exit : List ℕ} {k j : ℕ} → RunIs Γ budget zeros exit (ended.Rests k j)
       → (entry after : List ℕ)
       → after ≡ held Γ exit ++ drop (Γ .events * scenarios Γ) entry → SolvedIs Γ entry after (Consistent k)
   solved-resting {exit} {k} {j} A entry after z =
@@ -119,13 +127,13 @@ module _ (Γ : Network) (W : WellFormed Γ) where
       let here : held Γ exit ≡ solve Γ .reached = rw (run-solves A) at (A .reached (λ e.
       let y : _≡_ {A = End} Rests Passes = sym (w .0) ∙ e in zero-is-one cc)) in
       let size : length (solve Γ .reached) ≡ Γ .events * scenarios Γ =
-      ap length (sym here) ∙ length-packed (Γ .events) (scenarios Γ) exit in
+      ap length (sym here) ∙ length-gapless (Γ .events) (scenarios Γ) exit in
       record {
         answer = rw (rests, solvedOf, count);
         table = z ∙ rw (rests, tableAfter, here, size);
       }
 
-  pub solved-passing : {exit : List ℕ} {k j : ℕ} → RunIs Γ 2580481 (replicate 256 0) exit (ended.Passes k j)
+  pub solved-passing : {exit : List ℕ} {k j : ℕ} → RunIs Γ budget zeros exit (ended.Passes k j)
       → (table : List ℕ)
       → SolvedIs Γ table table (Inconsistent k)
   solved-passing {k = k} {j} A =
@@ -133,7 +141,7 @@ module _ (Γ : Network) (W : WellFormed Γ) where
       solved-none Γ Passes k (rw (run-solves A) at (w .0)) (rw (run-solves A) at (w .1))
       (λ e. zero-is-one cc)
 
-  pub solved-spent : {exit : List ℕ} {k j : ℕ} → RunIs Γ 2580481 (replicate 256 0) exit (ended.Spent k j)
+  pub solved-spent : {exit : List ℕ} {k j : ℕ} → RunIs Γ budget zeros exit (ended.Spent k j)
       → (table : List ℕ)
       → SolvedIs Γ table table (Inconsistent k)
   solved-spent {k = k} {j} A =
@@ -152,14 +160,14 @@ module _ (Γ : Network) (frame : Frame) (F : Framed Γ frame) where
 
   -- the lent table, once t is copied into it
   pub copied-framed : (t entry now exit : List ℕ) → now ≡ entry
-      → exit ≡ packed (Γ .events) (frame .scenarios) t ++ drop (Γ .events * frame .scenarios) now
+      → exit ≡ gapless (Γ .events) (frame .scenarios) t ++ drop (Γ .events * frame .scenarios) now
       → exit ≡ held Γ t ++ drop (Γ .events * scenarios Γ) entry
   copied-framed t entry now exit e z = rw (F .scenarios-are, e) at z
 
   pub copied-length : (t entry now exit : List ℕ) → now ≡ entry → cells Γ ≤ length entry
-      → exit ≡ packed (Γ .events) (frame .scenarios) t ++ drop (Γ .events * frame .scenarios) now
+      → exit ≡ gapless (Γ .events) (frame .scenarios) t ++ drop (Γ .events * frame .scenarios) now
       → length exit ≡ length entry
   copied-length t entry now exit e l z =
       ap length (copied-framed t entry now exit e z)
       ∙ (length-append (held Γ t) (drop (cells Γ) entry)
-      ∙ omega (arith, length-packed (Γ .events) (scenarios Γ) t, length-drop (cells Γ) entry))
+      ∙ omega (arith, length-gapless (Γ .events) (scenarios Γ) t, length-drop (cells Γ) entry))

@@ -1,79 +1,54 @@
 -- `opening::solve_sheet` meets its contract: where there is room the solver is asked, and found a table or none.
 -- Assumes nothing.
 use denote.Ref.{now}
-use Rattle.opening.proofs.Prologue.{read-few}
-use Rattle.opening.proofs.SolverLeaves.{solving-refused, solving-asked, solving-consistent, solving-none}
 use borrow.Author.Needs.{needs}
+use Rattle.opening.proofs.Prologue.{read-few}
+use Rattle.opening.proofs.SolverLeaves.{Prepared, solving-refused, solving-asked, solving-consistent}
+use Rattle.opening.proofs.SolverLeaves.{solving-none}
 use Rattle.opening.proofs.solve_sheet.Statement.{statement}
 use Rattle.opening.proofs.solve_sheet.Tie as tie
+
+-- where the function begins, seen from where the sheet is read
+abbrev start : tie.After-read → tie.Start
+start d = d .before .before .before
 
 cell-count-requires : tie.Need-cell-count-requires
 cell-count-requires c κs =
     let at-read = c .before in
-    let at-args = at-read .before .before .before in
-    let args = at-args .args in
-    let read = at-read .read in
-    rw (read .ensures) (read-few (now (args .sheet)))
+    rw (at-read .read .ensures) (read-few (now (start at-read .args .sheet)))
+
+-- what is known once the room is tested
+prepared : (d : tie.After-after-test)
+    → let at-read = d .before .before .before in
+    let args = start at-read .args in
+    Prepared (now (args .sheet)) (now (args .table)) (at-read .read .result) (d .before .cell-count .result)
+    (d .after-test .result)
+prepared d = record {
+  read-is = d .before .before .before .read .ensures;
+  counted = d .before .cell-count .ensures;
+  tested = d .after-test .ensures;
+}
 
 returns : tie.Need-returns
-returns c =
-    let at-outcome = c .before in
-    let at-after-test = at-outcome .before .before in
-    let at-cell-count = at-after-test .before in
-    let at-read = at-cell-count .before .before in
-    let at-args = at-read .before .before .before in
-    let args = at-args .args in
-    let read = at-read .read in
-    solving-refused (now (args .sheet)) (now (args .table)) (read .result) (read .ensures)
-    (at-cell-count .cell-count .result) (at-cell-count .cell-count .ensures) (at-after-test .after-test .result)
-    (at-after-test .after-test .ensures) (at-outcome .outcome .given .0 .0) (at-outcome .outcome .given .1)
+returns c = solving-refused (prepared (c .before .before .before)) _ (c .before .outcome .given .1)
 
 solve-requires : tie.Need-solve-requires
-solve-requires c κs =
-    let at-enum-told = c .before in
-    let at-after-test = at-enum-told .before .before in
-    let at-cell-count = at-after-test .before in
-    let at-read = at-cell-count .before .before in
-    let at-args = at-read .before .before .before in
-    let args = at-args .args in
-    let read = at-read .read in
-    solving-asked (now (args .sheet)) (now (args .table)) (read .result) (read .ensures)
-    (at-cell-count .cell-count .result) (at-cell-count .cell-count .ensures) (at-after-test .after-test .result)
-    (at-after-test .after-test .ensures) (at-enum-told .enum-told .given .1)
+solve-requires c κs = solving-asked (prepared (c .before .before .before)) (c .before .enum-told .given .1)
 
 returns-2 : tie.Need-returns-2
 returns-2 c =
     let at-solve = c .before .before .before .before in
     let at-enum-told = at-solve .before .before in
-    let at-after-test = at-enum-told .before .before in
-    let at-cell-count = at-after-test .before in
-    let at-read = at-cell-count .before .before in
-    let at-args = at-read .before .before .before in
-    let args = at-args .args in
-    let read = at-read .read in
-    let solve = at-solve .solve in
-    solving-consistent (now (args .sheet)) (now (args .table)) (read .result) (read .ensures)
-    (at-cell-count .cell-count .result) (at-cell-count .cell-count .ensures) (at-after-test .after-test .result)
-    (at-after-test .after-test .ensures) (at-enum-told .enum-told .given .1) (solve .last .1 .0) (solve .result)
-    (solve .ensures) _ (c .enum-told2 .given .1)
+    solving-consistent (prepared (at-enum-told .before .before)) (at-enum-told .enum-told .given .1)
+    (at-solve .solve .ensures) _ (c .enum-told2 .given .1)
 
 returns-3 : tie.Need-returns-3
 returns-3 c =
-    let at-enum-told3 = c .before in
-    let at-solve = at-enum-told3 .before .before .before .before in
+    let at-solve = c .before .before .before .before .before in
     let at-enum-told = at-solve .before .before in
-    let at-after-test = at-enum-told .before .before in
-    let at-cell-count = at-after-test .before in
-    let at-read = at-cell-count .before .before in
-    let at-args = at-read .before .before .before in
-    let args = at-args .args in
-    let read = at-read .read in
-    let solve = at-solve .solve in
     rw (c .without-line .ensures)
-    (solving-none (now (args .sheet)) (now (args .table)) (read .result) (read .ensures)
-    (at-cell-count .cell-count .result) (at-cell-count .cell-count .ensures) (at-after-test .after-test .result)
-    (at-after-test .after-test .ensures) (at-enum-told .enum-told .given .1) (solve .last .1 .0) (solve .result)
-    (solve .ensures) _ (at-enum-told3 .enum-told3 .given .1))
+    (solving-none (prepared (at-enum-told .before .before)) (at-enum-told .enum-told .given .1)
+    (at-solve .solve .ensures) _ (c .before .enum-told3 .given .1))
 
 pub solve-sheet-spec : {M : Type 1} → statement M
 solve-sheet-spec =

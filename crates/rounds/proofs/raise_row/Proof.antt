@@ -10,10 +10,10 @@ use lib.ListN.{getD}
 use Rattle.network.specs.Build.{scenarios}
 use Rattle.network.specs.Strategy.{knownFrom}
 use Rattle.network.specs.declared.Network.{Network}
-use Rattle.rows.specs.Known.{First}
+use Rattle.rows.specs.Known.{FirstKnown}
 use Rattle.rows.specs.Rows.{Few, Row, rowOf}
-use Rattle.rows.proofs.Packed.{row-is}
-use Rattle.rows.proofs.First.{first-few}
+use Rattle.rows.proofs.Gapless.{row-is}
+use Rattle.rows.proofs.FirstKnown.{first-few}
 use Rattle.rounds.specs.Compiled.{Compiled}
 use Rattle.rounds.specs.Rounds.{held, raisedAt}
 use Rattle.rounds.proofs.Raise.{across, ruled, ruled-is, across-start, across-next, rises, raised-row}
@@ -58,7 +58,8 @@ firsts c = c .before .before .before .before .before .before .before .before .fi
 
 known-first : (c : tie.After-lower Inv-loop μ-loop) (Γ : Network)
     → Compiled Γ (start c .args .frame) (start c .args .counts .now) (start c .args .lists .now)
-    → First (start c .args .frame .signals) (knownFrom Γ (held Γ (start c .args .t .now)) (start c .args .s)) (firsts c)
+    → FirstKnown (start c .args .frame .signals)
+    (knownFrom Γ (held Γ (start c .args .t .now)) (start c .args .s)) (firsts c)
 known-first c Γ C =
     let a = start c .args in
     let in-s : a .s < scenarios Γ = omega (arith, start c .pre .0, C .framed .scenarios-are) in

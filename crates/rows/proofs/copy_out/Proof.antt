@@ -7,7 +7,7 @@ use native.Mathlib.Nat.{mul-comm, mul-le-mul, mul-le-mul-right}
 use borrow.Author.Needs.{needs}
 use lib.ListN.{getD}
 use Rattle.prelude.proofs.Cells.{row-of, column-of}
-use Rattle.rows.specs.Rows.{packed, Wrote}
+use Rattle.rows.specs.Rows.{gapless, Wrote}
 use Rattle.rows.proofs.Wrote.{wrote-none, wrote-join, wrote-all}
 use Rattle.rows.proofs.copy_out.Statement.{statement}
 use Rattle.rows.proofs.copy_out.Tie as tie
@@ -80,7 +80,7 @@ same-length : tie.Need-same-length Inv-loop μ-loop
 same-length c = c .before .loop .inv .2 .sized
 
 returns : tie.Need-returns Inv-loop μ-loop
-unfolding packed
+unfolding gapless
 returns c =
     let args = c .before .before .before .args in
     let pre = c .before .before .before .pre in

@@ -2,7 +2,7 @@
 -- the shift. Assumes nothing.
 use native.Mathlib.Omega.{arith}
 use borrow.Author.Needs.{needs}
-use Rattle.rows.proofs.Packed.{sixteen}
+use Rattle.rows.proofs.Gapless.{sixteen}
 use Rattle.rows.proofs.frame_of.Statement.{statement}
 use Rattle.rows.proofs.frame_of.Tie as tie
 

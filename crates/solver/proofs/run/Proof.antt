@@ -3,7 +3,7 @@
 -- the table at entry to a, by way of the one that is kept. The measure is what is left of the budget. Assumes
 -- nothing.
 use mathlib.Core.Path.{_≡_, refl}
-use Prim.Native.Nat.{_-_, _≤_, _<_}
+use Prim.Native.Nat.{_+_, _-_, _≤_, _<_}
 use native.Mathlib.Omega.{arith}
 use borrow.Author.Needs.{needs}
 use lib.ListN.{length}
@@ -24,223 +24,182 @@ abbrev μ-loop : tie.MeasureT-loop
 μ-loop a₀ budget frame counts lists cells b₀ base₀ at₀ mark₀ w₀ since₀ v₀ turns₀ rounds₀ a b base at mark w since v
     turns rounds = budget - rounds
 
-cells-of-requires : tie.Need-cells-of-requires Inv-loop μ-loop
-cells-of-requires c κs = scenarios-in (c .pre .0)
+-- The places of a turn, each seen from the next: the function's start and where the cells are counted, from inside the
+-- loop; inside the loop, from where a round has risen and from where the table is kept; and that, from where rounds
+-- were passed over and from where the far tables were asked for an end.
+abbrev start : tie.In-loop Inv-loop μ-loop → tie.Start Inv-loop μ-loop
+start d = d .before .before .before .before .before .before
+
+abbrev counted-at : tie.In-loop Inv-loop μ-loop → tie.After-cells-of Inv-loop μ-loop
+counted-at d = d .before .before .before .before .before
+
+abbrev risen-in : tie.After-enum-told3 Inv-loop μ-loop → tie.In-loop Inv-loop μ-loop
+risen-in d = d .before .before .before .before .before .before
+
+abbrev risen-at : tie.After-keep Inv-loop μ-loop → tie.After-enum-told3 Inv-loop μ-loop
+risen-at d = d .before .before .before .before .before .before .before .before .before .before .before .before .before .before
+
+abbrev kept-in : tie.After-keep Inv-loop μ-loop → tie.In-loop Inv-loop μ-loop
+kept-in d = risen-in (risen-at d)
+
+abbrev kept-at : tie.After-pass-over Inv-loop μ-loop → tie.After-keep Inv-loop μ-loop
+kept-at d = d .before .before .before
+
+abbrev passed-at : tie.After-finish Inv-loop μ-loop → tie.After-pass-over Inv-loop μ-loop
+passed-at d = d .before .before .before .before
+
+-- a turn up to what it passes over
+turned : (d : tie.After-keep Inv-loop μ-loop)
+    → let args = start (kept-in d) .args in
+    Underway (args .frame) (args .counts .now) (args .lists .now) (args .a .now) (d .keep .last .1 .1 .0)
+    (d .before .before .before .copy .last .1 .0) (d .keep .result) (kept-in d .before .loop .rounds + 1)
+turned d =
+    let in-loop = kept-in d in
+    let risen = risen-at d in
+    underway-turn (in-loop .before .loop .inv .5) (start in-loop .pre .0) (risen .enum-told3 .given .1)
+    (risen .before .before .round .ensures) (counted-at in-loop .cells-of .ensures .0) (d .before .before .before .copy .ensures)
+    (d .keep .ensures)
+
+-- and with the rounds that it passed over
+leapt : (d : tie.After-pass-over Inv-loop μ-loop)
+    → let args = start (kept-in (kept-at d)) .args in
+    Underway (args .frame) (args .counts .now) (args .lists .now) (args .a .now) (d .pass-over .last .1 .0)
+    (d .pass-over .last .1 .1 .0) (kept-at d .keep .result + d .pass-over .result)
+    (kept-in (kept-at d) .before .loop .rounds + 1 + d .pass-over .result)
+leapt d = underway-leapt (turned (kept-at d)) (d .pass-over .ensures .1) (d .pass-over .ensures .2)
 
 loop-holds : tie.Need-loop-holds Inv-loop μ-loop
 loop-holds c =
-    let pre = c .before .before .before .before .pre in
-    (omega arith, refl, refl, refl, c .first-pace .ensures, underway-start (pre .1))
+    (omega arith, refl, refl, refl, c .first-pace .ensures, underway-start (c .before .before .before .before .pre .1))
 
 add-rounds : tie.Need-add-rounds Inv-loop μ-loop
-add-rounds c =
-    let fits = c .before .before .before .before .before .before .fits in
-    omega (arith, c .loop-test .taken, fits .budget)
+add-rounds c = omega (arith, c .loop-test .taken, start c .fits .budget)
 
 round-requires : tie.Need-round-requires Inv-loop μ-loop
 round-requires c κs =
-    let loop = c .before .before .before .before .loop in
-    let pre = c .before .before .before .before .before .before .before .before .before .pre in
-    (pre .0, loop .inv .5 .from-base .times, loop .inv .1)
+    let in-loop = c .before .before .before in
+    let loop = in-loop .before .loop in
+    (start in-loop .pre .0, loop .inv .5 .from-base .times, loop .inv .1)
 
 returns : tie.Need-returns Inv-loop μ-loop
 returns c =
-    let loop-test = c .before .before .before .before .before .before .loop-test in
-    let loop = c .before .before .before .before .before .before .before .loop in
-    let G = loop .inv .5 in (
+    let in-loop = c .before .before .before .before .before .before in
+    let G = in-loop .before .loop .inv .5 in (
       G .from-base .times .sized,
-      λ Γ C. ended-passing (all-of G) Γ C _ _ (omega (arith, loop-test .taken))
+      λ Γ C. ended-passing (all-of G) Γ C _ _ (omega (arith, in-loop .loop-test .taken))
           (rounded-as (c .enum-told .given .1) (c .before .before .round .ensures Γ C)),
     )
 
 returns-2 : tie.Need-returns-2 Inv-loop μ-loop
 returns-2 c =
-    let loop-test = c .before .before .before .before .before .before .loop-test in
-    let loop = c .before .before .before .before .before .before .before .loop in
-    let G = loop .inv .5 in (
+    let in-loop = c .before .before .before .before .before .before in
+    let G = in-loop .before .loop .inv .5 in (
       G .from-base .times .sized,
-      λ Γ C. ended-resting (all-of G) Γ C _ _ (omega (arith, loop-test .taken))
+      λ Γ C. ended-resting (all-of G) Γ C _ _ (omega (arith, in-loop .loop-test .taken))
           (rounded-as (c .enum-told2 .given .1) (c .before .before .round .ensures Γ C)),
     )
 
 sub-watch : tie.Need-sub-watch Inv-loop μ-loop
-sub-watch c =
-    let loop = c .before .before .before .before .before .before .before .loop in
-    omega (arith, loop .inv .5 .order)
+sub-watch c = omega (arith, risen-in c .before .loop .inv .5 .order)
 
 watch-requires : tie.Need-watch-requires Inv-loop μ-loop
 watch-requires c κs =
-    let back = c .before .before .before .before .before .before .before .before .before .before in
-    let loop = back .loop in
-    let cells-of = back .before .before .before .before .cells-of in
-    (cells-of .ensures .1, loop .inv .2)
+    let in-loop = risen-in (c .before .before .before) in
+    (counted-at in-loop .cells-of .ensures .1, in-loop .before .loop .inv .2)
 
 follow-requires : tie.Need-follow-requires Inv-loop μ-loop
 follow-requires c κs =
-    let back = c .before .before .before .before .before .before .before .before .before .before in
-    let loop = back .before .before .before .before .loop in
-    let cells-of = back .before .before .before .before .before .before .before .before .cells-of in
-    (cells-of .ensures .1, loop .inv .3, loop .inv .4)
+    let in-loop = risen-in (c .before .before .before .before .before .before .before) in
+    let loop = in-loop .before .loop in
+    (counted-at in-loop .cells-of .ensures .1, loop .inv .3, loop .inv .4)
 
 copy-requires : tie.Need-copy-requires Inv-loop μ-loop
 copy-requires c κs =
-    let back = c .before .before .before .before .before .before .before .before .before .before in
-    let back2 = back .before .before .before .before .before .before .before .before .before .before in
-    let loop = back .before .before .before .before .before .before .before .loop in
-    let cells-of = back2 .before .cells-of in
-    (cells-of .ensures .1, loop .inv .5 .from-base .times .sized)
+    let in-loop = risen-in (c .before .before .before .before .before .before .before .before .before .before) in
+    (counted-at in-loop .cells-of .ensures .1, in-loop .before .loop .inv .5 .from-base .times .sized)
 
 keep-requires : tie.Need-keep-requires Inv-loop μ-loop
 keep-requires c κs =
-    let back = c .before .before .before .before .before .before .before .before .before .before in
-    let back2 = back .before .before .before .before .before .before .before .before .before .before in
-    let loop = back2 .loop in
-    let cells-of = back2 .before .before .before .before .cells-of in
-    (cells-of .ensures .1, loop .inv .5 .to-base .times .sized)
-
-sub-pass-over : tie.Need-sub-pass-over Inv-loop μ-loop
-sub-pass-over c =
-    let back = c .before .before .before .before .before .before .before .before .before .before in
-    let back2 = back .before .before .before .before .before .before .before .before .before .before in
-    let copy = c .before .before .before .before .before .copy in
-    let enum-told3 = back .before .before .before .before .before .before .enum-told3 in
-    let round = back .before .before .before .before .before .before .before .before .round in
-    let loop = back2 .before .before .before .loop in
-    let cells-of = back2 .before .before .before .before .before .before .before .cells-of in
-    let pre = back2 .before .before .before .before .before .before .before .before .pre in
-    let K = underway-turn (loop .inv .5) (pre .0) (enum-told3 .given .1) (round .ensures) (cells-of .ensures .0)
-    (copy .ensures) (c .before .before .keep .ensures) in
-    omega (arith, K .order)
-
-sub-pass-over-2 : tie.Need-sub-pass-over-2 Inv-loop μ-loop
-sub-pass-over-2 c =
-    let back = c .before .before .before .before .before .before .before .before .before .before in
-    let back2 = back .before .before .before .before .before .before .before .before .before .before in
-    let loop-test = back2 .before .before .loop-test in
-    omega (arith, loop-test .taken)
+    let in-loop = risen-in (c .before .before .before .before .before .before .before .before .before .before .before .before .before) in
+    (counted-at in-loop .cells-of .ensures .1, in-loop .before .loop .inv .5 .to-base .times .sized)
 
 pass-over-requires : tie.Need-pass-over-requires Inv-loop μ-loop
 pass-over-requires c κs =
-    let back = c .before .before .before .before .before .before .before .before .before .before in
-    let back2 = back .before .before .before .before .before .before .before .before .before .before in
-    let copy = c .before .before .before .before .before .copy in
-    let enum-told3 = back .before .before .before .before .before .before .enum-told3 in
-    let round = back .before .before .before .before .before .before .before .before .round in
-    let loop = back2 .before .before .before .loop in
-    let cells-of = back2 .before .before .before .before .before .before .before .cells-of in
-    let pre = back2 .before .before .before .before .before .before .before .before .pre in
-    let K = underway-turn (loop .inv .5) (pre .0) (enum-told3 .given .1) (round .ensures) (cells-of .ensures .0)
-    (copy .ensures) (c .before .before .keep .ensures) in
-    (pre .0, K .to-base .times, K .from-base)
+    let at-keep = c .before .before in
+    let K = turned at-keep in
+    (start (kept-in at-keep) .pre .0, K .to-base .times, K .from-base)
 
 add-rounds-2 : tie.Need-add-rounds-2 Inv-loop μ-loop
 add-rounds-2 c =
-    let back = c .before .before .before .before .before .before .before .before .before .before in
-    let back2 = back .before .before .before .before .before .before .before .before .before .before in
-    let loop-test = back2 .before .before .before .loop-test in
-    let fits = back2 .before .before .before .before .before .before .before .before .before .fits in
-    omega (arith, loop-test .taken, c .pass-over .ensures .0, fits .budget)
+    let in-loop = kept-in (kept-at c) in
+    omega (arith, in-loop .loop-test .taken, c .pass-over .ensures .0, start in-loop .fits .budget)
 
 add-at : tie.Need-add-at Inv-loop μ-loop
 add-at c =
-    let back = c .before .before .before .before .before .before .before .before .before .before in
-    let back2 = back .before .before .before .before .before .before .before .before .before .before in
-    let keep = c .before .before .before .keep in
-    let copy = c .before .before .before .before .before .before .copy in
-    let enum-told3 = back .before .before .before .before .before .before .before .enum-told3 in
-    let round = back .before .before .before .before .before .before .before .before .before .round in
-    let loop-test = back2 .before .before .before .loop-test in
-    let loop = back2 .before .before .before .before .loop in
-    let cells-of = back2 .before .before .before .before .before .before .before .before .cells-of in
-    let fits = back2 .before .before .before .before .before .before .before .before .before .fits in
-    let pre = back2 .before .before .before .before .before .before .before .before .before .pre in
-    let K = underway-turn (loop .inv .5) (pre .0) (enum-told3 .given .1) (round .ensures) (cells-of .ensures .0)
-    (copy .ensures) (keep .ensures) in
-    omega (arith, K .order, loop-test .taken, c .pass-over .ensures .0, fits .budget)
+    let in-loop = kept-in (kept-at c) in
+    omega (
+      arith,
+      turned (kept-at c) .order,
+      in-loop .loop-test .taken,
+      c .pass-over .ensures .0,
+      start in-loop .fits .budget,
+    )
 
 sub-finish : tie.Need-sub-finish Inv-loop μ-loop
 sub-finish c =
-    let back = c .before .before .before .before .before .before .before .before .before .before in
-    let back2 = back .before .before .before .before .before .before .before .before .before .before in
-    let pass-over = c .before .before .before .pass-over in
-    let loop-test = back2 .before .before .before .before .before .before .loop-test in
-    omega (arith, loop-test .taken, pass-over .ensures .0)
+    let at-passed = c .before .before .before in
+    omega (arith, kept-in (kept-at at-passed) .loop-test .taken, at-passed .pass-over .ensures .0)
 
 finish-requires : tie.Need-finish-requires Inv-loop μ-loop
 finish-requires c κs =
-    let back = c .before .before .before .before .before .before .before .before .before .before in
-    let back2 = back .before .before .before .before .before .before .before .before .before .before in
-    let back3 = back2 .before .before .before .before .before .before .before .before .before .before in
-    let pass-over = c .before .before .before .pass-over in
-    let pre = back3 .before .before .pre in
-    (pre .0, pass-over .ensures .2 .times)
+    let at-passed = c .before .before .before in
+    (start (kept-in (kept-at at-passed)) .pre .0, at-passed .pass-over .ensures .2 .times)
 
 add-rounds-3 : tie.Need-add-rounds-3 Inv-loop μ-loop
 add-rounds-3 c =
-    let back = c .before .before .before .before .before .before .before .before .before .before in
-    let back2 = back .before .before .before .before .before .before .before .before .before .before in
-    let back3 = back2 .before .before .before .before .before .before .before .before .before .before in
-    let pass-over = c .before .before .before .before .before .pass-over in
-    let loop-test = back2 .before .before .before .before .before .before .before .before .loop-test in
-    let fits = back3 .before .before .before .before .fits in
-    omega (arith, loop-test .taken, pass-over .ensures .0, c .before .finish .ensures .0, fits .budget)
+    let at-finish = c .before in
+    let at-passed = passed-at at-finish in
+    let in-loop = kept-in (kept-at at-passed) in
+    omega (
+      arith,
+      in-loop .loop-test .taken,
+      at-passed .pass-over .ensures .0,
+      at-finish .finish .ensures .0,
+      start in-loop .fits .budget,
+    )
 
 returns-3 : tie.Need-returns-3 Inv-loop μ-loop
 returns-3 c =
-    let back = c .before .before .before .before .before .before .before .before .before .before in
-    let back2 = back .before .before .before .before .before .before .before .before .before .before in
-    let back3 = back2 .before .before .before .before .before .before .before .before .before .before in
-    let pass-over = c .before .before .before .before .before .pass-over in
-    let keep = c .before .before .before .before .before .before .before .before .keep in
-    let copy = back .before .copy in
-    let enum-told3 = back2 .before .before .enum-told3 in
-    let round = back2 .before .before .before .before .round in
-    let loop-test = back2 .before .before .before .before .before .before .before .before .loop-test in
-    let loop = back2 .before .before .before .before .before .before .before .before .before .loop in
-    let cells-of = back3 .before .before .before .cells-of in
-    let pre = back3 .before .before .before .before .pre in
-    let K = underway-turn (loop .inv .5) (pre .0) (enum-told3 .given .1) (round .ensures) (cells-of .ensures .0)
-    (copy .ensures) (keep .ensures) in
-    let J = underway-leapt K (pass-over .ensures .1) (pass-over .ensures .2) in (
+    let at-finish = c .before in
+    let at-passed = passed-at at-finish in
+    let taken = kept-in (kept-at at-passed) .loop-test .taken in
+    let J = leapt at-passed in (
       J .from-base .times .sized,
       λ Γ C. ended-later (all-of J) Γ C _ _
-          (omega (arith, loop-test .taken, pass-over .ensures .0, c .before .finish .ensures .0))
-          (c .before .finish .ensures .1 (c .if1 .taken)),
+          (omega (arith, taken, at-passed .pass-over .ensures .0, at-finish .finish .ensures .0))
+          (at-finish .finish .ensures .1 (c .if1 .taken)),
     )
 
 loop-less : tie.Need-loop-less Inv-loop μ-loop
 loop-less c =
-    let back = c .before .before .before .before .before .before .before .before .before .before in
-    let back2 = back .before .before .before .before .before .before .before .before .before .before in
-    let pass-over = c .before .before .before .before .before .pass-over in
-    let loop-test = back2 .before .before .before .before .before .before .before .before .loop-test in
-    omega (arith, loop-test .taken, pass-over .ensures .0)
+    let at-passed = passed-at (c .before) in
+    omega (arith, kept-in (kept-at at-passed) .loop-test .taken, at-passed .pass-over .ensures .0)
 
 loop-again : tie.Need-loop-again Inv-loop μ-loop
 loop-again c =
-    let back = c .before .before .before .before .before .before .before .before .before .before in
-    let back2 = back .before .before .before .before .before .before .before .before .before .before in
-    let back3 = back2 .before .before .before .before .before .before .before .before .before .before in
-    let pass-over = c .before .before .before .before .before .pass-over in
-    let keep = c .before .before .before .before .before .before .before .before .keep in
-    let copy = back .before .copy in
-    let follow = back .before .before .before .before .follow in
-    let watch = back .before .before .before .before .before .before .before .before .watch in
-    let enum-told3 = back2 .before .before .enum-told3 in
-    let round = back2 .before .before .before .before .round in
-    let loop-test = back2 .before .before .before .before .before .before .before .before .loop-test in
-    let loop = back2 .before .before .before .before .before .before .before .before .before .loop in
-    let cells-of = back3 .before .before .before .cells-of in
-    let pre = back3 .before .before .before .before .pre in
-    let K = underway-turn (loop .inv .5) (pre .0) (enum-told3 .given .1) (round .ensures) (cells-of .ensures .0)
-    (copy .ensures) (keep .ensures) in
-    let J = underway-leapt K (pass-over .ensures .1) (pass-over .ensures .2) in (
-      omega (arith, loop-test .taken, pass-over .ensures .0),
-      round .ensures (pre .0 .network) (pre .0 .compiled) .sized,
+    let at-passed = passed-at (c .before) in
+    let at-keep = kept-at at-passed in
+    let in-loop = kept-in at-keep in
+    let usable = start in-loop .pre .0 in
+    let follow = at-keep .before .before .before .before .before .before .follow in
+    let watch = at-keep .before .before .before .before .before .before .before .before .before .before .watch in
+    let round = risen-at at-keep .before .before .round in (
+      omega (arith, in-loop .loop-test .taken, at-passed .pass-over .ensures .0),
+      round .ensures (usable .network) (usable .compiled) .sized,
       watch .ensures,
       follow .ensures .0,
       follow .ensures .1,
-      J,
+      leapt at-passed,
     )
 
 returns-4 : tie.Need-returns-4 Inv-loop μ-loop
@@ -253,8 +212,9 @@ returns-4 c =
 pub run-spec : {M : Type 1} → statement M
 run-spec =
     tie.close
-    (tie.spec Inv-loop μ-loop cells-of-requires (λ c κs. search needs) (λ c κs. search needs) loop-holds add-rounds
-    (λ c κs. search needs) round-requires (λ c. search needs) returns (λ c. search needs) returns-2
-    (λ c. search needs) sub-watch watch-requires follow-requires copy-requires keep-requires sub-pass-over
-    sub-pass-over-2 pass-over-requires add-rounds-2 add-at (λ c κs. search needs) sub-finish finish-requires
-    add-rounds-3 returns-3 loop-less loop-again returns-4)
+    (tie.spec Inv-loop μ-loop (λ c κs. scenarios-in (c .pre .0)) (λ c κs. search needs) (λ c κs. search needs) loop-holds
+    add-rounds (λ c κs. search needs) round-requires (λ c. search needs) returns (λ c. search needs) returns-2
+    (λ c. search needs) sub-watch watch-requires follow-requires copy-requires keep-requires
+    (λ c. omega (arith, turned (c .before .before) .order))
+    (λ c. omega (arith, kept-in (c .before .before) .loop-test .taken)) pass-over-requires add-rounds-2 add-at
+    (λ c κs. search needs) sub-finish finish-requires add-rounds-3 returns-3 loop-less loop-again returns-4)

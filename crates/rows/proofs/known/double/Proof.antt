@@ -5,7 +5,7 @@ use Prim.Native.Nat.{_-_}
 use native.Mathlib.Omega.{arith}
 use borrow.Author.Needs.{needs}
 use Rattle.rows.specs.Known.{Doubled}
-use Rattle.rows.proofs.First.{doubled-next}
+use Rattle.rows.proofs.FirstKnown.{doubled-next}
 use Rattle.rows.proofs.known.double.Statement.{statement}
 use Rattle.rows.proofs.known.double.Tie as tie
 

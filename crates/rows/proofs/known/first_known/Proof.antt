@@ -1,5 +1,5 @@
--- Each doubling takes in one proposition: after p of them the table has the sets of the first p (`First`). A table for
--- two or for four propositions is one for as many as there are signals (`first-fewer`), whose known times are the
+-- Each doubling takes in one proposition: after p of them the table has the sets of the first p (`FirstKnown`). A table
+-- for two or for four propositions is one for as many as there are signals (`first-fewer`), whose known times are the
 -- network's (`known-in-row`). Assumes nothing.
 use mathlib.Core.Path.{_≡_, refl}
 use mathlib.Core.List.{List}
@@ -14,8 +14,8 @@ use Rattle.network.specs.WellFormed.{WellFormed}
 use Rattle.network.specs.declared.Network.{Network}
 use Rattle.rows.specs.Framed.{Framed}
 use Rattle.rows.specs.Rows.{RowIn}
-use Rattle.rows.specs.Known.{First}
-use Rattle.rows.proofs.First.{first-start, first-next, first-few, first-fewer, known-in-row}
+use Rattle.rows.specs.Known.{FirstKnown}
+use Rattle.rows.proofs.FirstKnown.{first-start, first-next, first-few, first-fewer, known-in-row}
 use Rattle.rows.proofs.known.first_known.Statement.{statement}
 use Rattle.rows.proofs.known.first_known.Tie as tie
 
@@ -24,7 +24,7 @@ abbrev known : tie.Start → ℕ → ℕ
 known z p = getD (z .args .row .now) (getD (z .args .frame .observations) p 0 % 16) 0 + L.reaction
 
 -- the table of no proposition, and of one, two and three; where each stands, the function's start
-started : (z : tie.Start) → First 0 (known z) (set (z .args .first .now) 0 32767)
+started : (z : tie.Start) → FirstKnown 0 (known z) (set (z .args .first .now) 0 32767)
 started z =
     first-start _ _ (simp length-set (z .pre .2))
     (getD-set-same (z .args .first .now) 0 32767 0 (omega (arith, z .pre .2)))
@@ -32,13 +32,13 @@ started z =
 abbrev start₁ : tie.After-double → tie.Start
 start₁ c = c .before .before .before .before
 
-one : (c : tie.After-double) → First 1 (known (start₁ c)) (c .double .last .0)
+one : (c : tie.After-double) → FirstKnown 1 (known (start₁ c)) (c .double .last .0)
 one c = first-next _ 1 (omega arith) (started (start₁ c)) refl (c .before .known-from .ensures) (c .double .ensures)
 
 abbrev start₂ : tie.After-double2 → tie.Start
 start₂ c = start₁ (c .before .before .before)
 
-two : (c : tie.After-double2) → First 2 (known (start₂ c)) (c .double2 .last .0)
+two : (c : tie.After-double2) → FirstKnown 2 (known (start₂ c)) (c .double2 .last .0)
 two c =
     let l = c .before .before .before in
     first-next _ 2 (omega arith) (one l) refl (c .before .known-from2 .ensures) (c .double2 .ensures)
@@ -46,22 +46,22 @@ two c =
 abbrev start₃ : tie.After-double3 → tie.Start
 start₃ c = start₂ (c .before .before .before .before)
 
-three : (c : tie.After-double3) → First 3 (known (start₃ c)) (c .double3 .last .0)
+three : (c : tie.After-double3) → FirstKnown 3 (known (start₃ c)) (c .double3 .last .0)
 three c =
     let l = c .before .before .before .before in
     first-next _ 4 (omega arith) (two l) refl (c .before .known-from3 .ensures) (c .double3 .ensures)
 
 -- what a doubling asks
-fit : (z : tie.Start) (k : ℕ) {v : ℕ} {first : List ℕ} → 2 ^ k ≤ 8 → First k (known z) first → v ≡ known z k
+fit : (z : tie.Start) (k : ℕ) {v : ℕ} {first : List ℕ} → 2 ^ k ≤ 8 → FirstKnown k (known z) first → v ≡ known z k
     → (2 ^ k ≤ 8) × (length first ≡ 16) × (v ≤ 32767) × ((d : ℕ) → d < 2 ^ k → getD first d 0 ≤ 32767)
 fit z k l F e =
     let low = z .pre .1 (getD (z .args .frame .observations) k 0 % 16) (omega arith) in
     (l, F .sized, omega arith, first-few _ F)
 
 -- a table for at least the network's propositions
-ended : (z : tie.Start) (m : ℕ) {first : List ℕ} → First m (known z) first → z .args .frame .signals ≤ m → m ≤ 4
+ended : (z : tie.Start) (m : ℕ) {first : List ℕ} → FirstKnown m (known z) first → z .args .frame .signals ≤ m → m ≤ 4
     → (Γ : Network) (σ : List ℕ) (s : ℕ) → WellFormed Γ → Framed Γ (z .args .frame) → RowIn Γ σ s (z .args .row .now)
-    → First (z .args .frame .signals) (knownFrom Γ σ s) first
+    → FirstKnown (z .args .frame .signals) (knownFrom Γ σ s) first
 ended z m F h l Γ σ s w f r =
     first-fewer (known z) (knownFrom Γ σ s) (z .args .frame .signals) m F h l (known-in-row Γ σ s w f r)
 

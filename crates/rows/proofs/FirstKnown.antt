@@ -22,7 +22,7 @@ use Rattle.network.proofs.Strategy.{known-after-is}
 use Rattle.rows.specs.declared.Frame.{Frame}
 use Rattle.rows.specs.Framed.{Framed}
 use Rattle.rows.specs.Rows.{RowIn}
-use Rattle.rows.specs.Known.{firstOf, First, Doubled}
+use Rattle.rows.specs.Known.{firstOf, FirstKnown, Doubled}
 
 -- the digits of d, and of d with proposition i added
 top : (i d : ℕ) → i < 4 → d < 2 ^ i → (truth d i ≡ false) × (truth (2 ^ i + d) i ≡ true)
@@ -76,12 +76,12 @@ module _ (f : ℕ → ℕ) where
   firstOf-high : (i d : ℕ) → i < 4 → firstOf i f (2 ^ i + d) ≡ firstOf i f d
   firstOf-high i d l = minWhere-ext _ _ f f 32767 i (λ j h. low i j d l h) (λ j h. refl)
 
-  pub first-start : (first : List ℕ) → length first ≡ 16 → getD first 0 0 ≡ 32767 → First 0 f first
+  pub first-start : (first : List ℕ) → length first ≡ 16 → getD first 0 0 ≡ 32767 → FirstKnown 0 f first
   first-start first l e = record { sized = l; is = λ d b. let z : d ≡ 0 = omega arith in rw z e }
 
   -- one proposition more
-  pub first-next : {i v : ℕ} {first first′ : List ℕ} (p : ℕ) → i < 4 → First i f first → p ≡ 2 ^ i → v ≡ f i
-      → Doubled p v first first′ p → First (i + 1) f first′
+  pub first-next : {i v : ℕ} {first first′ : List ℕ} (p : ℕ) → i < 4 → FirstKnown i f first → p ≡ 2 ^ i → v ≡ f i
+      → Doubled p v first first′ p → FirstKnown (i + 1) f first′
   first-next {i} {v} {first} {first′} p l h q e g′ =
       let g : Doubled (2 ^ i) v first first′ (2 ^ i) = rw q at g′ in
       record {
@@ -97,7 +97,7 @@ module _ (f : ℕ → ℕ) where
             ]);
       }
 
-  pub first-few : {k : ℕ} {first : List ℕ} → First k f first → (d : ℕ) → d < 2 ^ k → getD first d 0 ≤ 32767
+  pub first-few : {k : ℕ} {first : List ℕ} → FirstKnown k f first → (d : ℕ) → d < 2 ^ k → getD first d 0 ≤ 32767
   first-few {k} F d l = omega (arith, F .is d l, minWhere-top (truth d) f 32767 k)
 
   -- a proposition that is in none of the sets asks nothing
@@ -107,8 +107,8 @@ module _ (f : ℕ → ℕ) where
       top j d (omega arith) (omega arith) .0)
 
 -- a table for m propositions is one for the first k of them
-pub first-fewer : (f g : ℕ → ℕ) (k m : ℕ) {first : List ℕ} → First m f first → k ≤ m → m ≤ 4
-    → ((p : ℕ) → p < k → f p ≡ g p) → First k g first
+pub first-fewer : (f g : ℕ → ℕ) (k m : ℕ) {first : List ℕ} → FirstKnown m f first → k ≤ m → m ≤ 4
+    → ((p : ℕ) → p < k → f p ≡ g p) → FirstKnown k g first
 first-fewer f g k m F h l e = record {
   sized = F .sized;
   is =

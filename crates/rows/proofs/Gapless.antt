@@ -7,7 +7,7 @@ use lib.ListN.{length, getD, drop, length-drop}
 use lib.Seq.{ext-getD, getD-take, getD-drop, length-take-le}
 use Rattle.prelude.proofs.Bounded.{length-tabulate, getD-tabulate}
 use Rattle.prelude.proofs.Cells.{cell-lt, row-of, column-of}
-use Rattle.rows.specs.Rows.{packed, rowOf, Row}
+use Rattle.rows.specs.Rows.{gapless, rowOf, Row}
 
 -- four propositions have sixteen scenarios
 pub sixteen : (k : ℕ) → k ≤ 4 → 2 ^ k ≤ 16
@@ -19,13 +19,13 @@ sixteen (suc (suc (suc (suc zero)))) l = omega arith
 sixteen (suc (suc (suc (suc (suc k))))) l = absurd (omega arith)
 
 module _ (n c : ℕ) (t : List ℕ) where
-  pub length-packed : length (packed n c t) ≡ n * c
-  unfolding packed
-  length-packed = length-tabulate (λ i. getD t (i / n * 16 + i % n) 0) (n * c)
+  pub length-gapless : length (gapless n c t) ≡ n * c
+  unfolding gapless
+  length-gapless = length-tabulate (λ i. getD t (i / n * 16 + i % n) 0) (n * c)
 
-  pub packed-at : (s u : ℕ) → s < c → u < n → getD (packed n c t) (s * n + u) 0 ≡ getD t (s * 16 + u) 0
-  unfolding packed
-  packed-at s u h l =
+  pub gapless-at : (s u : ℕ) → s < c → u < n → getD (gapless n c t) (s * n + u) 0 ≡ getD t (s * 16 + u) 0
+  unfolding gapless
+  gapless-at s u h l =
       getD-tabulate (λ i. getD t (i / n * 16 + i % n) 0) (n * c) (s * n + u) 0 (cell-lt n c s u h l)
       ∙ rw (row-of n s u l, column-of n s u l)
 
