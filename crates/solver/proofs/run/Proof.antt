@@ -24,9 +24,9 @@ abbrev μ-loop : tie.MeasureT-loop
 μ-loop a₀ budget frame counts lists cells b₀ base₀ at₀ mark₀ w₀ since₀ v₀ turns₀ rounds₀ a b base at mark w since v
     turns rounds = budget - rounds
 
--- The places of a turn, each seen from the next: the function's start and where the cells are counted, from inside the
--- loop; inside the loop, from where a round has risen and from where the table is kept; and that, from where rounds
--- were passed over and from where the far tables were asked for an end.
+-- The places of a turn, each seen from the next: inside the loop, where a round has risen, what watches and follows the
+-- rises has looked at it, it is copied, the table is kept, rounds are passed over, and the far tables were asked for an
+-- end.
 abbrev start : tie.In-loop Inv-loop μ-loop → tie.Start Inv-loop μ-loop
 start d = d .before .before .before .before .before .before
 
@@ -36,37 +36,53 @@ counted-at d = d .before .before .before .before .before
 abbrev risen-in : tie.After-enum-told3 Inv-loop μ-loop → tie.In-loop Inv-loop μ-loop
 risen-in d = d .before .before .before .before .before .before
 
-abbrev risen-at : tie.After-keep Inv-loop μ-loop → tie.After-enum-told3 Inv-loop μ-loop
-risen-at d = d .before .before .before .before .before .before .before .before .before .before .before .before .before .before
+abbrev risen-at : tie.After-watch Inv-loop μ-loop → tie.After-enum-told3 Inv-loop μ-loop
+risen-at d = d .before .before .before .before
 
-abbrev kept-in : tie.After-keep Inv-loop μ-loop → tie.In-loop Inv-loop μ-loop
-kept-in d = risen-in (risen-at d)
+abbrev watch-at : tie.After-follow Inv-loop μ-loop → tie.After-watch Inv-loop μ-loop
+watch-at d = d .before .before .before .before
 
-abbrev kept-at : tie.After-pass-over Inv-loop μ-loop → tie.After-keep Inv-loop μ-loop
-kept-at d = d .before .before .before
+abbrev follow-at : tie.After-copy Inv-loop μ-loop → tie.After-follow Inv-loop μ-loop
+follow-at d = d .before .before .before
+
+abbrev copy-at : tie.After-keep Inv-loop μ-loop → tie.After-copy Inv-loop μ-loop
+copy-at d = d .before .before .before
+
+abbrev keep-at : tie.After-pass-over Inv-loop μ-loop → tie.After-keep Inv-loop μ-loop
+keep-at d = d .before .before .before
 
 abbrev passed-at : tie.After-finish Inv-loop μ-loop → tie.After-pass-over Inv-loop μ-loop
 passed-at d = d .before .before .before .before
 
+-- inside the loop, from further on
+abbrev watch-in : tie.After-watch Inv-loop μ-loop → tie.In-loop Inv-loop μ-loop
+watch-in d = risen-in (risen-at d)
+
+abbrev copy-in : tie.After-copy Inv-loop μ-loop → tie.In-loop Inv-loop μ-loop
+copy-in d = watch-in (watch-at (follow-at d))
+
+abbrev keep-in : tie.After-keep Inv-loop μ-loop → tie.In-loop Inv-loop μ-loop
+keep-in d = copy-in (copy-at d)
+
 -- a turn up to what it passes over
 turned : (d : tie.After-keep Inv-loop μ-loop)
-    → let args = start (kept-in d) .args in
+    → let args = start (keep-in d) .args in
     Underway (args .frame) (args .counts .now) (args .lists .now) (args .a .now) (d .keep .last .1 .1 .0)
-    (d .before .before .before .copy .last .1 .0) (d .keep .result) (kept-in d .before .loop .rounds + 1)
+    (copy-at d .copy .last .1 .0) (d .keep .result) (keep-in d .before .loop .rounds + 1)
 turned d =
-    let in-loop = kept-in d in
-    let risen = risen-at d in
+    let in-loop = keep-in d in
+    let risen = risen-at (watch-at (follow-at (copy-at d))) in
     underway-turn (in-loop .before .loop .inv .5) (start in-loop .pre .0) (risen .enum-told3 .given .1)
-    (risen .before .before .round .ensures) (counted-at in-loop .cells-of .ensures .0) (d .before .before .before .copy .ensures)
+    (risen .before .before .round .ensures) (counted-at in-loop .cells-of .ensures .0) (copy-at d .copy .ensures)
     (d .keep .ensures)
 
 -- and with the rounds that it passed over
 leapt : (d : tie.After-pass-over Inv-loop μ-loop)
-    → let args = start (kept-in (kept-at d)) .args in
+    → let args = start (keep-in (keep-at d)) .args in
     Underway (args .frame) (args .counts .now) (args .lists .now) (args .a .now) (d .pass-over .last .1 .0)
-    (d .pass-over .last .1 .1 .0) (kept-at d .keep .result + d .pass-over .result)
-    (kept-in (kept-at d) .before .loop .rounds + 1 + d .pass-over .result)
-leapt d = underway-leapt (turned (kept-at d)) (d .pass-over .ensures .1) (d .pass-over .ensures .2)
+    (d .pass-over .last .1 .1 .0) (keep-at d .keep .result + d .pass-over .result)
+    (keep-in (keep-at d) .before .loop .rounds + 1 + d .pass-over .result)
+leapt d = underway-leapt (turned (keep-at d)) (d .pass-over .ensures .1) (d .pass-over .ensures .2)
 
 loop-holds : tie.Need-loop-holds Inv-loop μ-loop
 loop-holds c =
@@ -109,37 +125,37 @@ watch-requires c κs =
 
 follow-requires : tie.Need-follow-requires Inv-loop μ-loop
 follow-requires c κs =
-    let in-loop = risen-in (c .before .before .before .before .before .before .before) in
+    let in-loop = watch-in (c .before .before .before) in
     let loop = in-loop .before .loop in
     (counted-at in-loop .cells-of .ensures .1, loop .inv .3, loop .inv .4)
 
 copy-requires : tie.Need-copy-requires Inv-loop μ-loop
 copy-requires c κs =
-    let in-loop = risen-in (c .before .before .before .before .before .before .before .before .before .before) in
+    let in-loop = watch-in (watch-at (c .before .before)) in
     (counted-at in-loop .cells-of .ensures .1, in-loop .before .loop .inv .5 .from-base .times .sized)
 
 keep-requires : tie.Need-keep-requires Inv-loop μ-loop
 keep-requires c κs =
-    let in-loop = risen-in (c .before .before .before .before .before .before .before .before .before .before .before .before .before) in
+    let in-loop = copy-in (c .before .before) in
     (counted-at in-loop .cells-of .ensures .1, in-loop .before .loop .inv .5 .to-base .times .sized)
 
 pass-over-requires : tie.Need-pass-over-requires Inv-loop μ-loop
 pass-over-requires c κs =
     let at-keep = c .before .before in
     let K = turned at-keep in
-    (start (kept-in at-keep) .pre .0, K .to-base .times, K .from-base)
+    (start (keep-in at-keep) .pre .0, K .to-base .times, K .from-base)
 
 add-rounds-2 : tie.Need-add-rounds-2 Inv-loop μ-loop
 add-rounds-2 c =
-    let in-loop = kept-in (kept-at c) in
+    let in-loop = keep-in (keep-at c) in
     omega (arith, in-loop .loop-test .taken, c .pass-over .ensures .0, start in-loop .fits .budget)
 
 add-at : tie.Need-add-at Inv-loop μ-loop
 add-at c =
-    let in-loop = kept-in (kept-at c) in
+    let in-loop = keep-in (keep-at c) in
     omega (
       arith,
-      turned (kept-at c) .order,
+      turned (keep-at c) .order,
       in-loop .loop-test .taken,
       c .pass-over .ensures .0,
       start in-loop .fits .budget,
@@ -148,18 +164,18 @@ add-at c =
 sub-finish : tie.Need-sub-finish Inv-loop μ-loop
 sub-finish c =
     let at-passed = c .before .before .before in
-    omega (arith, kept-in (kept-at at-passed) .loop-test .taken, at-passed .pass-over .ensures .0)
+    omega (arith, keep-in (keep-at at-passed) .loop-test .taken, at-passed .pass-over .ensures .0)
 
 finish-requires : tie.Need-finish-requires Inv-loop μ-loop
 finish-requires c κs =
     let at-passed = c .before .before .before in
-    (start (kept-in (kept-at at-passed)) .pre .0, at-passed .pass-over .ensures .2 .times)
+    (start (keep-in (keep-at at-passed)) .pre .0, at-passed .pass-over .ensures .2 .times)
 
 add-rounds-3 : tie.Need-add-rounds-3 Inv-loop μ-loop
 add-rounds-3 c =
     let at-finish = c .before in
     let at-passed = passed-at at-finish in
-    let in-loop = kept-in (kept-at at-passed) in
+    let in-loop = keep-in (keep-at at-passed) in
     omega (
       arith,
       in-loop .loop-test .taken,
@@ -172,7 +188,7 @@ returns-3 : tie.Need-returns-3 Inv-loop μ-loop
 returns-3 c =
     let at-finish = c .before in
     let at-passed = passed-at at-finish in
-    let taken = kept-in (kept-at at-passed) .loop-test .taken in
+    let taken = keep-in (keep-at at-passed) .loop-test .taken in
     let J = leapt at-passed in (
       J .from-base .times .sized,
       λ Γ C. ended-later (all-of J) Γ C _ _
@@ -183,22 +199,22 @@ returns-3 c =
 loop-less : tie.Need-loop-less Inv-loop μ-loop
 loop-less c =
     let at-passed = passed-at (c .before) in
-    omega (arith, kept-in (kept-at at-passed) .loop-test .taken, at-passed .pass-over .ensures .0)
+    omega (arith, keep-in (keep-at at-passed) .loop-test .taken, at-passed .pass-over .ensures .0)
 
 loop-again : tie.Need-loop-again Inv-loop μ-loop
 loop-again c =
     let at-passed = passed-at (c .before) in
-    let at-keep = kept-at at-passed in
-    let in-loop = kept-in at-keep in
+    let at-keep = keep-at at-passed in
+    let in-loop = keep-in at-keep in
     let usable = start in-loop .pre .0 in
-    let follow = at-keep .before .before .before .before .before .before .follow in
-    let watch = at-keep .before .before .before .before .before .before .before .before .before .before .watch in
-    let round = risen-at at-keep .before .before .round in (
+    let at-follow = follow-at (copy-at at-keep) in
+    let at-watch = watch-at at-follow in
+    let round = risen-at at-watch .before .before .round in (
       omega (arith, in-loop .loop-test .taken, at-passed .pass-over .ensures .0),
       round .ensures (usable .network) (usable .compiled) .sized,
-      watch .ensures,
-      follow .ensures .0,
-      follow .ensures .1,
+      at-watch .watch .ensures,
+      at-follow .follow .ensures .0,
+      at-follow .follow .ensures .1,
       leapt at-passed,
     )
 
@@ -212,9 +228,9 @@ returns-4 c =
 pub run-spec : {M : Type 1} → statement M
 run-spec =
     tie.close
-    (tie.spec Inv-loop μ-loop (λ c κs. scenarios-in (c .pre .0)) (λ c κs. search needs) (λ c κs. search needs) loop-holds
-    add-rounds (λ c κs. search needs) round-requires (λ c. search needs) returns (λ c. search needs) returns-2
-    (λ c. search needs) sub-watch watch-requires follow-requires copy-requires keep-requires
+    (tie.spec Inv-loop μ-loop (λ c κs. scenarios-in (c .pre .0)) (λ c κs. search needs) (λ c κs. search needs)
+    loop-holds add-rounds (λ c κs. search needs) round-requires (λ c. search needs) returns (λ c. search needs)
+    returns-2 (λ c. search needs) sub-watch watch-requires follow-requires copy-requires keep-requires
     (λ c. omega (arith, turned (c .before .before) .order))
-    (λ c. omega (arith, kept-in (c .before .before) .loop-test .taken)) pass-over-requires add-rounds-2 add-at
+    (λ c. omega (arith, keep-in (c .before .before) .loop-test .taken)) pass-over-requires add-rounds-2 add-at
     (λ c κs. search needs) sub-finish finish-requires add-rounds-3 returns-3 loop-less loop-again returns-4)

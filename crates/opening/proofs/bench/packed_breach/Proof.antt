@@ -20,7 +20,9 @@ told p e = p ∙ ap (λ (y : Breach). packed (breachValues y)) (sym e)
 late : (c : tie.After-known-told) → let g = c .before .breach .given .0 in Small (breachValues (Late (g .0) (g .1 .0)))
 late c = small (c .before .before .before .pre) (c .before .breach .given .1)
 
-rule : (c : tie.After-known-told2) → let g = c .before .breach2 .given .0 in Small (breachValues (Rule (g .0) (g .1 .0)))
+rule : (c : tie.After-known-told2)
+    → let g = c .before .breach2 .given .0 in
+    Small (breachValues (Rule (g .0) (g .1 .0)))
 rule c = small (c .before .before .before .pre) (c .before .breach2 .given .1)
 
 unheard : (c : tie.After-known-told3)
