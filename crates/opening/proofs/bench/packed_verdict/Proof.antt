@@ -1,5 +1,5 @@
 -- `opening::bench::packed_verdict` meets its contract, verdict by verdict. Assumes nothing.
-use mathlib.Core.Path.{_≡_, sym, _∙_, ap}
+use mathlib.Core.Path.{sym, _∙_, ap}
 use borrow.Author.Needs.{needs}
 use Rattle.checker.specs.declared.Verdict.{Verdict}
 use Rattle.calls.specs.Bench.{packed, verdictValues}
