@@ -20,8 +20,7 @@ use Rattle.prelude.proofs.Tests.{zero-is-one}
 use Rattle.names.specs.Names.{isName, isOneLetter}
 use Rattle.names.specs.Defined.{placeOf}
 use Rattle.names.specs.Found.{foundOf}
-use Rattle.line.specs.Tests.{countTests, sectionTests, eventOf, eventTests, signalTests}
-use Rattle.line.specs.Tests.{isObservation}
+use Rattle.line.specs.Tests.{countTests, sectionTests, isObservation, eventOf, eventTests, signalTests}
 use Rattle.line.specs.Answers.{givesFound, checkOf}
 use Rattle.line.specs.declared.Check.the-variants as K
 use Rattle.line.proofs.Checks.{three-same}

@@ -28,16 +28,15 @@ use Rattle.names.specs.Defined.{allDefined}
 use Rattle.names.specs.Found.{foundOf, isFound}
 use Rattle.names.specs.declared.Found.{Found}
 use Rattle.names.proofs.Finds.{found-answers}
-use Rattle.line.specs.Tests.{eventOf, endsTests, ruleTests}
-use Rattle.line.specs.Tests.{kindOf}
+use Rattle.line.specs.Tests.{kindOf, eventOf, endsTests, ruleTests}
 use Rattle.line.specs.Sections.{constraintOf, ruleOf}
 use Rattle.line.specs.Answers.{kindFound, limitOf, entryAnswer, endsAnswer}
 use Rattle.line.specs.declared.KindField.the-variants as F
+use Rattle.line.specs.declared.Limit.{Limit}
 use Rattle.line.specs.declared.Limit.the-variants as M
 use Rattle.line.specs.declared.entry.Entry.the-variants as E
 use Rattle.line.proofs.Checks.{all-hold, three-same}
 use Rattle.line.proofs.Numbers.{value-fits}
-use Rattle.line.specs.declared.Limit.{Limit}
 
 -- what a kind that was found says of its field
 pub kind-some : (o : Option Kind) (k : Kind) → kindFound o ≡ F.Is k → o ≡ some k

@@ -67,16 +67,14 @@ pub record Prepared (sheet m : List ℕ) (g : Reading) (n : ℕ) (o : Outcome) :
   pub tested : o ≡ afterTest (g .outcome) (leb n (length m)) BufferTooShort
 
 module _ {sheet m : List ℕ} {g : Reading} {n : ℕ} {o : Outcome} (t : Prepared sheet m g n o) where
-  abbrev e : g ≡ read sheet
-  e = t .read-is
-
   abbrev net : Network
   net = read sheet .network
 
   outcome-is : o ≡ afterTest (read sheet .outcome) (leb (cells net) (length m)) BufferTooShort
   outcome-is =
       t .tested ∙ ap (λ (k : ℕ). afterTest (g .outcome) (leb k (length m)) BufferTooShort) (t .counted)
-      ∙ ap (λ (x : Reading). afterTest (x .outcome) (leb (cells (x .network)) (length m)) BufferTooShort) e
+      ∙ ap (λ (x : Reading). afterTest (x .outcome) (leb (cells (x .network)) (length m)) BufferTooShort)
+      (t .read-is)
 
   pub solving-refused : (r : Refusal) → o ≡ Refused r → Leaves (solving sheet m) (W.Refused r) m
   solving-refused r p =
@@ -91,17 +89,17 @@ module _ {sheet m : List ℕ} {g : Reading} {n : ℕ} {o : Outcome} (t : Prepare
 
     pub solving-asked : WellFormed (g .network) × (cells (g .network) ≤ length m)
     solving-asked =
-        rw e (accepted-well-formed sheet (passed .0) .0, leb-true (cells net) (length m) (passed .1))
+        rw (t .read-is) (accepted-well-formed sheet (passed .0) .0, leb-true (cells net) (length m) (passed .1))
 
     module _ {x : List ℕ} {s : Solved} (is : SolvedIs (g .network) m x s) where
       is-read : SolvedIs net m x s
-      is-read = rw e at is
+      is-read = rw (t .read-is) at is
 
       pub solving-consistent : (k : ℕ) → s ≡ Consistent k → Leaves (solving sheet m) (W.Count n) x
       solving-consistent k q =
           let r = consistent-rests net m x s is-read k q in
           let size = solve-least net (accepted-well-formed sheet (passed .0) .0) (r .0) .solves .sized in
-          let all : n ≡ cells net = t .counted ∙ ap (λ (y : Reading). cells (y .network)) e in
+          let all : n ≡ cells net = t .counted ∙ ap (λ (y : Reading). cells (y .network)) (t .read-is) in
           leaves-as
           (call-works (refusing (inPlace m)) sheet (solvingTests (inPlace m))
           (λ Γ. writing (inPlace m) (solve Γ .reached)) (read sheet) refl (passed .0) (passed .1, (rw (r .0), tt)))

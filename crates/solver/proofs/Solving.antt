@@ -65,22 +65,19 @@ sumBelow-le : (f : ℕ → ℕ) (n m : ℕ) → ((k : ℕ) → k < n → f k ≤
 sumBelow-le f zero m h = omega arith
 sumBelow-le f (suc n) m h = omega (arith, h n (omega arith), sumBelow-le f n m (λ k l. h k (omega arith)))
 
--- what an answer tells of the run: any end but rest finds that there is none
-ended-rests : (e : End) (m n k j : ℕ) → ended.Rests k j ≡ endedBy e m n → (e ≡ Rests) × (k ≡ m)
-ended-rests Rests m n k j z = (refl, cc)
-ended-rests Passes m n k j z = (cc, cc)
-ended-rests Spent m n k j z = (cc, cc)
+-- an answer tells how the run ended, and after how many rounds
+ended-by : (e e′ : End) (k j m n : ℕ) → endedBy e k j ≡ endedBy e′ m n → (e′ ≡ e) × (k ≡ m)
+ended-by Rests Rests k j m n z = (refl, cc)
+ended-by Rests Passes k j m n z = (cc, cc)
+ended-by Rests Spent k j m n z = (cc, cc)
+ended-by Passes Rests k j m n z = (cc, cc)
+ended-by Passes Passes k j m n z = (refl, cc)
+ended-by Passes Spent k j m n z = (cc, cc)
+ended-by Spent Rests k j m n z = (cc, cc)
+ended-by Spent Passes k j m n z = (cc, cc)
+ended-by Spent Spent k j m n z = (refl, cc)
 
-ended-passes : (e : End) (m n k j : ℕ) → ended.Passes k j ≡ endedBy e m n → (e ≡ Passes) × (k ≡ m)
-ended-passes Rests m n k j z = (cc, cc)
-ended-passes Passes m n k j z = (refl, cc)
-ended-passes Spent m n k j z = (cc, cc)
-
-ended-spent : (e : End) (m n k j : ℕ) → ended.Spent k j ≡ endedBy e m n → (e ≡ Spent) × (k ≡ m)
-ended-spent Rests m n k j z = (cc, cc)
-ended-spent Passes m n k j z = (cc, cc)
-ended-spent Spent m n k j z = (refl, cc)
-
+-- any end but rest finds that there is none
 solved-none : (Γ : Network) (e : End) (k : ℕ) → solve Γ .end ≡ e → k ≡ solve Γ .rounds → (e ≡ Rests → ⊥)
     → (table : List ℕ)
     → SolvedIs Γ table table (Inconsistent k)
@@ -121,7 +118,7 @@ module _ (Γ : Network) (W : WellFormed Γ) where
       → (entry after : List ℕ)
       → after ≡ held Γ exit ++ drop (Γ .events * scenarios Γ) entry → SolvedIs Γ entry after (Consistent k)
   solved-resting {exit} {k} {j} A entry after z =
-      let w = ended-rests (A .run .end) (A .run .rounds) (A .turns) k j (A .answer) in
+      let w = ended-by Rests (A .run .end) k j (A .run .rounds) (A .turns) (A .answer) in
       let rests : solve Γ .end ≡ Rests = rw (run-solves A) at (w .0) in
       let count : k ≡ solve Γ .rounds = rw (run-solves A) at (w .1) in
       let here : held Γ exit ≡ solve Γ .reached = rw (run-solves A) at (A .reached (λ e.
@@ -133,21 +130,12 @@ module _ (Γ : Network) (W : WellFormed Γ) where
         table = z ∙ rw (rests, tableAfter, here, size);
       }
 
-  pub solved-passing : {exit : List ℕ} {k j : ℕ} → RunIs Γ budget zeros exit (ended.Passes k j)
-      → (table : List ℕ)
-      → SolvedIs Γ table table (Inconsistent k)
-  solved-passing {k = k} {j} A =
-      let w = ended-passes (A .run .end) (A .run .rounds) (A .turns) k j (A .answer) in
-      solved-none Γ Passes k (rw (run-solves A) at (w .0)) (rw (run-solves A) at (w .1))
-      (λ e. zero-is-one cc)
-
-  pub solved-spent : {exit : List ℕ} {k j : ℕ} → RunIs Γ budget zeros exit (ended.Spent k j)
-      → (table : List ℕ)
-      → SolvedIs Γ table table (Inconsistent k)
-  solved-spent {k = k} {j} A =
-      let w = ended-spent (A .run .end) (A .run .rounds) (A .turns) k j (A .answer) in
-      solved-none Γ Spent k (rw (run-solves A) at (w .0)) (rw (run-solves A) at (w .1))
-      (λ e. zero-is-one cc)
+  pub solved-stopped : {exit : List ℕ} {k : ℕ} (e : End) (j : ℕ) → (e ≡ Rests → ⊥)
+      → RunIs Γ budget zeros exit (endedBy e k j)
+      → (table : List ℕ) → SolvedIs Γ table table (Inconsistent k)
+  solved-stopped {k = k} e j n A =
+      let w = ended-by e (A .run .end) k j (A .run .rounds) (A .turns) (A .answer) in
+      solved-none Γ e k (rw (run-solves A) at (w .0)) (rw (run-solves A) at (w .1)) n
 
 -- an answer that is told
 pub run-as : {Γ : Network} {n : ℕ} {t t′ : List ℕ} {r r′ : Ended} → r ≡ r′ → RunIs Γ n t t′ r → RunIs Γ n t t′ r′

@@ -4,8 +4,11 @@ use mathlib.Core.Path.{refl}
 use native.Mathlib.Omega.{arith}
 use borrow.Author.Needs.{needs}
 use Rattle.bounds.proofs.Halves.{scenarios-few}
-use Rattle.solver.proofs.Solving.{zeros-at, zero-times, zero-lists, solved-resting, solved-passing}
-use Rattle.solver.proofs.Solving.{solved-spent, run-as, cells-framed, copied-framed, copied-length}
+use Rattle.fixpoint.specs.Run.{Passes, Spent}
+use Rattle.prelude.proofs.Tests.{zero-is-one}
+use Rattle.solver.specs.Run.{RunIs}
+use Rattle.solver.proofs.Solving.{budget, zeros, zeros-at, zero-times, zero-lists, solved-resting}
+use Rattle.solver.proofs.Solving.{solved-stopped, run-as, cells-framed, copied-framed, copied-length}
 use Rattle.solver.proofs.solve.Statement.{statement}
 use Rattle.solver.proofs.solve.Tie as tie
 
@@ -17,55 +20,52 @@ list-constraints-requires c κs =
 
 run-requires : tie.Need-run-requires
 run-requires c κs =
-    let list-constraints = c .before .before .before .list-constraints in
-    (record { network = _; compiled = list-constraints .ensures }, zero-times _ _)
+    (record { network = _; compiled = c .before .before .before .list-constraints .ensures }, zero-times _ _)
+
+-- where the constraints are listed and where the function begins, seen from where the run has ended
+abbrev listed-at : tie.After-run → tie.After-list-constraints
+listed-at d = d .before .before .before .before
+
+abbrev start : tie.After-run → tie.Start
+start d = listed-at d .before .before .before .before .before
+
+-- the run that it made
+ran : (d : tie.After-run) → RunIs (start d .args .network) budget zeros (d .run .last .0) (d .run .result)
+ran d = d .run .ensures .1 _ (listed-at d .list-constraints .ensures)
 
 copy-out-requires : tie.Need-copy-out-requires
 copy-out-requires c κs =
-    let back = c .before .before .before .before .before .before .before .before .before .before in
-    let list-constraints = c .before .before .before .before .before .before .before .before .before
-    .list-constraints in
-    let pre = back .before .before .before .before .pre in
-    let F = list-constraints .ensures .framed in
+    let at-run = c .before .before .before .before .before in
+    let F = listed-at at-run .list-constraints .ensures .framed in
+    let pre = start at-run .pre in
     let W = pre .0 in
     (scenarios-few _ _ W F, W .some-event, W .events, cells-framed _ _ F _ (pre .1))
 
 returns : tie.Need-returns
 returns c =
-    let back = c .before .before .before .before .before .before .before .before .before .before in
-    let run = c .before .before .before .run in
-    let list-constraints = c .before .before .before .before .before .before .before .list-constraints in
-    let pre = back .before .before .pre in
-    let A = run .ensures .1 _ (list-constraints .ensures) in
-    solved-passing _ (pre .0) (run-as (c .before .ended .given .1) A) _
+    let at-run = c .before .before .before in
+    solved-stopped _ (start at-run .pre .0) Passes _ (λ e. zero-is-one cc)
+    (run-as (c .before .ended .given .1) (ran at-run)) _
 
 returns-2 : tie.Need-returns-2
 returns-2 c =
-    let back = c .before .before .before .before .before .before .before .before .before .before in
-    let run = c .before .before .before .run in
-    let list-constraints = c .before .before .before .before .before .before .before .list-constraints in
-    let pre = back .before .before .pre in
-    let A = run .ensures .1 _ (list-constraints .ensures) in
-    solved-spent _ (pre .0) (run-as (c .before .ended2 .given .1) A) _
+    let at-run = c .before .before .before in
+    solved-stopped _ (start at-run .pre .0) Spent _ (λ e. zero-is-one cc)
+    (run-as (c .before .ended2 .given .1) (ran at-run)) _
 
 same-length : tie.Need-same-length
 same-length c =
-    let back = c .before .before .before .before .before .before .before .before .before .before in
-    let list-constraints = back .before .before .list-constraints in
-    let pre = back .before .before .before .before .before .before .before .pre in
-    copied-length _ _ (list-constraints .ensures .framed) _ _ _ _ refl (pre .1) (c .before .before .copy-out .ensures)
+    let at-run = c .before .before .before .before .before .before .before .before in
+    copied-length _ _ (listed-at at-run .list-constraints .ensures .framed) _ _ _ _ refl (start at-run .pre .1)
+    (c .before .before .copy-out .ensures)
 
 returns-3 : tie.Need-returns-3
 returns-3 c =
-    let back = c .before .before .before .before .before .before .before .before .before .before in
+    let at-run = c .before .before .before .before .before .before .before .before in
     let ended3 = c .before .before .before .before .before .before .ended3 in
-    let run = c .before .before .before .before .before .before .before .before .run in
-    let list-constraints = back .before .before .list-constraints in
-    let pre = back .before .before .before .before .before .before .before .pre in
-    let C = list-constraints .ensures in
-    let A = run .ensures .1 _ C in
-    solved-resting _ (pre .0) (run-as (ended3 .given .1) A) _ _
-    (copied-framed _ _ (C .framed) _ _ _ _ refl (c .before .before .copy-out .ensures))
+    solved-resting _ (start at-run .pre .0) (run-as (ended3 .given .1) (ran at-run)) _ _
+    (copied-framed _ _ (listed-at at-run .list-constraints .ensures .framed) _ _ _ _ refl
+    (c .before .before .copy-out .ensures))
 
 pub solve-spec : {M : Type 1} → statement M
 solve-spec =
