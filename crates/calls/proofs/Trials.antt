@@ -13,7 +13,7 @@ use Rattle.text.specs.Lines.{lineFeed}
 use Rattle.text.specs.Number.{isNumber, inRange}
 use Rattle.network.specs.Scenario.{satisfies}
 use Rattle.network.specs.Constraint.{covers}
-use Rattle.network.specs.Strategy.{reaction}
+use Rattle.network.specs.Strategy.{reactionOf}
 use Rattle.line.specs.Tests.{sectionTests, eventTests, signalTests, endsTests, ruleTests}
 use Rattle.sheet.specs.Reading.{progress}
 use Rattle.checker.specs.Verdict.{verdict}
@@ -92,7 +92,7 @@ allAgree [] = true
 allAgree (t ∷ ts) = same (tableText (lines (t .sheet))) (lines (t .prints)) && allAgree ts
 
 pub trials-agree : allAgree trials ≡ true
-unfolding isNumber inRange satisfies covers reaction sectionTests eventTests signalTests endsTests ruleTests progress
+unfolding isNumber inRange satisfies covers reactionOf sectionTests eventTests signalTests endsTests ruleTests progress
     propagate solve listing
 trials-agree = refl
 
@@ -139,6 +139,6 @@ allAnswered (q ∷ qs) =
     (eqb (v .number) (q .number) && (eqb (v .line) 0 && eqb (v .value) (q .events))) && allAnswered qs
 
 pub questions-answered : allAnswered questions ≡ true
-unfolding isNumber inRange satisfies covers reaction sectionTests eventTests signalTests endsTests ruleTests progress
+unfolding isNumber inRange satisfies covers reactionOf sectionTests eventTests signalTests endsTests ruleTests progress
     verdict due eventsDue
 questions-answered = refl

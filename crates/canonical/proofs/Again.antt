@@ -1,5 +1,5 @@
 -- The form of an accepted sheet, where no more upper bounds remain than a sheet may have (02, point 2): it is accepted,
--- and its network has the horizon, the events and the signals of the sheet's, and for rules those that remain. So "the
+-- and its network has the horizon, the events, the signals and their reactions, and for rules those that remain. So "the
 -- form reads back to the same good tables, and a second pass changes no byte". Assumes nothing.
 use mathlib.Core.Path.{_≡_, refl, sym, _∙_, ap}
 use mathlib.Core.Logic.{_↔_}
@@ -45,7 +45,7 @@ module _ (sheet : List ℕ) (a : read sheet .outcome ≡ Accepted)
   abbrev Δ : Network
   Δ = read form .network
 
-  -- at most 2,673 bytes
+  -- at most 2,721 bytes
   pub form-short : length form ≤ mostForm
   form-short =
       let t = faithful sheet a in
@@ -81,6 +81,7 @@ module _ (sheet : List ℕ) (a : read sheet .outcome ≡ Accepted)
     events = names-held form-contains;
     signals = signals-held form-contains;
     remaining = form-remaining;
+    reactions = λ p l. sym (form-agrees .reactions p (omega (arith, form-agrees .signals)));
   }
 
   pub form-again : houseText form Δ ≡ form

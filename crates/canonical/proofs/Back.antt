@@ -1,5 +1,6 @@
 -- The form is a sheet, and what is read from it is what was written: its rules are the upper bounds that remain,
--- since a name tells its event, and the letters of a label tell the label. Assumes nothing.
+-- since a name tells its event, and the letters of a label tell the label; and each signal reacts as before. Assumes
+-- nothing.
 use mathlib.Core.Path.{_≡_, sym, _∙_, ap}
 use mathlib.Core.List.{List, [], map}
 use Prim.Native.Nat.{ℕ, _^_, _<_}
@@ -20,6 +21,7 @@ use Rattle.tighten.proofs.Rules.{uppersBelow-max}
 use Rattle.tighten.proofs.Tables.{Agree}
 use Rattle.canonical.specs.House.{namesOf, signalAt, signalsOf, asRule, houseOf}
 use Rattle.canonical.proofs.Signs.{mask-literals}
+use Rattle.canonical.proofs.Slow.{reaction-back}
 use Rattle.canonical.proofs.Faithful.{Faithful, names-held, letters-held}
 use Rattle.canonical.proofs.Keeping.{Remains, each-remains}
 
@@ -79,4 +81,5 @@ module _ {sheet : List ℕ} {Γ : Network} (t : Faithful sheet Γ) where
           let all = length-tabulate (signalAt sheet Γ) (Γ .signals) in
           sym (place-back (observation Γ p) (observation Δ p) (t .formed .observed p l)
           (rw (getD-tabulate (signalAt sheet Γ) (Γ .signals) p noSignal l) at (h .observed p (omega arith))));
+      reactions = λ p l. sym (reaction-back sheet (letters-held t) h p l);
     }

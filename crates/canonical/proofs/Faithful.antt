@@ -25,7 +25,7 @@ use Rattle.layout.proofs.Accepted.{accepted-iff, network-contains}
 use Rattle.tighten.specs.Upper.{uppersOf}
 use Rattle.tighten.proofs.Rules.{uppersBelow-each, uppers-each}
 use Rattle.canonical.specs.House.{namesOf, signalAt, signalsOf}
-use Rattle.canonical.proofs.Signs.{LettersAre}
+use Rattle.canonical.proofs.Keyed.{LettersAre}
 
 -- the network is that of the sheet, which keeps the layout's rules
 pub record Faithful (sheet : List ℕ) (Γ : Network) : Type 0 where

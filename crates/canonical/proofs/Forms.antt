@@ -1,12 +1,14 @@
 -- "Two sheets give equal bytes if and only if their horizons, event lists, signal lists and remaining rows are equal"
--- (02, point 2). Equal bytes are read to one network, which has the horizon, the lists and what remains of each sheet;
--- and the bytes are written from these alone. Assumes nothing.
+-- (02, point 2), and their reactions (point 3). Equal bytes are read to one network, which has the horizon, the lists,
+-- the reactions and what remains of each sheet; and the bytes are written from these alone. Assumes nothing.
 use mathlib.Core.Path.{_≡_, sym, _∙_, ap}
 use mathlib.Core.Logic.{_↔_}
 use mathlib.Core.List.{List}
-use Prim.Native.Nat.{ℕ, _≤_}
+use Prim.Native.Nat.{ℕ, _≤_, _<_}
+use native.Mathlib.Omega.{arith}
 use lib.ListN.{length}
 use Rattle.network.specs.Limits as L
+use Rattle.network.specs.Strategy.{reaction}
 use Rattle.network.specs.declared.Network.{Network}
 use Rattle.sheet.specs.Reading.{read}
 use Rattle.sheet.specs.declared.Outcome.the-variants.{Accepted}
@@ -15,7 +17,7 @@ use Rattle.canonical.specs.House.{namesOf, signalsOf, houseText}
 use Rattle.canonical.specs.Same.{Same}
 use Rattle.canonical.proofs.Faithful.{faithful}
 use Rattle.canonical.proofs.Likeness.{text-same}
-use Rattle.canonical.proofs.Again.{form-same}
+use Rattle.canonical.proofs.Again.{form-agrees, form-same}
 
 -- the network that is read from a form
 abbrev from : List ℕ → Network
@@ -35,11 +37,17 @@ module _ (sheet : List ℕ) (a : read sheet .outcome ≡ Accepted)
   same-of-equal e =
       let one = form-same sheet a few in
       let two = form-same other b fits in
+      let back = form-agrees sheet a few in
+      let inside : (p : ℕ) → p < Γ .signals → p < from (houseText sheet Γ) .signals =
+      λ p l. omega (arith, back .signals) in
       record {
         horizons = sym (one .horizons) ∙ ap (λ (f : List ℕ). from f .horizon) e ∙ two .horizons;
         events = sym (one .events) ∙ ap (λ (f : List ℕ). namesOf f (from f)) e ∙ two .events;
         signals = sym (one .signals) ∙ ap (λ (f : List ℕ). signalsOf f (from f)) e ∙ two .signals;
         remaining = sym (one .remaining) ∙ ap (λ (f : List ℕ). remainingOf (from f)) e ∙ two .remaining;
+        reactions = λ p l.
+            back .reactions p l ∙ ap (λ (f : List ℕ). reaction (from f) p) e
+            ∙ two .reactions p (rw e at (inside p l));
       }
 
   pub equal-of-same : Same sheet Γ other Δ → houseText sheet Γ ≡ houseText other Δ

@@ -1,6 +1,6 @@
 -- What the form contains keeps the layout's rules, where no more upper bounds remain than a sheet may have: the
 -- events and signals are those of a sheet, and each one that remains has events of it for its ends, a limit in range,
--- and letters of it, each once, for its label. Assumes nothing.
+-- and letters of it, each once, for its label; and the reactions are those of signals. Assumes nothing.
 use mathlib.Core.Path.{_≡_}
 use mathlib.Core.List.{List, [], map}
 use Prim.Native.Nat.{ℕ, _≤_, _<_}
@@ -22,8 +22,9 @@ use Rattle.layout.specs.Layout.{KeepsRule, Keeps, noRule, signalLetters}
 use Rattle.tighten.specs.Tightest.{remainingOf}
 use Rattle.tighten.proofs.Regular.{uppers-regular}
 use Rattle.tighten.proofs.Remains.{remaining-each, remaining-regular, remaining-proper}
-use Rattle.canonical.specs.House.{literalAt, namesOf, signalsOf, asRule, houseOf}
+use Rattle.canonical.specs.House.{literalAt, namesOf, signalsOf, asRule, slowOf, houseOf}
 use Rattle.canonical.proofs.Signs.{letters-known, letters-once}
+use Rattle.canonical.proofs.Slow.{listed-slow, slow-few, slow-keep, slow-once}
 use Rattle.canonical.proofs.Faithful.{Faithful, names-held, signals-held, letters-held, uppers-apart}
 
 -- an upper bound that remains
@@ -89,4 +90,7 @@ module _ {sheet : List ℕ} {Γ : Network} (t : Faithful sheet Γ) where
         rules =
             each-map (asRule sheet Γ) (KeepsRule (namesOf sheet Γ) (signalLetters (signalsOf sheet Γ)))
             noConstraint noRule (remainingOf Γ) (each-mono rule-keeps each-remains);
+        few-reactions = rw (listed-slow (slowOf Γ)) (omega (arith, slow-few Γ, t .formed .signals));
+        reactions = rw (listed-slow (slowOf Γ)) (slow-keep Γ (letters-held t) (t .formed));
+        reactions-once = rw (listed-slow (slowOf Γ)) (slow-once Γ (letters-held t));
       }

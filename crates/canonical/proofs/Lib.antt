@@ -2,7 +2,9 @@
 -- form keeps the layout's rules and is short; what is read back from it. Then the theorems: `Again` of one sheet and
 -- its form, and `Forms` of two sheets. Behind them the laws that the writer's proofs cite: a section; a label, a
 -- limit and a line; the upper bounds that remain; the form.
+pub mod Keyed
 pub mod Signs
+pub mod Slow
 pub mod Faithful
 pub mod Keeping
 pub mod Short
@@ -12,6 +14,7 @@ pub mod Again
 pub mod Forms
 pub mod Sections
 pub mod Literals
+pub mod SlowLines
 pub mod Limit
 pub mod RuleLine
 pub mod Remaining

@@ -1,6 +1,6 @@
--- Sheets with equal horizons, event lists, signal lists and remaining upper bounds have forms that contain the
--- same: each says its ends by names and its label by letters, which stand in those lists. Assumes nothing.
-use mathlib.Core.Path.{_≡_, _∙_, ap}
+-- Sheets with equal horizons, event lists, signal lists, reactions and remaining upper bounds have forms that contain
+-- the same: each says its ends by names and its label by letters, which stand in those lists. Assumes nothing.
+use mathlib.Core.Path.{_≡_, _∙_, ap, ap₂}
 use mathlib.Core.List.{List, map}
 use Prim.Native.Nat.{ℕ, _<_}
 use native.Mathlib.Omega.{arith}
@@ -16,7 +16,8 @@ use Rattle.network.specs.declared.Constraint.{Constraint}
 use Rattle.network.specs.declared.Network.{Network}
 use Rattle.layout.specs.Layout.{Signal, textOf}
 use Rattle.tighten.specs.Tightest.{remainingOf}
-use Rattle.canonical.specs.House.{literalBy, literalAt, literalsOf, signalAt, asRule, houseOf, houseText}
+use Rattle.canonical.specs.House.{literalBy, literalAt, literalsOf, signalAt, asRule, slowBy, slowAt, slowOf}
+use Rattle.canonical.specs.House.{sectionOf, houseOf, houseText}
 use Rattle.canonical.specs.Same.{Same}
 use Rattle.canonical.proofs.Faithful.{Faithful}
 use Rattle.canonical.proofs.Keeping.{Remains, each-remains}
@@ -32,11 +33,13 @@ module _ {sheet : List ℕ} {Γ : Network} {other : List ℕ} {Δ : Network} (s 
   literal-same : (ℓ : Label) (p : ℕ) → p < Γ .signals → literalAt Γ ℓ p ≡ literalAt Δ ℓ p
   literal-same ℓ p h = ap (λ (b : ℕ). literalBy b (truth (ℓ .positive) p) (truth (ℓ .negative) p)) (letter-same p h)
 
+  count-same : Γ .signals ≡ Δ .signals
+  count-same = tabulate-count (signalAt sheet Γ) (signalAt other Δ) (Γ .signals) (Δ .signals) (s .signals)
+
   literals-same : (ℓ : Label) → literalsOf Γ ℓ ≡ literalsOf Δ ℓ
   literals-same ℓ =
       gather-same (literalAt Γ ℓ) (literalAt Δ ℓ) 0 (Γ .signals) (λ p l h. literal-same ℓ p (omega arith))
-      ∙ ap (λ (k : ℕ). gather k (literalAt Δ ℓ))
-      (tabulate-count (signalAt sheet Γ) (signalAt other Δ) (Γ .signals) (Δ .signals) (s .signals))
+      ∙ ap (λ (k : ℕ). gather k (literalAt Δ ℓ)) count-same
 
   rule-same : (r : Constraint) → Remains Γ r → asRule sheet Γ r ≡ asRule other Δ r
   rule-same r w =
@@ -45,12 +48,25 @@ module _ {sheet : List ℕ} {Γ : Network} {other : List ℕ} {Δ : Network} (s 
       let label = literals-same (r .label) in
       λ i. record { kind = Max; from = from i; to = to i; limit = r .bound; label = label i }
 
+  slow-same : slowOf Γ ≡ slowOf Δ
+  slow-same =
+      gather-same (slowAt Γ) (slowAt Δ) 0 (Γ .signals) (λ p l h.
+      ap₂ slowBy (letter-same p (omega arith)) (s .reactions p (omega arith)))
+      ∙ ap (λ (k : ℕ). gather k (slowAt Δ)) count-same
+
   pub house-same : Faithful sheet Γ → houseOf sheet Γ ≡ houseOf other Δ
   house-same t =
       let rules : map (asRule sheet Γ) (remainingOf Γ) ≡ map (asRule other Δ) (remainingOf Δ) =
       map-same (asRule sheet Γ) (asRule other Δ) noConstraint (remainingOf Γ) (each-mono rule-same (each-remains t))
       ∙ ap (map (asRule other Δ)) (s .remaining) in
-      λ i. record { horizon = s .horizons i; names = s .events i; signals = s .signals i; rules = rules i }
+      let reactions = ap sectionOf slow-same in
+      λ i. record {
+        horizon = s .horizons i;
+        names = s .events i;
+        signals = s .signals i;
+        rules = rules i;
+        reactions = reactions i;
+      }
 
   pub text-same : Faithful sheet Γ → houseText sheet Γ ≡ houseText other Δ
   unfolding houseText

@@ -2,6 +2,7 @@
 -- nothing.
 use mathlib.Core.Path.{_≡_}
 use mathlib.Core.Bool.{Bool, true, false}
+use mathlib.Core.Option.{Option, none, some, Option·getD}
 use mathlib.Core.List.{List, [], _∷_, _++_, map}
 use Prim.Native.Nat.{ℕ, suc, _+_, _*_, _≤_}
 use Prim.Native.String.{String}
@@ -22,10 +23,12 @@ use Rattle.network.specs.declared.Kind.{Kind}
 use Rattle.network.specs.declared.Kind.the-variants.{Max, Min, Fix}
 use Rattle.names.specs.Names.{isName, Literal}
 use Rattle.names.proofs.Tokens.{name-short}
-use Rattle.layout.specs.Layout.{Signal, Rule, Contents, KeepsSignal, KeepsRule, Keeps, noSignal, noRule, signedText}
-use Rattle.layout.specs.Layout.{signText}
+use Rattle.layout.specs.Layout.{Signal, Rule, Reaction, Contents, KeepsSignal, KeepsRule, KeepsReaction, Keeps}
+use Rattle.layout.specs.Layout.{noSignal, noRule, noReaction, signalLetters, signedText, signText, reactionLine}
+use Rattle.layout.specs.Layout.{reactionsText}
 use Rattle.layout.specs.Layout.{literalsText, labelText, kindText, line, lines, section, signalLine, ruleLine, textOf}
-use Rattle.canonical.specs.Most.{mostCount, mostEvents, mostSignals, mostLabel, mostRule, mostRules, mostForm}
+use Rattle.canonical.specs.Most.{mostCount, mostEvents, mostSignals, mostLabel, mostRule, mostRules}
+use Rattle.canonical.specs.Most.{mostReaction, mostReactions, mostForm}
 
 -- a field and what is behind it
 length-line : (f : List ℕ) → length (line f []) ≡ length f + 1
@@ -85,12 +88,18 @@ length-kind Max = omega arith
 length-kind Min = omega arith
 length-kind Fix = omega arith
 
--- four parts one behind the other
-length-parts : (h e s r : List ℕ) → length h ≤ mostCount 7 → length e ≤ mostEvents → length s ≤ mostSignals
-    → length r ≤ mostRules
-    → length (h ++ e ++ s ++ r) ≤ mostForm
-length-parts h e s r a b c d =
-    omega (arith, length-append (h ++ e ++ s) r, length-append (h ++ e) s, length-append h e)
+-- five parts one behind the other
+length-parts : (h e s r y : List ℕ) → length h ≤ mostCount 7 → length e ≤ mostEvents → length s ≤ mostSignals
+    → length r ≤ mostRules → length y ≤ mostReactions
+    → length (h ++ e ++ s ++ r ++ y) ≤ mostForm
+length-parts h e s r y a b c d i =
+    omega (
+      arith,
+      length-append (h ++ e ++ s ++ r) y,
+      length-append (h ++ e ++ s) r,
+      length-append (h ++ e) s,
+      length-append h e,
+    )
 
 module _ (c : Contents) (k : Keeps c) where
   length-events : Each (λ l. length l ≤ 9) (map (λ n. line n []) (c .names)) []
@@ -125,6 +134,19 @@ module _ (c : Contents) (k : Keeps c) where
         length-label (x .label) few,
       )
 
+  length-reaction : (y : Reaction) → KeepsReaction (signalLetters (c .signals)) y → length (reactionLine y) ≤ mostReaction
+  length-reaction y e =
+      omega (arith, length-line (decimal (y .minutes)), length-decimal-16 (y .minutes) (omega (arith, e .most)))
+
+  length-reactions : (o : Option (List Reaction)) → length (Option·getD o []) ≤ L.signals
+      → Each (KeepsReaction (signalLetters (c .signals))) (Option·getD o []) noReaction
+      → length (reactionsText o) ≤ mostReactions
+  length-reactions none few e = omega arith
+  length-reactions (some ys) few e =
+      length-section "reactions" mostReaction L.signals (map reactionLine ys)
+      (omega (arith, length-map ys reactionLine)) (omega arith)
+      (each-map reactionLine (λ l. length l ≤ mostReaction) noReaction [] ys (each-mono length-reaction e))
+
   pub length-text : Each Few (c .rules) noRule → length (textOf c) ≤ mostForm
   length-text few =
       let names = map (λ n. line n []) (c .names) in
@@ -135,7 +157,7 @@ module _ (c : Contents) (k : Keeps c) where
       let rule-count = length-map (c .rules) ruleLine in
       length-parts (line (ascii "horizon") (decimal (c .horizon) ∷ [])) (section "events" names)
       (section "signals" signals)
-      (section "rules" rules)
+      (section "rules" rules) (reactionsText (c .reactions))
       (length-count (ascii "horizon") (c .horizon) (omega (arith, k .horizon)))
       (length-section "events" 9 L.events names (omega (arith, k .events, name-count)) (omega arith) length-events)
       (length-section "signals" 11 L.signals signals (omega (arith, k .few-signals, signal-count)) (omega arith)
@@ -143,3 +165,4 @@ module _ (c : Contents) (k : Keeps c) where
       (length-section "rules" mostRule L.rules rules (omega (arith, k .few-rules, rule-count)) (omega arith)
       (each-map ruleLine (λ l. length l ≤ mostRule) noRule [] (c .rules)
       (record { each = λ i h. length-rule (getD (c .rules) i noRule) (k .rules .each i h) (few .each i h) })))
+      (length-reactions (c .reactions) (k .few-reactions) (k .reactions))

@@ -7,15 +7,12 @@ use mathlib.Core.Option.{some}
 use mathlib.Core.List.{List, []}
 use Prim.Native.Nat.{ℕ, zero, suc, _^_, _≤_, _<_}
 use native.Mathlib.Omega.{arith}
-use lib.ListN.{length, getD, length-map, List·getD-map}
 use Rattle.prelude.specs.Bounded.{sumBelow}
 use Rattle.prelude.specs.Gather.{ahead, gather}
 use Rattle.prelude.specs.Lists.{In, Distinct, Each}
 use Rattle.prelude.proofs.Tests.{clash}
-use Rattle.prelude.proofs.Lists.{distinct-of-later}
 use Rattle.prelude.proofs.Search.{none-not-some}
-use Rattle.prelude.proofs.Gather.{Answer, gather-answer, gather-ordered, gather-more}
-use Rattle.network.specs.Limits as L
+use Rattle.prelude.proofs.Gather.{gather-more}
 use Rattle.network.specs.Build.{letter}
 use Rattle.network.specs.Scenario.{truth}
 use Rattle.network.specs.declared.Label.{Label}
@@ -25,14 +22,7 @@ use Rattle.names.specs.Defined.{weight, weights, maskOf}
 use Rattle.names.proofs.Apart.{Apart}
 use Rattle.names.proofs.Sums.{weight-of, weights-append, weightIn, truths-sum}
 use Rattle.canonical.specs.House.{literal, literalBy, literalAt, literalsOf}
-
--- k signals of the network have these letters, which are distinct
-pub record LettersAre (Γ : Network) (k : ℕ) (bs : List ℕ) : Type 0 where
-  pub count : Γ .signals ≡ k
-  pub sized : length bs ≡ k
-  pub few : k ≤ L.signals
-  pub are : (p : ℕ) → p < k → letter Γ p ≡ getD bs p 0
-  pub once : Distinct bs 0
+use Rattle.canonical.proofs.Keyed.{LettersAre, keys-known, keys-once}
 
 letter-by : (b : ℕ) (s t : Bool) (l : Literal) → literalBy b s t ≡ some l → l .letter ≡ b
 letter-by b true t l e = cc
@@ -40,46 +30,16 @@ letter-by b false true l e = cc
 letter-by b false false l e = none-not-some l e
 
 module _ (Γ : Network) (ℓ : Label) (k : ℕ) (bs : List ℕ) (w : LettersAre Γ k bs) where
-  abbrev ls : List Literal
-  ls = literalsOf Γ ℓ
+  -- what is asked of a signal has its letter
+  asked-letter : (p : ℕ) (l : Literal) → literalAt Γ ℓ p ≡ some l → l .letter ≡ letter Γ p
+  asked-letter p l e = letter-by (letter Γ p) (truth (ℓ .positive) p) (truth (ℓ .negative) p) l e
 
-  abbrev noLiteral : Literal
-  noLiteral = literal 0 true
+  -- each letter is a signal's, and stands once
+  pub letters-known : Each (λ b. In b bs 0) (lettersOf (literalsOf Γ ℓ)) 0
+  letters-known = keys-known w (literalAt Γ ℓ) (literal 0 true) (λ l. l .letter) asked-letter
 
-  -- the literal at i is what the label asks of a signal, and has its letter
-  abbrev AskedAt : ℕ → Type 0
-  AskedAt i = Answer (literalAt Γ ℓ) 0 (Γ .signals) (getD ls i noLiteral)
-
-  number-lt : (i : ℕ) (a : AskedAt i) → a .number < length bs
-  number-lt i a = omega (arith, a .below, w .count, w .sized)
-
-  letter-at : (i : ℕ) (a : AskedAt i) → getD bs (a .number) 0 ≡ getD (lettersOf ls) i 0
-  letter-at i a =
-      let p = a .number in
-      sym (w .are p (omega (arith, number-lt i a, w .sized)))
-      ∙ sym (letter-by (letter Γ p) (truth (ℓ .positive) p) (truth (ℓ .negative) p) (getD ls i noLiteral) (a .is))
-      ∙ sym (List·getD-map (λ l. l .letter) ls i noLiteral)
-
-  -- each letter is a signal's
-  pub letters-known : Each (λ b. In b bs 0) (lettersOf ls) 0
-  letters-known = record {
-    each = λ i h.
-        let few = length-map ls (λ l. l .letter) in
-        let a = gather-answer (literalAt Γ ℓ) noLiteral 0 (Γ .signals) i (omega arith) in
-        record { place = a .number; place-lt = number-lt i a; is = letter-at i a };
-  }
-
-  -- and stands once
-  pub letters-once : Distinct (lettersOf ls) 0
-  letters-once =
-      distinct-of-later 0 (lettersOf ls) (λ i j h l e.
-      let few = length-map ls (λ l. l .letter) in
-      let o = gather-ordered (literalAt Γ ℓ) noLiteral 0 (Γ .signals) i j h (omega arith) in
-      let a = o .first in
-      let b = o .second in
-      let same =
-      w .once .once (a .number) (b .number) (number-lt i a) (number-lt j b) (letter-at i a ∙ e ∙ sym (letter-at j b)) in
-      omega (arith, o .order))
+  pub letters-once : Distinct (lettersOf (literalsOf Γ ℓ)) 0
+  letters-once = keys-once w (literalAt Γ ℓ) (literal 0 true) (λ l. l .letter) asked-letter
 
 -- the sum that a truth has in a label
 abbrev sumOf : Bool → Label → ℕ

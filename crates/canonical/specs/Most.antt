@@ -25,5 +25,12 @@ mostRule = 3 + 9 + 9 + 7 + (1 + mostLabel) + 1
 abbrev pub mostRules : ℕ
 mostRules = mostCount 5 + mostRule * L.rules
 
+-- a letter, a comma, a number of minutes and the line feed
+abbrev pub mostReaction : ℕ
+mostReaction = 8
+
+abbrev pub mostReactions : ℕ
+mostReactions = mostCount 9 + mostReaction * L.signals
+
 abbrev pub mostForm : ℕ
-mostForm = mostCount 7 + mostEvents + mostSignals + mostRules
+mostForm = mostCount 7 + mostEvents + mostSignals + mostRules + mostReactions

@@ -12,14 +12,18 @@ ghost use Rattle.page.specs.Appended.{Appended};
 ghost use Rattle.page.specs.Filled.{FilledIs};
 ghost use Rattle.network.specs.Build.{nameOf};
 ghost use Rattle.network.specs.WellFormed.{InLimits, Proper, WellFormed, Named};
-ghost use Rattle.layout.specs.Layout.{line, section, signalLine, ruleLine, signedText, literalsText, labelText};
+ghost use Rattle.layout.specs.Layout.{line, lines, section, signalLine, ruleLine, signedText, literalsText, labelText};
+ghost use Rattle.layout.specs.Layout.{reactionLine, reactionsText};
 ghost use Rattle.tighten.specs.Tightest.{remainingOf};
 ghost use Rattle.tighten.specs.Fronts.{UppersAre};
 ghost use Rattle.canonical.specs.House.{literalBy, literalsOf, namesOf, signalsOf, asRule, houseText};
+ghost use Rattle.canonical.specs.House.{slowBy, slowOf, sectionOf};
 ghost use Rattle.canonical.specs.Most.{mostCount, mostEvents, mostSignals, mostLabel, mostRule, mostRules};
+ghost use Rattle.canonical.specs.Most.{mostReaction, mostReactions};
 use network::Constraint;
 use network::Label;
 use network::Network;
+use network::times;
 use page::Filled;
 use tighten::UpperBounds;
 
@@ -168,8 +172,55 @@ fn push_rules(
     next
 }
 
+// How many signals react otherwise than after a minute.
+fn slow_count(network: Network) -> usize
+    requires { ⌜ WellFormed network ⌝ }
+    ensures { λ r. ⌜ r ≡ length (slowOf network) ⌝ }
+{
+    let mut count: usize = 0;
+    for p in 0..network.signals {
+        if times::reaction_of(network.reactions[p]) != Network::FASTEST {
+            count += 1;
+        }
+    }
+    count
+}
+
+// A signal's reaction, if it is other than 1.
+fn push_reaction(page: &mut [u8], at: usize, letter: u8, reaction: u16) -> usize
+    requires { ⌜ at + mostReaction ≤ length (now page) ⌝ }
+    ensures { λ r. ⌜ Appended mostReaction (now (page .entry)) at
+        (lines (map reactionLine (ahead (slowBy letter reaction) []))) (now (page .exit)) r ⌝ }
+{
+    if reaction == Network::FASTEST {
+        return at;
+    }
+    let mut next = page::push(page, at, letter);
+    next = page::push(page, next, b',');
+    next = page::push_number(page, next, reaction);
+    page::push(page, next, b'\n')
+}
+
+// The reactions other than 1, where there are any.
+fn push_reactions(page: &mut [u8], at: usize, network: Network) -> usize
+    requires { ⌜ WellFormed network × (at + mostReactions ≤ length (now page)) ⌝ }
+    ensures { λ r. ⌜ Appended mostReactions (now (page .entry)) at
+        (reactionsText (sectionOf (slowOf network))) (now (page .exit)) r ⌝ }
+{
+    let count = slow_count(network);
+    if count == 0 {
+        return at;
+    }
+    let mut next = push_count(page, at, b"reactions", count as u16);
+    for p in 0..network.signals {
+        let reaction = times::reaction_of(network.reactions[p]);
+        next = push_reaction(page, next, network.letters[p], reaction);
+    }
+    next
+}
+
 // No form is longer.
-const LONGEST: usize = 2673;
+const LONGEST: usize = 2721;
 
 // The form into out, where the upper bounds that remain fit a sheet: how many bytes were written, or that out is too
 // short for them.
@@ -182,6 +233,7 @@ pub fn write(sheet: &[u8], network: Network, remaining: UpperBounds, out: &mut [
     let events = push_count(&mut page, 0, b"horizon", network.horizon);
     let signals = push_events(&mut page, events, sheet, network);
     let rules = push_signals(&mut page, signals, sheet, network);
-    let end = push_rules(&mut page, rules, sheet, network, remaining);
+    let reactions = push_rules(&mut page, rules, sheet, network, remaining);
+    let end = push_reactions(&mut page, reactions, network);
     page::hand_out(&page[..end], out)
 }

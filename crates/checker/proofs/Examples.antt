@@ -6,7 +6,7 @@ use lib.IntN.{ℤ, pos, negsuc}
 use Rattle.network.specs.Build.{empty, withEvent, withSignal, withRule}
 use Rattle.network.specs.Scenario.{satisfies}
 use Rattle.network.specs.Constraint.{covers}
-use Rattle.network.specs.Strategy.{reaction}
+use Rattle.network.specs.Strategy.{reactionOf}
 use Rattle.network.specs.declared.Kind.{Kind}
 use Rattle.network.specs.declared.Kind.the-variants.{Max, Min, Fix}
 use Rattle.network.specs.declared.Label.{Label}
@@ -109,5 +109,5 @@ expected [] = []
 expected (e ∷ es) = e .judged ∷ expected es
 
 pub examples-agree : given examples ≡ expected examples
-unfolding verdict satisfies covers reaction
+unfolding verdict satisfies covers reactionOf
 examples-agree = refl

@@ -1,6 +1,6 @@
 -- The code's tests are the verdict's: the origin's limit and that of any other event for point 1, and for point 3 the
 -- time from which on two scenarios are told apart. Assumes nothing.
-use mathlib.Core.Path.{_≡_, sym, _∙_, ap, ap₂}
+use mathlib.Core.Path.{_≡_, refl, sym, _∙_, ap}
 use mathlib.Core.Logic.{inl, inr}
 use mathlib.Core.Bool.{true, false, _||_, not, and-true as and-true-right, and-false as and-false-right}
 use mathlib.Core.List.{List}
@@ -12,11 +12,9 @@ use lib.ListN.{getD}
 use Rattle.prelude.specs.Bounded.{allBelow}
 use Rattle.prelude.proofs.Tests.{either, implies}
 use Rattle.prelude.proofs.Minima.{before-minWhere}
-use Rattle.network.specs.Limits as L
 use Rattle.network.specs.Scenario.{agree}
-use Rattle.network.specs.Strategy.{time, knownAfter, knownFrom, known, leastKnown}
+use Rattle.network.specs.Strategy.{time, knownAfter, reactionOf, knownFrom, known, leastKnown}
 use Rattle.network.specs.declared.Network.{Network}
-use Rattle.network.proofs.Strategy.{known-after-is}
 use Rattle.checker.specs.Verdict.{isIndistinct, isAlike}
 use Rattle.checker.specs.Plain.{onTime, never}
 
@@ -32,10 +30,10 @@ pub onTime-other : (h u t : ℕ) → (u ≡ 0 → ⊥) → leb t h ≡ onTime h 
 onTime-other h u t n = rw (ne-eqb u 0 n) (sym (and-true-right (leb t h)))
 
 -- the time from which on p is known, by the parts of a network that the code hands on
-pub known-part : (Γ : Network) (σ : List ℕ) (s p : ℕ) {n : ℕ} {os : List ℕ} → n ≡ Γ .events → os ≡ Γ .observations
-    → knownAfter n σ s (getD os p 0) L.reaction ≡ knownFrom Γ σ s p
-known-part Γ σ s p d e =
-    known-after-is Γ σ s p (ap₂ (λ (m : ℕ) (xs : List ℕ). knownAfter m σ s (getD xs p 0) L.reaction) d e)
+pub known-part : (Γ : Network) (σ : List ℕ) (s p : ℕ) {n : ℕ} {os xs : List ℕ} → n ≡ Γ .events
+    → os ≡ Γ .observations → xs ≡ Γ .reactions
+    → knownAfter n σ s (getD os p 0) (reactionOf (getD xs p 0)) ≡ knownFrom Γ σ s p
+known-part Γ σ s p d e f = rw (d, e, f) refl
 
 -- what the code compares: the time from which on s is told apart from r, and that of u in s
 pub record Compared (Γ : Network) (σ : List ℕ) (s r u told mine : ℕ) : Type 0 where

@@ -30,11 +30,13 @@ module _ (Γ : Network) (σ : List ℕ) (pre : WellFormed Γ × (length σ ≡ c
         negative = scenario-lt (constraint Γ c .label .negative) (proper .negative);
       }
 
-  pub observed : (s : ℕ) → s < scenarios Γ → Observed (Γ .events) σ s (Γ .observations) (Γ .signals)
+  pub observed : (s : ℕ) → s < scenarios Γ → Observed (Γ .events) σ s (Γ .observations) (Γ .reactions)
+      (Γ .signals)
   observed s l =
       record {
         scenario = scenario-lt s l;
         few = pre .0 .signals;
         array = pre .0 .arrays .observations;
+        reactions = pre .0 .arrays .reactions;
         inside = λ p h. cell-in Γ σ (pre .1) s (observation Γ p) l (pre .0 .observed p h);
       }

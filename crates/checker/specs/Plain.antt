@@ -24,9 +24,11 @@ module _ (n : ℕ) (σ : List ℕ) (s : ℕ) where
     pub positive : c .label .positive < 16
     pub negative : c .label .negative < 16
 
-  -- what point 3 asks of s: one of 16 scenarios, and a cell of the table for each of the k observation events os
-  pub record Observed (os : List ℕ) (k : ℕ) : Type 0 where
+  -- what point 3 asks of s: one of 16 scenarios, and a cell of the table for each of the k observation events os; and
+  -- of the reactions xs, that they are four
+  pub record Observed (os xs : List ℕ) (k : ℕ) : Type 0 where
     pub scenario : s < 16
     pub few : k ≤ 4
     pub array : length os ≡ 4
+    pub reactions : length xs ≡ 4
     pub inside : (p : ℕ) → p < k → s * n + getD os p 0 < length σ

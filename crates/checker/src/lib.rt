@@ -154,21 +154,24 @@ const NEVER: u32 = 65536;
 fn apart(
     table: &[u16],
     observations: &[usize; Network::SIGNALS],
+    reactions: &[u16; Network::SIGNALS],
     events: usize,
     signals: usize,
     s: usize,
     r: usize,
 ) -> u32
-    requires { ⌜ P.Observed events (now table) s (now observations) signals × (r < L.cases) ⌝ }
+    requires { ⌜ P.Observed events (now table) s (now observations) (now reactions) signals
+        × (r < L.cases) ⌝ }
     ensures { λ t. ⌜ ((Γ : Network) → events ≡ Γ .events → now (observations .entry) ≡ Γ .observations
-        → t ≡ leastKnown Γ (now (table .entry)) s r P.never signals) ⌝ }
+        → now (reactions .entry) ≡ Γ .reactions → t ≡ leastKnown Γ (now (table .entry)) s r P.never signals) ⌝ }
 {
     let mut first = NEVER;
     let mut p = 0;
     while p < signals {
         if !agree(s, r, p) {
             let observation = observations[p];
-            let known = times::known_after(table, events, s, observation, Network::REACTION);
+            let given = reactions[p];
+            let known = times::known_after(table, events, s, observation, given);
             first = sooner(first, known);
         }
         p += 1;
@@ -184,13 +187,22 @@ fn first_unheard(network: Network, table: &[u16]) -> Verdict
 {
     let events = network.events;
     let observations = network.observations;
+    let reactions = network.reactions;
     let scenarios = network::scenario_count(network.signals);
     let mut found = Verdict::Pass;
     let mut s = 0;
     'unheard: while s < scenarios {
         let mut r = 0;
         while r < scenarios {
-            let told = apart(table, &observations, events, network.signals, s, r);
+            let told = apart(
+                table,
+                &observations,
+                &reactions,
+                events,
+                network.signals,
+                s,
+                r,
+            );
             let mut u = 0;
             while u < events {
                 let time = times::time_of(table, events, s, u);

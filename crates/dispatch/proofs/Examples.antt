@@ -9,7 +9,7 @@ use lib.Dec.{eqb}
 use Rattle.prelude.specs.Bounded.{tabulate}
 use Rattle.prelude.specs.Bytes.{every}
 use Rattle.network.specs.Build.{empty, withEvent, withSignal}
-use Rattle.network.specs.Strategy.{reaction}
+use Rattle.network.specs.Strategy.{reactionOf}
 use Rattle.network.specs.declared.Network.{Network}
 use Rattle.dispatch.specs.Due.{due}
 use Rattle.dispatch.specs.Said.{withHeard, saidFrom, dueOn}
@@ -113,5 +113,5 @@ masks =
     (47 ∷ 17 ∷ 26 ∷ 31 ∷ 58 ∷ 62 ∷ 63 ∷ 64 ∷ []))
 
 pub played : all questions && (ends && masks) ≡ true
-unfolding reaction due withHeard dueOn
+unfolding reactionOf due withHeard dueOn
 played = refl

@@ -60,14 +60,15 @@ module _ (sheet : List ℕ) {X : Type 0} (Held : Network → List X → Type 0) 
     pub written : drop at sheet ≡ texts text items ++ drop end sheet
     pub held : Held Γ (xs ++ items)
 
-  -- the reading comes to a network that holds xs, and to a place where the rest stands
-  pub record Reads (p : Progress) (xs : List X) (rest : List ℕ) : Type 0 where
-    pub network : Network
-    pub at : ℕ
-    pub number : ℕ
-    pub goes : p ≡ Go network at number
-    pub held : Held network xs
-    pub behind : drop at sheet ≡ rest
+-- the reading comes to a network that holds x, and to a place where the rest stands
+pub record Reads (sheet : List ℕ) {X : Type 0} (Held : Network → X → Type 0) (p : Progress) (x : X) (rest : List ℕ)
+    : Type 0 where
+  pub network : Network
+  pub at : ℕ
+  pub number : ℕ
+  pub goes : p ≡ Go network at number
+  pub held : Held network x
+  pub behind : drop at sheet ≡ rest
 
 module _ {sheet : List ℕ} {s : Section} {X : Type 0} {first : X → List ℕ} {others : X → List (List ℕ)}
     {Held : Network → List X → Type 0} {Kept : List X → Type 0} {May : List X → X → Type 0}

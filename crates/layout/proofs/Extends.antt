@@ -2,6 +2,7 @@
 -- more, since its arrays have room. Assumes nothing.
 use mathlib.Core.Path.{_≡_, refl}
 use mathlib.Core.Logic.{_≢_}
+use mathlib.Core.Option.{Option, none}
 use mathlib.Core.List.{List, [], _∷_, _++_}
 use Prim.Native.Nat.{ℕ, _<_}
 use native.Mathlib.Omega.{arith}
@@ -9,16 +10,23 @@ use lib.ListN.{length, getD, take, drop, set, length-append}
 use lib.Seq.{getD-set-same, getD-set-other}
 use Rattle.prelude.proofs.Lists.{by-place}
 use Rattle.network.specs.Limits as L
-use Rattle.network.specs.Build.{empty, withEvent, withSignal, withRule, noConstraint}
+use Rattle.network.specs.Build.{empty, withEvent, withSignal, withRule, reactionGiven, noConstraint}
 use Rattle.network.specs.WellFormed.{Arrays}
 use Rattle.network.specs.declared.Network.{Network}
 use Rattle.network.specs.declared.Constraint.{Constraint}
-use Rattle.layout.specs.Layout.{Signal, Rule, Contents, noSignal, noRule}
+use Rattle.layout.specs.Layout.{Signal, Rule, Reaction, Contents, noSignal, noRule}
 use Rattle.layout.specs.Contains.{Bears, Means, Contains}
 
--- contents by their parts
+-- contents by their parts, and with reactions behind them
+abbrev pub contentsWith : ℕ → List (List ℕ) → List Signal → List Rule → Option (List Reaction) → Contents
+contentsWith h ns xs rs o = record { horizon = h; names = ns; signals = xs; rules = rs; reactions = o }
+
 abbrev pub contents : ℕ → List (List ℕ) → List Signal → List Rule → Contents
-contents h ns xs rs = record { horizon = h; names = ns; signals = xs; rules = rs }
+contents h ns xs rs = contentsWith h ns xs rs none
+
+-- nothing was said of reactions
+abbrev pub Quiet : Network → Type 0
+Quiet Γ = (p : ℕ) → reactionGiven Γ p ≡ 0
 
 -- what holds of the first n entries of an array, and of one entry more
 filled : {A B : Type 0} (Q : A → B → Type 0) (l : List A) (d a : A) (xs : List B) (x e : B) (n : ℕ) → n ≡ length xs
@@ -39,6 +47,8 @@ empty-contains sheet h = record {
   observed = λ p l. absurd (omega arith);
   rules = refl;
   means = λ i l. absurd (omega arith);
+  reacts = λ p i l. absurd (omega arith);
+  unsaid = λ p l. absurd (omega arith);
 }
 
 module _ {sheet : List ℕ} {Γ : Network} {h : ℕ} {ns : List (List ℕ)} (a : Arrays Γ) where
@@ -67,13 +77,15 @@ module _ {sheet : List ℕ} {Γ : Network} {h : ℕ} {ns : List (List ℕ)} (a :
         observed = λ p l. absurd (omega arith);
         rules = c .rules;
         means = λ i l. absurd (omega arith);
+        reacts = λ p i l. absurd (omega arith);
+        unsaid = λ p l. absurd (omega arith);
       }
 
-  -- one signal more
+  -- one signal more, where nothing was said of reactions
   pub signal-contains : {xs : List Signal} → Contains sheet Γ (contents h ns xs []) → (x : Signal) (u : ℕ)
-      → length xs < L.signals → Bears ns u (x .event)
+      → length xs < L.signals → Bears ns u (x .event) → Quiet Γ
       → Contains sheet (withSignal Γ (x .letter) u) (contents h ns (xs ++ x ∷ []) [])
-  signal-contains {xs} c x u few bears =
+  signal-contains {xs} c x u few bears quiet =
       let k = Γ .signals in
       record {
         horizon = c .horizon;
@@ -88,6 +100,8 @@ module _ {sheet : List ℕ} {Γ : Network} {h : ℕ} {ns : List (List ℕ)} (a :
             (omega (arith, c .signals, a .observations)) bears (c .observed);
         rules = c .rules;
         means = λ i l. absurd (omega arith);
+        reacts = λ p i l m. absurd (omega arith);
+        unsaid = λ p l n. quiet p;
       }
 
   -- one rule more
@@ -105,4 +119,6 @@ module _ {sheet : List ℕ} {Γ : Network} {h : ℕ} {ns : List (List ℕ)} (a :
     means =
         filled (Means ns xs) (Γ .constraints) noConstraint k rs x noRule (Γ .rules) (c .rules)
         (omega (arith, c .rules, a .constraints)) means (c .means);
+    reacts = λ p i l m. absurd (omega arith);
+    unsaid = c .unsaid;
   }

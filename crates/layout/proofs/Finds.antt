@@ -60,23 +60,29 @@ module _ {sheet : List ℕ} {Γ : Network} {c : Contents} (s : Contains sheet Γ
     abbrev hasLetter : ℕ → Bool
     hasLetter p = eqb (letter Γ p) b
 
+    pub letter-place : (p : ℕ) → placeOf (Γ .signals) (Γ .letters) b ≡ some p → (p < length xs) × (letter Γ p ≡ b)
+    letter-place p e =
+        let w = found hasLetter (Γ .signals) p e in
+        (omega (arith, w .0, s .signals), eqb-true (letter Γ p) b (w .1))
+
     pub letter-in : answers (placeOf (Γ .signals) (Γ .letters) b) ≡ true → In b (signalLetters xs) 0
     letter-in e =
         let w = answered (placeOf (Γ .signals) (Γ .letters) b) e in
-        let p = found hasLetter (Γ .signals) (w .0) (w .1) in
-        let h : w .0 < length xs = omega (arith, p .0, s .signals) in
+        let p = letter-place (w .0) (w .1) in
         record {
           place = w .0;
-          place-lt = omega (arith, length-map xs (λ x. x .letter));
-          is = sym (letter-is (w .0) h) ∙ eqb-true (letter Γ (w .0)) b (p .1);
+          place-lt = omega (arith, p .0, length-map xs (λ x. x .letter));
+          is = sym (letter-is (w .0) (p .0)) ∙ p .1;
         }
 
-    pub letter-answers : In b (signalLetters xs) 0 → answers (placeOf (Γ .signals) (Γ .letters) b) ≡ true
-    letter-answers w =
+    pub letter-found : In b (signalLetters xs) 0 → (p : ℕ) × (placeOf (Γ .signals) (Γ .letters) b ≡ some p)
+    letter-found w =
         let h : w .place < length xs = omega (arith, w .place-lt, length-map xs (λ x. x .letter)) in
-        let e = letter-is (w .place) h ∙ w .is in
-        ap answers (finds hasLetter (Γ .signals) (w .place) (omega (arith, s .signals))
-        (eq-eqb (letter Γ (w .place)) b e) .1)
+        finds hasLetter (Γ .signals) (w .place) (omega (arith, s .signals))
+        (eq-eqb (letter Γ (w .place)) b (letter-is (w .place) h ∙ w .is))
+
+    pub letter-answers : In b (signalLetters xs) 0 → answers (placeOf (Γ .signals) (Γ .letters) b) ≡ true
+    letter-answers w = ap answers (letter-found w .1)
 
   -- whether an event gives a signal
   module _ (u : ℕ) where

@@ -1,4 +1,4 @@
--- Names, signals and rules that keep the layout's rules, so far as the lines behind them rely on it, and what may
+-- Names, signals, rules and reactions that keep the layout's rules, so far as the lines behind them rely on it, and what may
 -- follow them: none keep them, and with one that may follow they still do. Assumes nothing.
 use mathlib.Core.Path.{_≡_, sym, _∙_, ap}
 use mathlib.Core.Bool.{true}
@@ -10,8 +10,8 @@ use Rattle.prelude.specs.Bytes.{every}
 use Rattle.prelude.specs.Lists.{In, Distinct, Each}
 use Rattle.prelude.proofs.Lists.{each-at, each-snoc, each-mono, every-of-each, distinct-new, distinct-snoc}
 use Rattle.names.specs.Names.{isLetter, isName}
-use Rattle.layout.specs.Layout.{Signal, Rule, KeepsSignal, KeepsRule, noSignal, noRule}
-use Rattle.layout.specs.Layout.{signalLetters, signalEvents}
+use Rattle.layout.specs.Layout.{Signal, Rule, Reaction, KeepsSignal, KeepsRule, KeepsReaction}
+use Rattle.layout.specs.Layout.{noSignal, noRule, noReaction, signalLetters, signalEvents, reactionLetters}
 
 pub record KeptNames (ns : List (List ℕ)) : Type 0 where
   pub each : Each (λ n. isName n ≡ true) ns []
@@ -34,6 +34,14 @@ pub record NewSignal (names : List (List ℕ)) (xs : List Signal) (x : Signal) :
 abbrev pub KeptRules : List (List ℕ) → List Signal → List Rule → Type 0
 KeptRules names xs rs = Each (KeepsRule names (signalLetters xs)) rs noRule
 
+pub record KeptReactions (xs : List Signal) (ys : List Reaction) : Type 0 where
+  pub each : Each (KeepsReaction (signalLetters xs)) ys noReaction
+  pub once : Distinct (reactionLetters ys) 0
+
+pub record NewReaction (xs : List Signal) (ys : List Reaction) (y : Reaction) : Type 0 where
+  pub keeps : KeepsReaction (signalLetters xs) y
+  pub new : In (y .letter) (reactionLetters ys) 0 → ⊥
+
 -- none
 module _ {A : Type 0} (d : A) where
   no-each : (P : A → Type 0) → Each P [] d
@@ -55,6 +63,9 @@ no-signals names = record {
 pub no-rules : (names : List (List ℕ)) (xs : List Signal) → KeptRules names xs []
 no-rules names xs = no-each noRule (KeepsRule names (signalLetters xs))
 
+pub no-reactions : (xs : List Signal) → KeptReactions xs []
+no-reactions xs = record { each = no-each noReaction (KeepsReaction (signalLetters xs)); once = no-twice 0 }
+
 -- one more
 pub name-kept : (ns : List (List ℕ)) (n : List ℕ) → KeptNames ns → NewName ns n → KeptNames (ns ++ n ∷ [])
 name-kept ns n k m = record {
@@ -74,6 +85,13 @@ pub rule-kept : (names : List (List ℕ)) (xs : List Signal) (rs : List Rule) (x
     → KeepsRule names (signalLetters xs) x → KeptRules names xs (rs ++ x ∷ [])
 rule-kept names xs rs x k m = each-snoc noRule rs x (KeepsRule names (signalLetters xs)) k m
 
+pub reaction-kept : (xs : List Signal) (ys : List Reaction) (y : Reaction) → KeptReactions xs ys → NewReaction xs ys y
+    → KeptReactions xs (ys ++ y ∷ [])
+reaction-kept xs ys y k m = record {
+  each = each-snoc noReaction ys y (KeepsReaction (signalLetters xs)) (k .each) (m .keeps);
+  once = rw map-append (distinct-snoc 0 (reactionLetters ys) (y .letter) (k .once) (m .new));
+}
+
 -- each may follow those before it
 pub may-name : (ns ms : List (List ℕ)) (n : List ℕ) → KeptNames (ns ++ n ∷ ms) → NewName ns n
 may-name ns ms n k = record {
@@ -89,13 +107,21 @@ may-signal names xs ys x k = record {
   new-event = distinct-new [] (signalEvents xs) (x .event) (signalEvents ys) (rw map-append at (k .events-once));
 }
 
+pub may-reaction : (xs : List Signal) (ys zs : List Reaction) (y : Reaction) → KeptReactions xs (ys ++ y ∷ zs)
+    → NewReaction xs ys y
+may-reaction xs ys zs y k = record {
+  keeps = each-at noReaction ys y (KeepsReaction (signalLetters xs)) zs (k .each);
+  new = distinct-new 0 (reactionLetters ys) (y .letter) (reactionLetters zs) (rw map-append at (k .once));
+}
+
 -- signals' letters are letters
+pub letter-is : {names : List (List ℕ)} {xs : List Signal} → KeptSignals names xs → (b : ℕ)
+    → In b (signalLetters xs) 0 → isLetter b ≡ true
+letter-is {xs = xs} k b w =
+    let h : w .place < length xs = omega (arith, w .place-lt, length-map xs (λ x. x .letter)) in
+    let at-place = sym (w .is) ∙ List·getD-map (λ x. x .letter) xs (w .place) noSignal in
+    ap isLetter at-place ∙ k .each .each (w .place) h .letter
+
 pub letters-are : {names : List (List ℕ)} {xs : List Signal} → KeptSignals names xs → (bs : List ℕ)
     → Each (λ b. In b (signalLetters xs) 0) bs 0 → every isLetter bs ≡ true
-letters-are {xs = xs} k bs e = every-of-each isLetter bs (each-mono is e)
-  where
-    is : (b : ℕ) → In b (signalLetters xs) 0 → isLetter b ≡ true
-    is b w =
-        let h : w .place < length xs = omega (arith, w .place-lt, length-map xs (λ x. x .letter)) in
-        let at-place = sym (w .is) ∙ List·getD-map (λ x. x .letter) xs (w .place) noSignal in
-        ap isLetter at-place ∙ k .each .each (w .place) h .letter
+letters-are k bs e = every-of-each isLetter bs (each-mono (letter-is k) e)

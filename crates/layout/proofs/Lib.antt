@@ -6,6 +6,7 @@ pub mod Labels
 pub mod Search
 pub mod Finds
 pub mod Extends
+pub mod Reacts
 pub mod Kept
 pub mod Stands
 pub mod Entries
@@ -14,6 +15,7 @@ pub mod Signals
 pub mod KindWords
 pub mod RuleLine
 pub mod Rules
+pub mod Reactions
 pub mod Section
 pub mod Text
 pub mod Written

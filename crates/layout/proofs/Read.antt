@@ -1,6 +1,7 @@
 -- A sheet that is the text of contents which keep the layout's rules is read to its end, and the network holds these
 -- contents. Assumes nothing.
 use mathlib.Core.Path.{_≡_, refl, _∙_, ap}
+use mathlib.Core.Option.{Option, none, some, Option·getD}
 use mathlib.Core.List.{List, [], _++_}
 use Prim.Native.Nat.{ℕ, _≤_, zero-le}
 use lib.ListN.{length, drop}
@@ -10,20 +11,21 @@ use Rattle.network.specs.Build.{empty}
 use Rattle.network.specs.declared.Network.{Network}
 use Rattle.line.specs.Tests.{sectionCount}
 use Rattle.line.specs.Sections.{horizonHeading}
-use Rattle.line.specs.declared.Section.the-variants.{Events, Signals, Rules}
-use Rattle.sheet.specs.Reading.{Progress, Go, andThen, readHorizon, readSection, readEnd}
+use Rattle.line.specs.declared.Section.the-variants.{Events, Signals, Rules, Reactions}
+use Rattle.sheet.specs.Reading.{Progress, Go, andThen, readHorizon, readSection, readOptional, readEnd}
 use Rattle.sheet.specs.Reading.{progress}
-use Rattle.sheet.proofs.Whole.{toEvents, toSignals, toRules, toEnd, in-length}
-use Rattle.layout.specs.Layout.{Signal, Rule, Contents, Keeps, Layout, textOf}
+use Rattle.sheet.proofs.Whole.{toEvents, toSignals, toRules, toReactions, toEnd, in-length}
+use Rattle.layout.specs.Layout.{Signal, Rule, Reaction, Contents, Keeps, Layout, reactionsText, textOf}
 use Rattle.layout.proofs.Numbers.{magnitude-decimal}
 use Rattle.layout.specs.Contains.{Contains}
-use Rattle.layout.proofs.Kept.{KeptNames, KeptSignals, KeptRules}
-use Rattle.layout.proofs.Extends.{contents}
-use Rattle.layout.proofs.Stands.{Stands, empty-stands}
+use Rattle.layout.proofs.Kept.{KeptNames, KeptSignals, KeptRules, KeptReactions}
+use Rattle.layout.proofs.Extends.{contents, contentsWith}
+use Rattle.layout.proofs.Stands.{Stands, empty-stands, reactions-begin}
 use Rattle.layout.proofs.Entries.{Reads}
 use Rattle.layout.proofs.Events.{events-understood}
 use Rattle.layout.proofs.Signals.{signals-understood}
 use Rattle.layout.proofs.Rules.{rules-understood}
+use Rattle.layout.proofs.Reactions.{reactions-understood}
 use Rattle.layout.proofs.Section.{count-line-reads, section-reads}
 use Rattle.layout.proofs.Text.{
   horizonText,
@@ -32,15 +34,16 @@ use Rattle.layout.proofs.Text.{
   rulesText,
   apart,
   end-reads,
+  optional-absent,
+  optional-stands,
   on,
 }
 
 -- a step behind another
-andThen-reads : (sheet : List ℕ) {X Y : Type 0} {Held : Network → List X → Type 0} {Held′ : Network → List Y → Type 0}
-    {xs : List X}
-    {ys : List Y} {rest rest′ : List ℕ} (p : Progress) (next : Network → ℕ → ℕ → Progress)
-    (r : Reads sheet Held p xs rest)
-    → Reads sheet Held′ (next (r .network) (r .at) (r .number)) ys rest′ → Reads sheet Held′ (andThen p next) ys rest′
+andThen-reads : (sheet : List ℕ) {X Y : Type 0} {Held : Network → X → Type 0} {Held′ : Network → Y → Type 0}
+    {x : X} {y : Y} {rest rest′ : List ℕ} (p : Progress) (next : Network → ℕ → ℕ → Progress)
+    (r : Reads sheet Held p x rest)
+    → Reads sheet Held′ (next (r .network) (r .at) (r .number)) y rest′ → Reads sheet Held′ (andThen p next) y rest′
 andThen-reads sheet p next r t = record {
   network = t .network;
   at = t .at;
@@ -78,10 +81,10 @@ module _ (sheet : List ℕ) (h : ℕ) (ns : List (List ℕ)) (xs : List Signal) 
 
   events-read : (rest : List ℕ) → KeptNames ns → 1 ≤ length ns → length ns ≤ L.events
       → AtEvents (readHorizon sheet) [] (eventsText ns ++ rest) → AtEvents (toEvents sheet) ns rest
-  events-read rest kept some few r =
+  events-read rest kept least few r =
       andThen-reads sheet (readHorizon sheet) (readSection sheet Events) r
       (section-reads (events-understood sheet h) (r .network) (r .at) (r .number) (r .held)
-      refl ns rest kept some few (r .behind))
+      refl ns rest kept least few (r .behind))
 
   signals-read : (rest : List ℕ) → KeptSignals ns xs → length xs ≤ L.signals
       → AtEvents (toEvents sheet) ns (signalsText xs ++ rest) → AtSignals (toSignals sheet) xs rest
@@ -97,30 +100,62 @@ module _ (sheet : List ℕ) (h : ℕ) (ns : List (List ℕ)) (xs : List Signal) 
       (section-reads (rules-understood sheet h ns xs) (r .network) (r .at) (r .number) (r .held)
       refl rs rest kept zero-le few (r .behind))
 
-  end-read : AtRules (toRules sheet) rs [] → AtRules (toEnd sheet) rs []
-  end-read r = record {
+  abbrev AtReactions : Progress → Option (List Reaction) → List ℕ → Type 0
+  AtReactions p o rest = Reads sheet (λ Γ o. Stands sheet Γ (contentsWith h ns xs rs o)) p o rest
+
+  -- the section is there where any byte stands, and absent where none does
+  reactions-read : (o : Option (List Reaction)) → KeptReactions xs (Option·getD o [])
+      → length (Option·getD o []) ≤ L.signals → length xs ≤ L.signals
+      → AtRules (toRules sheet) rs (reactionsText o ++ []) → AtReactions (toReactions sheet) o []
+  reactions-read none kept few signals r =
+      andThen-reads sheet (toRules sheet) (readOptional sheet Reactions) r (record {
+        network = r .network;
+        at = r .at;
+        number = r .number;
+        goes = optional-absent sheet Reactions (r .network) (r .at) (r .number) (r .behind);
+        held = r .held;
+        behind = r .behind;
+      })
+  reactions-read (some ys) kept few signals r =
+      let t = section-reads (reactions-understood sheet h ns xs rs signals) (r .network) (r .at) (r .number)
+      (reactions-begin (r .held)) refl ys [] kept zero-le few (r .behind) in
+      andThen-reads sheet (toRules sheet) (readOptional sheet Reactions) r (record {
+        network = t .network;
+        at = t .at;
+        number = t .number;
+        goes = optional-stands sheet Reactions (r .network) (r .at) (r .number) (r .behind) ∙ t .goes;
+        held = t .held;
+        behind = t .behind;
+      })
+
+  end-read : (o : Option (List Reaction)) → AtReactions (toReactions sheet) o [] → AtReactions (toEnd sheet) o []
+  end-read o r = record {
     network = r .network;
     at = r .at;
     number = r .number;
     goes =
-        on (toRules sheet) (readEnd sheet) (r .network) (r .at) (r .number)
+        on (toReactions sheet) (readEnd sheet) (r .network) (r .at) (r .number)
         (Go (r .network) (r .at) (r .number)) (r .goes)
         (end-reads sheet (r .network) (r .at) (r .number) (r .behind));
     held = r .held;
     behind = r .behind;
   }
 
-  sections-read : Keeps (contents h ns xs rs) → sheet ≡ textOf (contents h ns xs rs)
-      → AtRules (toEnd sheet) rs []
-  sections-read k t =
-      end-read
-      (rules-read [] (k .rules) (k .few-rules)
-      (signals-read (rulesText rs ++ [])
+  sections-read : (o : Option (List Reaction)) → Keeps (contentsWith h ns xs rs o)
+      → sheet ≡ textOf (contentsWith h ns xs rs o) → AtReactions (toEnd sheet) o []
+  sections-read o k t =
+      let behind-rules = reactionsText o ++ [] in
+      let behind-signals = rulesText rs ++ behind-rules in
+      let behind-events = signalsText xs ++ behind-signals in
+      end-read o
+      (reactions-read o (record { each = k .reactions; once = k .reactions-once }) (k .few-reactions) (k .few-signals)
+      (rules-read behind-rules (k .rules) (k .few-rules)
+      (signals-read behind-signals
       (record { each = k .signals; letters-once = k .letters-once; events-once = k .events-once }) (k .few-signals)
-      (events-read (signalsText xs ++ (rulesText rs ++ []))
+      (events-read behind-events
       (record { each = k .names; once = k .names-once }) (k .some-event) (k .events)
-      (horizon-reads (eventsText ns ++ (signalsText xs ++ (rulesText rs ++ []))) (k .horizon)
-      (apart sheet (horizonText h) (eventsText ns) (signalsText xs) (rulesText rs) t)))))
+      (horizon-reads (eventsText ns ++ behind-events) (k .horizon)
+      (apart sheet (horizonText h) (eventsText ns) (signalsText xs) (rulesText rs) (reactionsText o) t))))))
 
 -- the reading comes to its end with a network that holds the contents
 pub record IsRead (sheet : List ℕ) (c : Contents) : Type 0 where
@@ -133,7 +168,7 @@ pub record IsRead (sheet : List ℕ) (c : Contents) : Type 0 where
 pub layout-read : (sheet : List ℕ) (l : Layout sheet) → IsRead sheet (l .contents)
 layout-read sheet l =
     let c = l .contents in
-    let r = sections-read sheet (c .horizon) (c .names) (c .signals) (c .rules) (l .keeps) (l .written) in
+    let r = sections-read sheet (c .horizon) (c .names) (c .signals) (c .rules) (c .reactions) (l .keeps) (l .written) in
     record {
       network = r .network;
       at = r .at;

@@ -2,9 +2,9 @@
 use mathlib.Core.Path.{_≡_, _∙_, ap}
 use mathlib.Core.Logic.{inl, inr}
 use mathlib.Core.List.{List, [], _∷_, _++_, append-nil, append-assoc, map}
-use Prim.Native.Nat.{ℕ, _≤_}
+use Prim.Native.Nat.{ℕ, _≤_, _<_}
 use native.Mathlib.Omega.{arith}
-use borrow.Author.Tests.{ltb-false, le-ltb}
+use borrow.Author.Tests.{ltb-false, lt-ltb, le-ltb}
 use lib.Dec.{ltb}
 use lib.ListN.{length, drop, length-drop, drop-of-length-le}
 use Rattle.prelude.specs.Bytes.{ascii}
@@ -13,7 +13,8 @@ use Rattle.text.specs.Decimal.{decimal}
 use Rattle.refusal.specs.Refusal.{refusal}
 use Rattle.refusal.specs.declared.Cause.the-variants.{TrailingBytes}
 use Rattle.network.specs.declared.Network.{Network}
-use Rattle.sheet.specs.Reading.{Progress, Go, andThen, readEnd}
+use Rattle.line.specs.declared.Section.{Section}
+use Rattle.sheet.specs.Reading.{Progress, Go, andThen, readSection, readOptional, readEnd}
 use Rattle.sheet.proofs.ReadLine.{stop-not-go}
 use Rattle.layout.specs.Layout.{Signal, Rule, line, section, signalLine, ruleLine}
 use Rattle.layout.proofs.Entries.{joins}
@@ -31,18 +32,26 @@ abbrev pub rulesText : List Rule → List ℕ
 rulesText rs = section "rules" (map ruleLine rs)
 
 module _ (sheet : List ℕ) where
-  -- four texts in a row, and nothing behind
-  pub in-a-row : (h e s r : List ℕ) (a b c d : ℕ) → drop 0 sheet ≡ h ++ drop a sheet → drop a sheet ≡ e ++ drop b sheet
-      → drop b sheet ≡ s ++ drop c sheet → drop c sheet ≡ r ++ drop d sheet → drop d sheet ≡ [] → sheet ≡ h
-      ++ e ++ s ++ r
-  in-a-row h e s r a b c d p q t u v =
+  -- five texts in a row, and nothing behind
+  pub in-a-row : (h e s r y : List ℕ) (a b c d i : ℕ) → drop 0 sheet ≡ h ++ drop a sheet
+      → drop a sheet ≡ e ++ drop b sheet → drop b sheet ≡ s ++ drop c sheet → drop c sheet ≡ r ++ drop d sheet
+      → drop d sheet ≡ y ++ drop i sheet → drop i sheet ≡ [] → sheet ≡ h ++ e ++ s ++ r ++ y
+  in-a-row h e s r y a b c d i p q t u v w =
       let one = joins sheet h (drop a sheet) e (drop b sheet) p q in
       let two = joins sheet (h ++ e) (drop b sheet) s (drop c sheet) one t in
       let three = joins sheet (h ++ e ++ s) (drop c sheet) r (drop d sheet) two u in
-      three ∙ ap (λ (x : List ℕ). h ++ e ++ s ++ r ++ x) v ∙ append-nil (h ++ e ++ s ++ r)
+      let four = joins sheet (h ++ e ++ s ++ r) (drop d sheet) y (drop i sheet) three v in
+      four ∙ ap (λ (x : List ℕ). h ++ e ++ s ++ r ++ y ++ x) w ∙ append-nil (h ++ e ++ s ++ r ++ y)
 
-  pub apart : (h e s r : List ℕ) → sheet ≡ h ++ e ++ s ++ r → drop 0 sheet ≡ h ++ (e ++ (s ++ (r ++ [])))
-  apart h e s r p = p ∙ rw (append-nil r, append-assoc (h ++ e) s r, append-assoc h e (s ++ r))
+  pub apart : (h e s r y : List ℕ) → sheet ≡ h ++ e ++ s ++ r ++ y
+      → drop 0 sheet ≡ h ++ (e ++ (s ++ (r ++ (y ++ []))))
+  apart h e s r y p =
+      p ∙ rw (
+        append-nil y,
+        append-assoc (h ++ e ++ s) r y,
+        append-assoc (h ++ e) s (r ++ y),
+        append-assoc h e (s ++ (r ++ y)),
+      )
 
   -- the reading ends where nothing is left
   module _ (Γ : Network) (at k : ℕ) where
@@ -57,6 +66,19 @@ module _ (sheet : List ℕ) where
     end-reads e =
         let h : length sheet ≤ at = omega (arith, ap length e, length-drop at sheet) in
         rw (le-ltb at (length sheet) h)
+
+-- a section that may be absent is, where nothing is left, and where something stands it is read
+module _ (sheet : List ℕ) (s : Section) (Γ : Network) (at k : ℕ) where
+  pub optional-absent : drop at sheet ≡ [] → readOptional sheet s Γ at k ≡ Go Γ at k
+  optional-absent e =
+      let h : length sheet ≤ at = omega (arith, ap length e, length-drop at sheet) in
+      rw (le-ltb at (length sheet) h)
+
+  pub optional-stands : {b : ℕ} {rest : List ℕ} → drop at sheet ≡ b ∷ rest
+      → readOptional sheet s Γ at k ≡ readSection sheet s Γ at k
+  optional-stands e =
+      let h : at < length sheet = omega (arith, ap length e, length-drop at sheet) in
+      rw (lt-ltb at (length sheet) h)
 
 -- a step behind another
 pub on : (p : Progress) (next : Network → ℕ → ℕ → Progress) (Γ : Network) (at k : ℕ) (q : Progress) → p ≡ Go Γ at k

@@ -1,8 +1,11 @@
--- A sheet that is read to its end is the text of what was read: a horizon, names, signals and rules that keep the
--- layout's rules. Assumes nothing.
+-- A sheet that is read to its end is the text of what was read: a horizon, names, signals, rules and, where they stand,
+-- reactions that keep the layout's rules. Assumes nothing.
 use mathlib.Core.Path.{_≡_, _∙_, ap}
+use mathlib.Core.Bool.{Bool, true, false, cond}
+use mathlib.Core.Option.{Option, none, some, Option·getD}
 use mathlib.Core.List.{List, [], _++_}
 use Prim.Native.Nat.{ℕ, _≤_}
+use native.Mathlib.Omega.{arith}
 use lib.ListN.{length, drop}
 use Rattle.text.specs.Lines.{afterLine}
 use Rattle.network.specs.Limits as L
@@ -10,16 +13,18 @@ use Rattle.network.specs.Build.{empty}
 use Rattle.network.specs.declared.Network.{Network}
 use Rattle.line.specs.Tests.{sectionCount}
 use Rattle.line.specs.Sections.{headingOf, horizonHeading}
-use Rattle.line.specs.declared.Section.the-variants.{Events, Signals, Rules}
-use Rattle.sheet.specs.Reading.{longest, Go, readHorizon, readSection, readEnd, progress}
+use Rattle.line.specs.declared.Section.the-variants.{Events, Signals, Rules, Reactions}
+use Rattle.sheet.specs.Reading.{longest, Go, readHorizon, readSection, follows, readOptional, readEnd, progress}
 use Rattle.sheet.proofs.ReadLine.{Came, came}
-use Rattle.sheet.proofs.Whole.{toEvents, toSignals, toRules, toEnd, within-length}
-use Rattle.layout.specs.Layout.{Signal, Contents, Keeps, Layout, line, signalLine, ruleLine}
-use Rattle.layout.proofs.Extends.{contents}
-use Rattle.layout.proofs.Stands.{Stands, empty-stands}
+use Rattle.sheet.proofs.Whole.{toEvents, toSignals, toRules, toReactions, toEnd, within-length}
+use Rattle.layout.specs.Layout.{Signal, Rule, Reaction, Contents, Keeps, Layout, line, signalLine, ruleLine}
+use Rattle.layout.specs.Layout.{listedReactions, reactionsText}
+use Rattle.layout.proofs.Extends.{contents, contentsWith}
+use Rattle.layout.proofs.Stands.{Stands, empty-stands, reactions-begin}
 use Rattle.layout.proofs.Events.{events-understood}
 use Rattle.layout.proofs.Signals.{signals-understood}
 use Rattle.layout.proofs.Rules.{rules-understood}
+use Rattle.layout.proofs.Reactions.{reactions-understood}
 use Rattle.layout.proofs.Section.{count-line-read, SectionRead, section-read}
 use Rattle.layout.proofs.Text.{
   horizonText,
@@ -33,10 +38,10 @@ use Rattle.layout.proofs.Text.{
 -- contents that stand in a network keep the rules, where there are not too few or too many of anything
 keeps : {sheet : List ℕ} {Γ : Network} {c : Contents} → Stands sheet Γ c → c .horizon ≤ L.horizon
     → 1 ≤ length (c .names) → length (c .names) ≤ L.events → length (c .signals) ≤ L.signals
-    → length (c .rules) ≤ L.rules → Keeps c
-keeps held h some n k m = record {
+    → length (c .rules) ≤ L.rules → length (listedReactions c) ≤ L.signals → Keeps c
+keeps held h least n k m r = record {
   horizon = h;
-  some-event = some;
+  some-event = least;
   events = n;
   names = held .names .each;
   names-once = held .names .once;
@@ -46,6 +51,9 @@ keeps held h some n k m = record {
   events-once = held .signals .events-once;
   few-rules = m;
   rules = held .rules;
+  few-reactions = r;
+  reactions = held .reactions .each;
+  reactions-once = held .reactions .once;
 }
 
 module _ (sheet : List ℕ) where
@@ -83,58 +91,94 @@ module _ (sheet : List ℕ) where
         held = rw same-network at (empty-stands sheet h);
       }
 
-  -- from one section to the next, and at last all four
-  module _ {Γ₁ Γ₂ Γ₃ Γ₄ : Network} {a b c d : ℕ} (short : length sheet ≤ longest) (end : drop d sheet ≡ []) where
-    from-rules : (h : HorizonRead Γ₁ a) (es : EventsRead (h .horizon) a Γ₂ b)
-        (ss : SignalsRead (h .horizon) (es .items) b Γ₃ c) → RulesRead (h .horizon) (es .items) (ss .items) c Γ₄ d
-        → Layout sheet
-    from-rules h es ss rs = record {
-      contents = contents (h .horizon) (es .items) (ss .items) (rs .items);
-      keeps = keeps (rs .held) (h .high) (es .low) (es .high) (ss .high) (rs .high);
+  -- the reactions that were read: their section, or nothing
+  record ReactionsRead (h : ℕ) (ns : List (List ℕ)) (xs : List Signal) (rs : List Rule) (at : ℕ) (Γ : Network) (end : ℕ)
+      : Type 0 where
+    items : Option (List Reaction)
+    few : length (Option·getD items []) ≤ L.signals
+    written : drop at sheet ≡ reactionsText items ++ drop end sheet
+    held : Stands sheet Γ (contentsWith h ns xs rs items)
+
+  reactions-read : {h : ℕ} {ns : List (List ℕ)} {xs : List Signal} {rs : List Rule} (Γ : Network) (at k : ℕ)
+      → length xs ≤ L.signals → Stands sheet Γ (contents h ns xs rs)
+      → (Δ : Network) (end m : ℕ) → readOptional sheet Reactions Γ at k ≡ Go Δ end m → ReactionsRead h ns xs rs at Δ end
+  reactions-read {h} {ns} {xs} {rs} Γ at k few held Δ end m e = by-bytes (follows sheet at) e
+    where
+      by-bytes : (more : Bool) → cond more (readSection sheet Reactions Γ at k) (Go Γ at k) ≡ Go Δ end m
+          → ReactionsRead h ns xs rs at Δ end
+      by-bytes true e =
+          let r = section-read (reactions-understood sheet h ns xs rs few) Γ at k (reactions-begin held) Δ end m e in
+          record { items = some (r .items); few = r .high; written = r .written; held = r .held }
+      by-bytes false e =
+          let same-network : Γ ≡ Δ = cc in
+          let same-place : at ≡ end = cc in
+          record {
+            items = none;
+            few = omega arith;
+            written = ap (λ (i : ℕ). drop i sheet) same-place;
+            held = rw same-network at held;
+          }
+
+  -- from one section to the next, and at last all five
+  module _ {Γ₁ Γ₂ Γ₃ Γ₄ Γ₅ : Network} {a b c d i : ℕ} (short : length sheet ≤ longest) (end : drop i sheet ≡ []) where
+    from-reactions : (h : HorizonRead Γ₁ a) (es : EventsRead (h .horizon) a Γ₂ b)
+        (ss : SignalsRead (h .horizon) (es .items) b Γ₃ c) (rs : RulesRead (h .horizon) (es .items) (ss .items) c Γ₄ d)
+        → ReactionsRead (h .horizon) (es .items) (ss .items) (rs .items) d Γ₅ i → Layout sheet
+    from-reactions h es ss rs ys = record {
+      contents = contentsWith (h .horizon) (es .items) (ss .items) (rs .items) (ys .items);
+      keeps = keeps (ys .held) (h .high) (es .low) (es .high) (ss .high) (rs .high) (ys .few);
       written =
           in-a-row sheet (horizonText (h .horizon)) (eventsText (es .items)) (signalsText (ss .items))
-          (rulesText (rs .items)) a b c d
-          (h .written) (es .written) (ss .written) (rs .written) end;
+          (rulesText (rs .items)) (reactionsText (ys .items)) a b c d i
+          (h .written) (es .written) (ss .written) (rs .written) (ys .written) end;
       short = short;
     }
 
+    from-rules : (h : HorizonRead Γ₁ a) (es : EventsRead (h .horizon) a Γ₂ b)
+        (ss : SignalsRead (h .horizon) (es .items) b Γ₃ c) → RulesRead (h .horizon) (es .items) (ss .items) c Γ₄ d
+        → (m n : ℕ) → readOptional sheet Reactions Γ₄ d m ≡ Go Γ₅ i n → Layout sheet
+    from-rules h es ss rs m n u = from-reactions h es ss rs (reactions-read Γ₄ d m (ss .high) (rs .held) Γ₅ i n u)
+
     from-signals : (h : HorizonRead Γ₁ a) (es : EventsRead (h .horizon) a Γ₂ b)
         → SignalsRead (h .horizon) (es .items) b Γ₃ c
-        → (l m : ℕ) → readSection sheet Rules Γ₃ c l ≡ Go Γ₄ d m → Layout sheet
-    from-signals h es ss l m t =
+        → (l m n : ℕ) → readSection sheet Rules Γ₃ c l ≡ Go Γ₄ d m → readOptional sheet Reactions Γ₄ d m ≡ Go Γ₅ i n
+        → Layout sheet
+    from-signals h es ss l m n t u =
         from-rules h es ss
-        (section-read (rules-understood sheet (h .horizon) (es .items) (ss .items)) Γ₃ c l (ss .held) Γ₄ d m t)
+        (section-read (rules-understood sheet (h .horizon) (es .items) (ss .items)) Γ₃ c l (ss .held) Γ₄ d m t) m n u
 
-    from-events : (h : HorizonRead Γ₁ a) → EventsRead (h .horizon) a Γ₂ b → (k l m : ℕ)
-        → readSection sheet Signals Γ₂ b k ≡ Go Γ₃ c l
-        → readSection sheet Rules Γ₃ c l ≡ Go Γ₄ d m → Layout sheet
-    from-events h es k l m r t =
+    from-events : (h : HorizonRead Γ₁ a) → EventsRead (h .horizon) a Γ₂ b → (k l m n : ℕ)
+        → readSection sheet Signals Γ₂ b k ≡ Go Γ₃ c l → readSection sheet Rules Γ₃ c l ≡ Go Γ₄ d m
+        → readOptional sheet Reactions Γ₄ d m ≡ Go Γ₅ i n → Layout sheet
+    from-events h es k l m n r t u =
         from-signals h es
-        (section-read (signals-understood sheet (h .horizon) (es .items)) Γ₂ b k (es .held) Γ₃ c l r) l m t
+        (section-read (signals-understood sheet (h .horizon) (es .items)) Γ₂ b k (es .held) Γ₃ c l r) l m n t u
 
-    from-horizon : HorizonRead Γ₁ a → (j k l m : ℕ) → readSection sheet Events Γ₁ a j ≡ Go Γ₂ b k
-        → readSection sheet Signals Γ₂ b k ≡ Go Γ₃ c l
-        → readSection sheet Rules Γ₃ c l ≡ Go Γ₄ d m → Layout sheet
-    from-horizon h j k l m q r t =
-        from-events h (section-read (events-understood sheet (h .horizon)) Γ₁ a j (h .held) Γ₂ b k q) k l m r t
+    from-horizon : HorizonRead Γ₁ a → (j k l m n : ℕ) → readSection sheet Events Γ₁ a j ≡ Go Γ₂ b k
+        → readSection sheet Signals Γ₂ b k ≡ Go Γ₃ c l → readSection sheet Rules Γ₃ c l ≡ Go Γ₄ d m
+        → readOptional sheet Reactions Γ₄ d m ≡ Go Γ₅ i n → Layout sheet
+    from-horizon h j k l m n q r t u =
+        from-events h (section-read (events-understood sheet (h .horizon)) Γ₁ a j (h .held) Γ₂ b k q) k l m n r t u
 
   -- the steps, the last one first
   module _ (short : length sheet ≤ longest) (Γ : Network) (at k : ℕ) where
-    by-steps : (d : Came (toRules sheet) (readEnd sheet) (Go Γ at k))
+    by-steps : (i : Came (toReactions sheet) (readEnd sheet) (Go Γ at k))
+        (d : Came (toRules sheet) (readOptional sheet Reactions) (Go (i .network) (i .at) (i .line)))
         (c : Came (toSignals sheet) (readSection sheet Rules) (Go (d .network) (d .at) (d .line)))
         (b : Came (toEvents sheet) (readSection sheet Signals) (Go (c .network) (c .at) (c .line)))
         → Came (readHorizon sheet) (readSection sheet Events) (Go (b .network) (b .at) (b .line)) → Layout sheet
-    by-steps d c b a =
-        from-horizon short (end-read sheet (d .network) (d .at) (d .line) Γ at k (d .then))
+    by-steps i d c b a =
+        from-horizon short (end-read sheet (i .network) (i .at) (i .line) Γ at k (i .then))
         (horizon-read (a .network) (a .at) (a .line) (a .first))
-        (a .line) (b .line) (c .line) (d .line) (a .then) (b .then) (c .then)
+        (a .line) (b .line) (c .line) (d .line) (i .line) (a .then) (b .then) (c .then) (d .then)
 
     sections-written : toEnd sheet ≡ Go Γ at k → Layout sheet
     sections-written e =
-        let d = came (toRules sheet) (readEnd sheet) Γ at k e in
+        let i = came (toReactions sheet) (readEnd sheet) Γ at k e in
+        let d = came (toRules sheet) (readOptional sheet Reactions) (i .network) (i .at) (i .line) (i .first) in
         let c = came (toSignals sheet) (readSection sheet Rules) (d .network) (d .at) (d .line) (d .first) in
         let b = came (toEvents sheet) (readSection sheet Signals) (c .network) (c .at) (c .line) (c .first) in
-        by-steps d c b (came (readHorizon sheet) (readSection sheet Events) (b .network) (b .at) (b .line) (b .first))
+        by-steps i d c b (came (readHorizon sheet) (readSection sheet Events) (b .network) (b .at) (b .line) (b .first))
 
   pub layout-of : (Γ : Network) (at k : ℕ) → progress sheet ≡ Go Γ at k → Layout sheet
   layout-of Γ at k g = let w = within-length sheet Γ at k g in sections-written (w .0) Γ at k (w .1)

@@ -1,14 +1,16 @@
 -- What it means that a network holds the contents of a sheet: its horizon, each event by its name, each signal by its
--- letter and event, each rule by its kind, ends, limit and label (01, The sheet).
+-- letter, event and reaction, each rule by its kind, ends, limit and label (01, The sheet; 02, point 3).
 use mathlib.Core.Path.{_≡_}
 use mathlib.Core.List.{List, []}
 use Prim.Native.Nat.{ℕ, _<_}
 use lib.ListN.{length, getD}
-use Rattle.network.specs.Build.{nameOf, letter, observation, constraint}
+use Rattle.network.specs.Build.{nameOf, letter, observation, reactionGiven, constraint}
 use Rattle.network.specs.declared.Constraint.{Constraint}
 use Rattle.network.specs.declared.Network.{Network}
 use Rattle.names.specs.Defined.{maskOf}
-use Rattle.layout.specs.Layout.{Signal, Rule, Contents, noSignal, noRule, signalLetters}
+use Rattle.prelude.specs.Lists.{In}
+use Rattle.layout.specs.Layout.{Signal, Rule, Contents, noSignal, noRule, noReaction, signalLetters}
+use Rattle.layout.specs.Layout.{reactionLetters, listedReactions}
 
 -- event u is the one of that name
 pub record Bears (names : List (List ℕ)) (u : ℕ) (f : List ℕ) : Type 0 where
@@ -35,3 +37,9 @@ pub record Contains (sheet : List ℕ) (Γ : Network) (c : Contents) : Type 0 wh
   pub rules : Γ .rules ≡ length (c .rules)
   pub means : (i : ℕ) → i < length (c .rules)
       → Means (c .names) (c .signals) (constraint Γ i) (getD (c .rules) i noRule)
+  -- a signal whose letter has a line reacts as that says, and of the others nothing is said
+  pub reacts : (p i : ℕ) → p < length (c .signals) → i < length (listedReactions c)
+      → letter Γ p ≡ getD (listedReactions c) i noReaction .letter
+      → reactionGiven Γ p ≡ getD (listedReactions c) i noReaction .minutes
+  pub unsaid : (p : ℕ) → p < length (c .signals)
+      → (In (letter Γ p) (reactionLetters (listedReactions c)) 0 → ⊥) → reactionGiven Γ p ≡ 0

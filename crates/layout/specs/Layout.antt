@@ -1,6 +1,8 @@
--- The layout of a sheet, said by what a sheet contains and how that is written: nothing here reads (01, The sheet).
+-- The layout of a sheet, said by what a sheet contains and how that is written: nothing here reads (01, The sheet; 02,
+-- point 3).
 use mathlib.Core.Path.{_≡_}
 use mathlib.Core.Bool.{Bool, true, false}
+use mathlib.Core.Option.{Option, none, some, Option·getD}
 use mathlib.Core.List.{List, [], _∷_, _++_, map}
 use Prim.Native.Nat.{ℕ, suc, _≤_}
 use Prim.Native.Char.{code}
@@ -30,11 +32,21 @@ pub record Rule : Type 0 where
   pub limit : ℤ
   pub label : List Literal
 
+pub record Reaction : Type 0 where
+  pub letter : ℕ
+  pub minutes : ℕ
+
+-- the section of reactions "may follow the rules"
 pub record Contents : Type 0 where
   pub horizon : ℕ
   pub names : List (List ℕ)
   pub signals : List Signal
   pub rules : List Rule
+  pub reactions : Option (List Reaction)
+
+-- the reactions that are listed: none where the section is absent
+abbrev pub listedReactions : Contents → List Reaction
+listedReactions c = Option·getD (c .reactions) []
 
 -- the letters and the events of signals
 abbrev pub signalLetters : List Signal → List ℕ
@@ -42,6 +54,9 @@ signalLetters xs = map (λ x. x .letter) xs
 
 abbrev pub signalEvents : List Signal → List (List ℕ)
 signalEvents xs = map (λ x. x .event) xs
+
+abbrev pub reactionLetters : List Reaction → List ℕ
+reactionLetters ys = map (λ y. y .letter) ys
 
 -- the rules of the layout
 pub record KeepsSignal (names : List (List ℕ)) (x : Signal) : Type 0 where
@@ -55,11 +70,20 @@ pub record KeepsRule (names : List (List ℕ)) (letters : List ℕ) (x : Rule) :
   pub known : Each (λ b. In b letters 0) (lettersOf (x .label)) 0
   pub once : Distinct (lettersOf (x .label)) 0
 
+-- "minutes from 1 to 60"
+pub record KeepsReaction (letters : List ℕ) (y : Reaction) : Type 0 where
+  pub signal : In (y .letter) letters 0
+  pub least : L.fastest ≤ y .minutes
+  pub most : y .minutes ≤ L.slowest
+
 abbrev pub noSignal : Signal
 noSignal = record { letter = 0; event = [] }
 
 abbrev pub noRule : Rule
 noRule = record { kind = Max; from = []; to = []; limit = pos 0; label = [] }
+
+abbrev pub noReaction : Reaction
+noReaction = record { letter = 0; minutes = 0 }
 
 pub record Keeps (c : Contents) : Type 0 where
   pub horizon : c .horizon ≤ L.horizon
@@ -73,6 +97,10 @@ pub record Keeps (c : Contents) : Type 0 where
   pub events-once : Distinct (signalEvents (c .signals)) []
   pub few-rules : length (c .rules) ≤ L.rules
   pub rules : Each (KeepsRule (c .names) (signalLetters (c .signals))) (c .rules) noRule
+  -- "r from 0 to 4"
+  pub few-reactions : length (listedReactions c) ≤ L.signals
+  pub reactions : Each (KeepsReaction (signalLetters (c .signals))) (listedReactions c) noReaction
+  pub reactions-once : Distinct (reactionLetters (listedReactions c)) 0
 
 -- how it is written
 abbrev pub signedText : ℤ → List ℕ
@@ -120,12 +148,21 @@ ruleFields x = x .from ∷ x .to ∷ signedText (x .limit) ∷ labelText (x .lab
 abbrev pub ruleLine : Rule → List ℕ
 ruleLine x = line (kindText (x .kind)) (ruleFields x)
 
+abbrev pub reactionLine : Reaction → List ℕ
+reactionLine y = line (y .letter ∷ []) (decimal (y .minutes) ∷ [])
+
+-- the section of reactions, or nothing where it is absent
+abbrev pub reactionsText : Option (List Reaction) → List ℕ
+reactionsText none = []
+reactionsText (some ys) = section "reactions" (map reactionLine ys)
+
 abbrev pub textOf : Contents → List ℕ
 textOf c =
     line (ascii "horizon") (decimal (c .horizon) ∷ [])
     ++ section "events" (map (λ n. line n []) (c .names))
     ++ section "signals" (map signalLine (c .signals))
     ++ section "rules" (map ruleLine (c .rules))
+    ++ reactionsText (c .reactions)
 
 -- the sheet is the text of contents that keep the rules, and nothing else
 pub record Layout (sheet : List ℕ) : Type 0 where

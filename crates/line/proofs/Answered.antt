@@ -10,11 +10,13 @@ use Rattle.text.specs.Lines.{lineFeed, upTo, fields, field, lineAt}
 use Rattle.text.proofs.Lines.{take-drop}
 use Rattle.refusal.specs.declared.Cause.{Cause}
 use Rattle.network.specs.declared.Network.{Network}
-use Rattle.line.specs.Tests.{lineTests, isObservation, eventOf, eventTests, signalTests, endsTests, ruleTests}
+use Rattle.line.specs.Tests.{lineTests, isObservation, hasReaction, eventOf, signalOf, eventTests, signalTests}
+use Rattle.line.specs.Tests.{endsTests, ruleTests, letterTests, reactionTests}
 use Rattle.line.specs.Sections.{testsOf, entryOf}
-use Rattle.line.specs.Answers.{partsOf, entryAnswer, entryBy, entryAt}
+use Rattle.line.specs.Answers.{partsOf, sectionAnswer, entryAnswer, entryBy, entryAt}
+use Rattle.line.specs.declared.HeadingLine.the-variants as S
 use Rattle.line.specs.declared.Section.{Section}
-use Rattle.line.specs.declared.Section.the-variants.{Events, Signals, Rules}
+use Rattle.line.specs.declared.Section.the-variants.{Events, Signals, Rules, Reactions}
 use Rattle.line.specs.declared.entry.Entry.{Entry}
 use Rattle.line.specs.declared.entry.EntryLine.{EntryLine}
 use Rattle.line.specs.declared.entry.EntryLine.the-variants as R
@@ -31,6 +33,16 @@ pub entry-answer : (o : Option Cause) (x : Entry) (n : ℕ) (y : Entry) (m : ℕ
 entry-answer none x n y m e = (refl, cc, cc)
 entry-answer (some d) x n y m e = zero-is-one cc
 
+pub section-answer-refused : (o : Option Cause) (m n : ℕ) (c : Cause) → sectionAnswer o m n ≡ S.Refused c
+    → o ≡ some c
+section-answer-refused none m n c e = zero-is-one cc
+section-answer-refused (some d) m n c e = cc
+
+pub section-answer : (o : Option Cause) (m n a b : ℕ) → sectionAnswer o m n ≡ S.Count a b
+    → (o ≡ none) × (m ≡ a) × (n ≡ b)
+section-answer none m n a b e = (refl, cc, cc)
+section-answer (some d) m n a b e = zero-is-one cc
+
 -- the part of the sheet that begins at a place
 abbrev pub partAt : List ℕ → ℕ → List ℕ
 partAt sheet at = take (length sheet - at) (drop at sheet)
@@ -38,34 +50,61 @@ partAt sheet at = take (length sheet - at) (drop at sheet)
 -- the parts of a network that the lines are read against say what it says
 module _ (sheet : List ℕ) (Γ : Network) (fs : List (List ℕ)) where
   abbrev parts : Network
-  parts = partsOf (Γ .events) (Γ .starts) (Γ .lengths) (Γ .signals) (Γ .letters) (Γ .observations)
+  parts =
+      partsOf (Γ .events) (Γ .starts) (Γ .lengths) (Γ .signals) (Γ .letters) (Γ .observations) (Γ .reactions)
 
   observation-parts : (o : Option ℕ) → isObservation parts o ≡ isObservation Γ o
   observation-parts none = refl
   observation-parts (some u) = refl
 
+  reaction-parts : (o : Option ℕ) → hasReaction parts o ≡ hasReaction Γ o
+  reaction-parts none = refl
+  reaction-parts (some p) = refl
+
   tests-parts : (s : Section) → testsOf sheet s parts fs ≡ testsOf sheet s Γ fs
-  unfolding eventTests signalTests endsTests ruleTests
+  unfolding eventTests signalTests endsTests ruleTests letterTests reactionTests
   tests-parts Events = refl
   tests-parts Signals = rw (observation-parts (eventOf sheet Γ (field 1 fs)))
   tests-parts Rules = refl
+  tests-parts Reactions = rw (reaction-parts (signalOf Γ (field 0 fs)))
 
   entry-parts : (s : Section) → entryOf sheet s parts fs ≡ entryOf sheet s Γ fs
   entry-parts Events = refl
   entry-parts Signals = refl
   entry-parts Rules = refl
+  entry-parts Reactions = refl
 
--- an event's line asks for no letters, and a rule's for no observations
+-- each line asks only for what it is handed: an event's for no letters, a rule's for no observations
 module _ (sheet : List ℕ) (Γ : Network) (line : List ℕ) where
-  pub event-parts : entryBy line Events sheet (partsOf (Γ .events) (Γ .starts) (Γ .lengths) 0 [] [])
+  pub event-parts : entryBy line Events sheet (partsOf (Γ .events) (Γ .starts) (Γ .lengths) 0 [] [] [])
       ≡ entryBy line Events sheet Γ
   unfolding eventTests
   event-parts = refl
 
-  pub rule-parts : entryBy line Rules sheet (partsOf (Γ .events) (Γ .starts) (Γ .lengths) (Γ .signals) (Γ .letters) [])
-      ≡ entryBy line Rules sheet Γ
+  pub rule-parts : entryBy line Rules sheet (partsOf (Γ .events) (Γ .starts) (Γ .lengths) (Γ .signals) (Γ .letters) []
+      []) ≡ entryBy line Rules sheet Γ
   unfolding endsTests ruleTests
   rule-parts = refl
+
+  signal-asks : (o : Option ℕ) → isObservation (partsOf (Γ .events) (Γ .starts) (Γ .lengths) (Γ .signals) (Γ .letters)
+      (Γ .observations) []) o ≡ isObservation Γ o
+  signal-asks none = refl
+  signal-asks (some u) = refl
+
+  pub signal-parts : entryBy line Signals sheet (partsOf (Γ .events) (Γ .starts) (Γ .lengths) (Γ .signals) (Γ .letters)
+      (Γ .observations) []) ≡ entryBy line Signals sheet Γ
+  unfolding signalTests
+  signal-parts = rw (signal-asks (eventOf sheet Γ (field 1 (fields line))))
+
+  reaction-asks : (o : Option ℕ) → hasReaction (partsOf 0 [] [] (Γ .signals) (Γ .letters) [] (Γ .reactions)) o
+      ≡ hasReaction Γ o
+  reaction-asks none = refl
+  reaction-asks (some p) = refl
+
+  pub reaction-parts-are : entryBy line Reactions sheet (partsOf 0 [] [] (Γ .signals) (Γ .letters) [] (Γ .reactions))
+      ≡ entryBy line Reactions sheet Γ
+  unfolding letterTests reactionTests
+  reaction-parts-are = rw (reaction-asks (signalOf Γ (field 0 (fields line))))
 
 -- a line that ends at e is read by its fields
 pub entry-ends : (sheet : List ℕ) (Γ : Network) (rest : List ℕ) (e : ℕ) → e ≡ length (upTo lineFeed rest)

@@ -1,11 +1,11 @@
 -- Laws of tests in checking order. Assumes nothing.
 use mathlib.Core.Path.{_≡_, refl, _∙_, ap}
 use mathlib.Core.Bool.{Bool, true, false}
-use mathlib.Core.Option.{none}
-use mathlib.Core.List.{List, [], _∷_}
+use mathlib.Core.Option.{none, some}
+use mathlib.Core.List.{List, [], _∷_, _++_}
 use Prim.Native.Nat.{ℕ, zero, suc}
 use Rattle.prelude.specs.Checks.{firstFailing}
-use Rattle.prelude.proofs.Search.{some-not-none}
+use Rattle.prelude.proofs.Search.{some-not-none, none-not-some}
 
 module _ {A : Type 0} where
   -- test i, where there are as many
@@ -20,6 +20,17 @@ module _ {A : Type 0} where
   all-hold ((true, c) ∷ ts) e zero = refl
   all-hold ((true, c) ∷ ts) e (suc i) = all-hold ts e i
   all-hold ((false, c) ∷ ts) e i = some-not-none c e
+
+  -- tests behind others: the first to fail is among those, or, where they hold, among these
+  pub fails-before : (ts us : List (Bool × A)) (c : A) → firstFailing ts ≡ some c → firstFailing (ts ++ us) ≡ some c
+  fails-before [] us c e = none-not-some c e
+  fails-before ((true, a) ∷ ts) us c e = fails-before ts us c e
+  fails-before ((false, a) ∷ ts) us c e = e
+
+  pub fails-behind : (ts us : List (Bool × A)) → firstFailing ts ≡ none → firstFailing (ts ++ us) ≡ firstFailing us
+  fails-behind [] us e = refl
+  fails-behind ((true, a) ∷ ts) us e = fails-behind ts us e
+  fails-behind ((false, a) ∷ ts) us e = some-not-none a e
 
   -- three tests by their values
   pub three-same : (a b c d e f : Bool) (x y z : A) → a ≡ d → b ≡ e → c ≡ f

@@ -14,7 +14,8 @@ use Rattle.text.specs.Number.{isNumber, inRange}
 use Rattle.refusal.specs.Refusal.{numberOf}
 use Rattle.refusal.specs.declared.Cause.{Cause}
 use Rattle.network.specs.declared.Network.{Network}
-use Rattle.line.specs.Tests.{sectionTests, eventTests, signalTests, endsTests, ruleTests}
+use Rattle.line.specs.Tests.{sectionTests, eventTests, signalTests, endsTests, ruleTests, letterTests}
+use Rattle.line.specs.Tests.{reactionTests}
 use Rattle.line.specs.Sections.{headingOf, headingTests}
 use Rattle.line.specs.Answers.{partsOf}
 use Rattle.line.specs.declared.Section.the-variants.{Events}
@@ -24,7 +25,7 @@ abbrev names : List ℕ
 names = ascii "startdoor"
 
 abbrev before : Network
-before = partsOf 2 (0 ∷ 5 ∷ []) (5 ∷ 4 ∷ []) 1 (ascii "p") (1 ∷ [])
+before = partsOf 2 (0 ∷ 5 ∷ []) (5 ∷ 4 ∷ []) 1 (ascii "p") (1 ∷ []) (0 ∷ [])
 
 -- the number of a line's refusal, or 0, and the refusal
 abbrev Example : Type 0
@@ -41,6 +42,15 @@ signal n l = (n, firstFailing (signalTests names before (fields (ascii l))))
 
 abbrev rule : ℕ → String → Example
 rule n l = (n, firstFailing (ruleTests names before (fields (ascii l))))
+
+abbrev reaction : ℕ → String → Example
+reaction n l = (n, firstFailing (reactionTests before (fields (ascii l))))
+
+-- where p has a line already
+abbrev again : ℕ → String → Example
+again n l =
+    let behind = partsOf 2 (0 ∷ 5 ∷ []) (5 ∷ 4 ∷ []) 1 (ascii "p") (1 ∷ []) (1 ∷ []) in
+    (n, firstFailing (reactionTests behind (fields (ascii l))))
 
 abbrev examples : List Example
 examples =
@@ -75,6 +85,19 @@ examples =
     ∷ rule 0 "min,door,start,-10080,!p"
     -- a rule from an event to itself
     ∷ rule 0 "max,start,start,0,-"
+    -- a reaction; two faults: the lowest number
+    ∷ reaction 3 "p"
+    ∷ reaction 4 "p,"
+    ∷ reaction 5 "p,0"
+    ∷ reaction 5 "P,61"
+    ∷ reaction 5 "p,-1"
+    ∷ reaction 6 "P,60"
+    ∷ reaction 6 "pq,60"
+    ∷ again 7 "p,2"
+    ∷ again 8 "q,2"
+    ∷ reaction 8 "q,2"
+    ∷ reaction 0 "p,1"
+    ∷ reaction 0 "p,60"
     ∷ []
 
 abbrev number : Option Cause → ℕ
@@ -86,5 +109,5 @@ allAre [] = true
 allAre (x ∷ xs) = eqb (number (x .1)) (x .0) && allAre xs
 
 pub examples-are : allAre examples ≡ true
-unfolding isNumber inRange sectionTests eventTests signalTests endsTests ruleTests
+unfolding isNumber inRange sectionTests eventTests signalTests endsTests ruleTests letterTests reactionTests
 examples-are = refl

@@ -1,8 +1,9 @@
--- Laws of a line's definitions, in reading order: tests; numbers; a line's refusal, and a rule's; what its reader
--- answers; and examples.
+-- Laws of a line's definitions, in reading order: tests; numbers; a line's refusal, a rule's and a reaction's; what its
+-- reader answers; and examples.
 pub mod Checks
 pub mod Numbers
 pub mod Refusals
 pub mod RuleRefusals
+pub mod ReactionRefusals
 pub mod Answered
 pub mod Examples

@@ -1,11 +1,11 @@
 -- What the readers of a line answer, by the parts of a network that they are handed.
 use mathlib.Core.Bool.{Bool, false, cond}
-use mathlib.Core.Option.{Option, none, some}
+use mathlib.Core.Option.{Option, none, some, Option·getD}
 use mathlib.Core.List.{List, []}
 use Prim.Native.Nat.{ℕ}
 use lib.IntN.{ℤ}
-use lib.Dec.{leb}
-use lib.ListN.{length}
+use lib.Dec.{leb, ltb}
+use lib.ListN.{length, getD}
 use Rattle.prelude.specs.Bytes.{ascii}
 use Rattle.prelude.specs.Checks.{firstFailing}
 use Rattle.text.specs.Lines.{lineFeed, upTo, fields}
@@ -17,7 +17,7 @@ use Rattle.network.specs.declared.Network.{Network}
 use Rattle.names.specs.Defined.{givesSignal}
 use Rattle.names.specs.declared.Found.{Found}
 use Rattle.names.specs.declared.Found.the-variants.{At, Nothing}
-use Rattle.line.specs.Tests.{Tests, lineTests, sectionTests, sectionCount, endsTests}
+use Rattle.line.specs.Tests.{Tests, lineTests, sectionTests, sectionCount, endsTests, letterTests, signalOf}
 use Rattle.line.specs.Sections.{Heading, testsOf, constraintOf, entryOf}
 use Rattle.line.specs.declared.Check.{Check}
 use Rattle.line.specs.declared.Check.the-variants as K
@@ -38,6 +38,11 @@ abbrev pub givesFound : ℕ → List ℕ → Found → Bool
 givesFound k observations Nothing = false
 givesFound k observations (At u) = givesSignal k observations u
 
+-- whether a line has already said how a signal that was looked for reacts
+abbrev pub givenFound : List ℕ → Found → Bool
+givenFound reactions Nothing = false
+givenFound reactions (At p) = ltb 0 (getD reactions p 0)
+
 -- the tests passed, or one of them did not
 abbrev pub checkOf : Option Cause → Check
 checkOf none = K.Passed
@@ -53,8 +58,8 @@ unfoldable pub limitOf : List ℕ → Limit
 limitOf f = cond (isNumber f) (cond (leb (magnitude f) L.horizon) (M.Minutes (valueOf f)) M.Beyond) M.IllFormed
 
 -- what a network is as far as the lines of the sheet are read against it
-abbrev pub partsOf : ℕ → List ℕ → List ℕ → ℕ → List ℕ → List ℕ → Network
-partsOf n starts lengths k letters observations = record {
+abbrev pub partsOf : ℕ → List ℕ → List ℕ → ℕ → List ℕ → List ℕ → List ℕ → Network
+partsOf n starts lengths k letters observations reactions = record {
   horizon = 0;
   events = n;
   starts = starts;
@@ -62,6 +67,7 @@ partsOf n starts lengths k letters observations = record {
   signals = k;
   letters = letters;
   observations = observations;
+  reactions = reactions;
   rules = 0;
   constraints = [];
 }
@@ -80,6 +86,11 @@ abbrev pub endsAnswer : List ℕ → Network → List ℕ → List ℕ → List 
 endsAnswer sheet Γ from to label kind bound n =
     entryAnswer (firstFailing (endsTests sheet Γ from to label))
     (E.Rule (constraintOf sheet Γ kind from to bound label)) n
+
+-- a reaction whose minutes have passed, by its letter
+abbrev pub letterAnswer : Network → List ℕ → ℕ → ℕ → EntryLine
+letterAnswer Γ f minutes n =
+    entryAnswer (firstFailing (letterTests Γ f)) (E.Reaction (Option·getD (signalOf Γ f) 0) minutes) n
 
 -- of a line without its line feed, by the tests that are made of it, given those of its fields
 module _ (line : List ℕ) (made : (List (List ℕ) → Tests) → Tests) where

@@ -1,5 +1,5 @@
 -- The sections behind the horizon, by the code's `Section`: the line that each begins with, the tests of its lines,
--- and what a line of it adds to the network (01, The sheet).
+-- and what a line of it adds to the network (01, The sheet; 02, point 3).
 use mathlib.Core.Option.{Option·getD}
 use mathlib.Core.List.{List}
 use Prim.Native.Nat.{ℕ}
@@ -10,16 +10,17 @@ use Rattle.prelude.specs.Bytes.{ascii}
 use Rattle.text.specs.Lines.{field}
 use Rattle.text.specs.Number.{valueOf}
 use Rattle.network.specs.Limits as L
-use Rattle.network.specs.Build.{withEvent, withSignal, withRule}
+use Rattle.network.specs.Build.{withEvent, withSignal, withRule, withReaction}
 use Rattle.network.specs.declared.Kind.{Kind}
 use Rattle.network.specs.declared.Kind.the-variants.{Max}
 use Rattle.network.specs.declared.Constraint.{Constraint}
 use Rattle.network.specs.declared.Network.{Network}
 use Rattle.names.specs.Names.{labelOf}
 use Rattle.names.specs.Defined.{maskOf}
-use Rattle.line.specs.Tests.{Tests, sectionTests, eventTests, signalTests, ruleTests, eventOf, kindOf}
+use Rattle.line.specs.Tests.{Tests, sectionTests, eventTests, signalTests, ruleTests, reactionTests}
+use Rattle.line.specs.Tests.{sectionCount, eventOf, kindOf, signalOf}
 use Rattle.line.specs.declared.Section.{Section}
-use Rattle.line.specs.declared.Section.the-variants.{Events, Signals, Rules}
+use Rattle.line.specs.declared.Section.the-variants.{Events, Signals, Rules, Reactions}
 use Rattle.line.specs.declared.entry.Entry.{Entry}
 use Rattle.line.specs.declared.entry.Entry.the-variants as E
 
@@ -33,6 +34,7 @@ abbrev pub headingOf : Section → Heading
 headingOf Events = record { word = "events"; least = 1; most = L.events }
 headingOf Signals = record { word = "signals"; least = 0; most = L.signals }
 headingOf Rules = record { word = "rules"; least = 0; most = L.rules }
+headingOf Reactions = record { word = "reactions"; least = 0; most = L.signals }
 
 -- the first line of the sheet is written like one
 abbrev pub horizonHeading : Heading
@@ -46,6 +48,7 @@ abbrev pub added : Entry → Network → ℕ → ℕ → Network
 added E.Event Γ at n = withEvent Γ at n
 added (E.Signal b u) Γ at n = withSignal Γ b u
 added (E.Rule c) Γ at n = withRule Γ c
+added (E.Reaction p m) Γ at n = withReaction Γ p m
 
 module _ (sheet : List ℕ) where
   -- a rule by its parts, and by its fields
@@ -68,12 +71,14 @@ module _ (sheet : List ℕ) where
   testsOf Events = eventTests sheet
   testsOf Signals = signalTests sheet
   testsOf Rules = ruleTests sheet
+  testsOf Reactions = reactionTests
 
   -- what a line with these fields holds
   abbrev pub entryOf : Section → Network → List (List ℕ) → Entry
   entryOf Events Γ fs = E.Event
   entryOf Signals Γ fs = E.Signal (getD (field 0 fs) 0 0) (Option·getD (eventOf sheet Γ (field 1 fs)) 0)
   entryOf Rules Γ fs = E.Rule (ruleOf Γ fs)
+  entryOf Reactions Γ fs = E.Reaction (Option·getD (signalOf Γ (field 0 fs)) 0) (sectionCount fs)
 
   -- the network with a line of these fields, which begins at the given place
   abbrev pub withLine : Section → Network → ℕ → List (List ℕ) → Network

@@ -2,9 +2,9 @@
 -- Refused sheets). Each line's stand here once: the refusal of a line is the first of them to fail.
 use mathlib.Core.Bool.{Bool, true, false, _&&_, _||_, not}
 use mathlib.Core.Option.{Option, none, some}
-use mathlib.Core.List.{List, [], _∷_}
+use mathlib.Core.List.{List, [], _∷_, _++_}
 use Prim.Native.Nat.{ℕ}
-use lib.Dec.{eqb, leb}
+use lib.Dec.{eqb, leb, ltb}
 use lib.ListN.{length, getD}
 use Rattle.prelude.specs.Search.{when, answers}
 use Rattle.prelude.specs.Bytes.{ascii, isIn, same, distinct}
@@ -13,6 +13,7 @@ use Rattle.text.specs.Number.{isNumber, inRange, magnitude}
 use Rattle.refusal.specs.declared.Cause.{Cause}
 use Rattle.refusal.specs.declared.Cause.the-variants as C
 use Rattle.network.specs.Limits as L
+use Rattle.network.specs.Build.{reactionGiven}
 use Rattle.network.specs.declared.Kind.{Kind}
 use Rattle.network.specs.declared.Kind.the-variants.{Max, Min, Fix}
 use Rattle.network.specs.declared.Network.{Network}
@@ -54,6 +55,15 @@ abbrev pub isObservation : Network → Option ℕ → Bool
 isObservation Γ none = false
 isObservation Γ (some u) = givesSignal (Γ .signals) (Γ .observations) u
 
+-- a line has already said after how many minutes the signal is trusted, where it is defined
+abbrev pub hasReaction : Network → Option ℕ → Bool
+hasReaction Γ none = false
+hasReaction Γ (some p) = ltb 0 (reactionGiven Γ p)
+
+-- the signal whose letter the field is, if it is defined
+abbrev pub signalOf : Network → List ℕ → Option ℕ
+signalOf Γ f = placeOf (Γ .signals) (Γ .letters) (getD f 0 0)
+
 module _ (sheet : List ℕ) (Γ : Network) where
   -- the event of that name, if it is defined
   abbrev pub eventOf : List ℕ → Option ℕ
@@ -73,8 +83,7 @@ module _ (sheet : List ℕ) (Γ : Network) where
       (eqb (length fs) 2, C.WrongFields)
       ∷ (isOneLetter (field 0 fs) && isName (field 1 fs), C.IllFormedName)
       ∷ (
-        not (answers (placeOf (Γ .signals) (Γ .letters) (getD (field 0 fs) 0 0))
-            || isObservation Γ (eventOf (field 1 fs))),
+        not (answers (signalOf Γ (field 0 fs)) || isObservation Γ (eventOf (field 1 fs))),
         C.Duplicate,
       )
       ∷ (answers (eventOf (field 1 fs)), C.Undefined)
@@ -99,3 +108,18 @@ module _ (sheet : List ℕ) (Γ : Network) where
       ∷ (isNumber (field 3 fs), C.IllFormedNumber)
       ∷ (leb (magnitude (field 3 fs)) L.horizon, C.OutOfRange)
       ∷ endsTests (field 1 fs) (field 2 fs) (field 4 fs)
+
+module _ (Γ : Network) where
+  -- the letter of a reaction
+  unfoldable pub letterTests : List ℕ → Tests
+  letterTests f =
+      (isOneLetter f, C.IllFormedName)
+      ∷ (not (hasReaction Γ (signalOf Γ f)), C.Duplicate)
+      ∷ (answers (signalOf Γ f), C.Undefined)
+      ∷ []
+
+  -- `letter,minutes`, "minutes from 1 to 60; a letter's second line is refused with 7" (02, point 3)
+  unfoldable pub reactionTests : List (List ℕ) → Tests
+  reactionTests fs =
+      (eqb (length fs) 2, C.WrongFields)
+      ∷ (countTests L.fastest L.slowest (field 1 fs) ++ letterTests (field 0 fs))

@@ -1,12 +1,13 @@
 // A line of each section behind its heading: by its fields, and at the start of what remains of the sheet.
 ghost use mathlib.Core.Path.{_≡_};
-ghost use mathlib.Core.List.{[]};
-ghost use Prim.Native.Nat.{_≤_};
+ghost use mathlib.Core.List.{List, []};
+ghost use Prim.Native.Nat.{ℕ, _≤_};
 ghost use Rattle.network.specs.Limits as L;
 ghost use Rattle.names.specs.Found.{NamesIn};
-ghost use Rattle.line.specs.Answers.{partsOf, endsAnswer, entryBy, entryAt};
-ghost use Rattle.line.specs.declared.Section.the-variants.{Events, Signals, Rules};
+ghost use Rattle.line.specs.Answers.{partsOf, endsAnswer, letterAnswer, entryBy, entryAt};
+ghost use Rattle.line.specs.declared.Section.the-variants.{Events, Signals, Rules, Reactions};
 use super::Check;
+use super::HeadingLine;
 use super::KindField;
 use super::Limit;
 use super::Section;
@@ -25,6 +26,7 @@ pub enum Entry {
     Event,
     Signal { letter: u8, observation: usize },
     Rule(Constraint),
+    Reaction { signal: usize, minutes: u16 },
 }
 
 // A line behind a section's heading: why it is refused, or what it holds, and how long it is without its line feed.
@@ -43,7 +45,7 @@ fn event_fields<'a>(
 ) -> EntryLine
     requires { ⌜ NamesIn (now sheet) n (now starts) (now lengths) ⌝ }
     ensures { λ r. ⌜ r ≡ entryBy (now (line .entry)) Events (now (sheet .entry))
-        (partsOf n (now (starts .entry)) (now (lengths .entry)) 0 [] []) ⌝ }
+        (partsOf n (now (starts .entry)) (now (lengths .entry)) 0 [] [] []) ⌝ }
 {
     let cuts = text::cut(line);
     if cuts.count != 1 {
@@ -75,7 +77,7 @@ fn signal_fields<'a>(
 ) -> EntryLine
     requires { ⌜ NamesIn (now sheet) n (now starts) (now lengths) × (k ≤ L.signals) ⌝ }
     ensures { λ r. ⌜ r ≡ entryBy (now (line .entry)) Signals (now (sheet .entry))
-        (partsOf n (now (starts .entry)) (now (lengths .entry)) k (now (letters .entry)) (now (observations .entry)))
+        (partsOf n (now (starts .entry)) (now (lengths .entry)) k (now (letters .entry)) (now (observations .entry)) [])
         ⌝ }
 {
     let cuts = text::cut(line);
@@ -128,7 +130,7 @@ fn rule_ends<'a>(
 ) -> EntryLine
     requires { ⌜ NamesIn (now sheet) n (now starts) (now lengths) × (k ≤ L.signals) ⌝ }
     ensures { λ r. ⌜ r ≡ endsAnswer (now (sheet .entry)) (partsOf n (now (starts .entry)) (now (lengths .entry)) k
-        (now (letters .entry)) []) (now (from .entry)) (now (to .entry)) (now (label .entry)) kind bound length ⌝ }
+        (now (letters .entry)) [] []) (now (from .entry)) (now (to .entry)) (now (label .entry)) kind bound length ⌝ }
 {
     let t = token::literals_of(label);
     let a = lookup::event_named(sheet, n, starts, lengths, from);
@@ -173,7 +175,7 @@ fn rule_fields<'a>(
 ) -> EntryLine
     requires { ⌜ NamesIn (now sheet) n (now starts) (now lengths) × (k ≤ L.signals) ⌝ }
     ensures { λ r. ⌜ r ≡ entryBy (now (line .entry)) Rules (now (sheet .entry))
-        (partsOf n (now (starts .entry)) (now (lengths .entry)) k (now (letters .entry)) []) ⌝ }
+        (partsOf n (now (starts .entry)) (now (lengths .entry)) k (now (letters .entry)) [] []) ⌝ }
 {
     let cuts = text::cut(line);
     if cuts.count != 5 {
@@ -204,6 +206,79 @@ fn rule_fields<'a>(
     }
 }
 
+// The letter of a reaction, and the reaction.
+fn reaction_letter<'a>(
+    f: &[u8],
+    k: usize,
+    letters: &'a [u8; Network::SIGNALS],
+    reactions: &'a [u16; Network::SIGNALS],
+    minutes: u16,
+    length: usize,
+) -> EntryLine
+    requires { ⌜ k ≤ L.signals ⌝ }
+    ensures { λ r. ⌜ r ≡ letterAnswer (partsOf 0 [] [] k (now (letters .entry)) [] (now (reactions .entry)))
+        (now (f .entry)) minutes length ⌝ }
+{
+    let signal = lookup::place_of(k, letters, token::first(f));
+    let named = Test {
+        passes: token::is_one_letter(f),
+        cause: Cause::IllFormedName,
+    };
+    let fresh = Test {
+        passes: field::is_unsaid(reactions, signal),
+        cause: Cause::Duplicate,
+    };
+    let defined = Test {
+        passes: lookup::is_found(signal),
+        cause: Cause::Undefined,
+    };
+    let check = field::first_failing(named, fresh, defined);
+    match check {
+        Check::Refused(cause) => EntryLine::Refused(cause),
+        Check::Passed => EntryLine::Holds {
+            entry: Entry::Reaction {
+                signal: lookup::place_or(signal),
+                minutes,
+            },
+            length,
+        },
+    }
+}
+
+// `letter,minutes`.
+fn reaction_fields<'a>(
+    line: &[u8],
+    k: usize,
+    letters: &'a [u8; Network::SIGNALS],
+    reactions: &'a [u16; Network::SIGNALS],
+) -> EntryLine
+    requires { ⌜ k ≤ L.signals ⌝ }
+    ensures { λ r. ⌜ ((sheet : List ℕ) → r ≡ entryBy (now (line .entry)) Reactions sheet
+        (partsOf 0 [] [] k (now (letters .entry)) [] (now (reactions .entry)))) ⌝ }
+{
+    let cuts = text::cut(line);
+    if cuts.count != 2 {
+        return EntryLine::Refused(Cause::WrongFields);
+    }
+    let read = field::count_of(
+        text::field(line, cuts, 1),
+        Network::FASTEST as u32,
+        Network::SLOWEST as u32,
+        line.len(),
+    );
+    match read {
+        HeadingLine::Refused(cause) => EntryLine::Refused(cause),
+        HeadingLine::Count { count, length } => reaction_letter(
+            text::field(line, cuts, 0),
+            k,
+            letters,
+            reactions,
+            count as u16,
+            length,
+        ),
+    }
+}
+
 // A line of a section.
 pub fn entry_at<'a>(
     section: Section,
@@ -215,11 +290,12 @@ pub fn entry_at<'a>(
     k: usize,
     letters: &'a [u8; Network::SIGNALS],
     observations: &'a [usize; Network::SIGNALS],
+    reactions: &'a [u16; Network::SIGNALS],
 ) -> EntryLine
     requires { ⌜ NamesIn (now sheet) n (now starts) (now lengths) × (k ≤ L.signals) ⌝ }
     ensures { λ r. ⌜ r ≡ entryAt (now (rest .entry)) section (now (sheet .entry))
-        (partsOf n (now (starts .entry)) (now (lengths .entry)) k (now (letters .entry)) (now (observations .entry)))
-        ⌝ }
+        (partsOf n (now (starts .entry)) (now (lengths .entry)) k (now (letters .entry)) (now (observations .entry))
+        (now (reactions .entry))) ⌝ }
 {
     let e = text::until(rest, b'\n');
     if e == rest.len() {
@@ -239,5 +315,6 @@ pub fn entry_at<'a>(
             observations,
         ),
         Section::Rules => rule_fields(sheet, line, n, starts, lengths, k, letters),
+        Section::Reactions => reaction_fields(line, k, letters, reactions),
     }
 }

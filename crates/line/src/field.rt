@@ -2,7 +2,7 @@
 ghost use mathlib.Core.Path.{_≡_};
 ghost use mathlib.Core.Bool.{false, _&&_, _||_, not};
 ghost use mathlib.Core.List.{[], _∷_};
-ghost use Prim.Native.Nat.{_≤_};
+ghost use Prim.Native.Nat.{ℕ, _≤_, _<_};
 ghost use Rattle.prelude.specs.Checks.{firstFailing};
 ghost use Rattle.prelude.specs.Search.{answers};
 ghost use Rattle.text.specs.Number.{magnitude};
@@ -10,8 +10,9 @@ ghost use Rattle.network.specs.Limits as L;
 ghost use Rattle.names.specs.Names.{isName, isOneLetter, isLabel, literals, lettersOf};
 ghost use Rattle.names.specs.Defined.{placeOf, allDefined};
 ghost use Rattle.names.specs.Found.{isFound};
+ghost use Rattle.names.specs.declared.Found.the-variants.{At};
 ghost use Rattle.line.specs.Tests.{countTests, kindOf};
-ghost use Rattle.line.specs.Answers.{checkOf, kindFound, limitOf, sectionAnswer, givesFound};
+ghost use Rattle.line.specs.Answers.{checkOf, kindFound, limitOf, sectionAnswer, givesFound, givenFound};
 use super::Check;
 use super::HeadingLine;
 use super::KindField;
@@ -134,6 +135,17 @@ pub(crate) fn is_fresh<'a>(
     }
     match event {
         Found::At(u) => !lookup::gives_signal(k, observations, u),
+        Found::Nothing => true,
+    }
+}
+
+// No line has said yet how the signal reacts.
+pub(crate) fn is_unsaid(reactions: &[u16; Network::SIGNALS], signal: Found) -> bool
+    requires { ⌜ ((p : ℕ) → signal ≡ At p → p < L.signals) ⌝ }
+    ensures { λ r. ⌜ r ≡ not (givenFound (now (reactions .entry)) signal) ⌝ }
+{
+    match signal {
+        Found::At(p) => reactions[p] == 0,
         Found::Nothing => true,
     }
 }

@@ -44,5 +44,6 @@ pub fn heading_of(section: Section, rest: &[u8]) -> HeadingLine
         Section::Events => section_line(rest, b"events", 1, Network::EVENTS as u32),
         Section::Signals => section_line(rest, b"signals", 0, Network::SIGNALS as u32),
         Section::Rules => section_line(rest, b"rules", 0, Network::RULES as u32),
+        Section::Reactions => section_line(rest, b"reactions", 0, Network::SIGNALS as u32),
     }
 }

@@ -11,6 +11,7 @@ pub enum Section {
     Events,
     Signals,
     Rules,
+    Reactions,
 }
 
 // A test with the cause of its failure, and what comes of several.

@@ -33,7 +33,7 @@ pub fn event_named<'a>(
 }
 
 // The place of b among the first k letters.
-pub(crate) fn place_of(k: usize, letters: &[u8; Network::SIGNALS], b: u8) -> Found
+pub fn place_of(k: usize, letters: &[u8; Network::SIGNALS], b: u8) -> Found
     requires { ⌜ k ≤ L.signals ⌝ }
     ensures { λ r. ⌜ r ≡ foundOf (placeOf k (now (letters .entry)) b) ⌝ }
 {

@@ -5,10 +5,10 @@ use mathlib.Core.List.{List, [], _∷_}
 use Prim.Native.Nat.{ℕ, suc}
 use lib.IntN.{ℤ, pos, negsuc}
 use lib.Dec.{eqb}
-use Rattle.network.specs.Build.{empty, withEvent, withSignal, observation, scenarios, cells}
+use Rattle.network.specs.Build.{empty, withEvent, withSignal, withReaction, observation, scenarios, cells}
 use Rattle.network.specs.Scenario.{truth, agree, satisfies}
 use Rattle.network.specs.Constraint.{admits}
-use Rattle.network.specs.Strategy.{reaction, knownFrom, known}
+use Rattle.network.specs.Strategy.{reactionOf, knownFrom, known}
 use Rattle.network.specs.declared.Kind.{Kind}
 use Rattle.network.specs.declared.Kind.the-variants.{Max, Min, Fix}
 use Rattle.network.specs.declared.Label.{Label}
@@ -91,6 +91,10 @@ pub scenarios-and-signals :
     ∷ eqb (knownFrom small (0 ∷ 9 ∷ 0 ∷ 5 ∷ []) 1 0) 6
     ∷ Bool·beq (known small (0 ∷ 9 ∷ 0 ∷ 5 ∷ []) 1 0 5) false
     ∷ Bool·beq (known small (0 ∷ 9 ∷ 0 ∷ 5 ∷ []) 1 0 6) true
+    -- a line that gives 1 changes nothing; with one that gives 3 it is known from minute 8 on
+    ∷ eqb (knownFrom (withReaction small 0 1) (0 ∷ 9 ∷ 0 ∷ 5 ∷ []) 1 0) 6
+    ∷ Bool·beq (known (withReaction small 0 3) (0 ∷ 9 ∷ 0 ∷ 5 ∷ []) 1 0 7) false
+    ∷ Bool·beq (known (withReaction small 0 3) (0 ∷ 9 ∷ 0 ∷ 5 ∷ []) 1 0 8) true
     ∷ []) ≡ true
-unfolding satisfies reaction
+unfolding satisfies reactionOf
 scenarios-and-signals = refl

@@ -1,16 +1,17 @@
--- The reaction time, and what is known when. Proofs elsewhere use these laws, and not the text of `reaction` and
+-- The reaction time, and what is known when. Proofs elsewhere use these laws, and not the text of `reactionOf` and
 -- `known`. Assumes nothing.
-use mathlib.Core.Path.{_≡_, refl, _∙_, ap}
+use mathlib.Core.Path.{_≡_, refl, ap}
 use mathlib.Core.Bool.{true, false}
 use mathlib.Core.List.{List}
-use Prim.Native.Nat.{ℕ, _+_, _*_, _≤_, _<_}
+use Prim.Native.Nat.{ℕ, zero, suc, _+_, _*_, _≤_, _<_}
 use native.Mathlib.Omega.{arith}
 use borrow.Author.Tests.{leb-true, leb-false, le-leb, lt-leb}
 use lib.ListN.{length}
+use lib.Seq.{getD-set-same, getD-set-other}
 use Rattle.prelude.proofs.Cells.{cell-lt}
 use Rattle.network.specs.Limits as L
-use Rattle.network.specs.Build.{observation, scenarios, cells}
-use Rattle.network.specs.Strategy.{time, knownAfter, reaction, knownFrom, known}
+use Rattle.network.specs.Build.{empty, withReaction, observation, reactionGiven, scenarios, cells}
+use Rattle.network.specs.Strategy.{time, reactionOf, reaction, knownFrom, known}
 use Rattle.network.specs.declared.Network.{Network}
 
 -- every event of a scenario has its cell in a table of the network's size
@@ -18,19 +19,41 @@ pub cell-in : (Γ : Network) (σ : List ℕ) → length σ ≡ cells Γ → (s u
     → s * Γ .events + u < length σ
 cell-in Γ σ e s u h l = rw e (cell-lt (Γ .events) (scenarios Γ) s u h l)
 
--- the reaction is the same for every signal
-pub reaction-is : (Γ : Network) (p : ℕ) → L.reaction ≡ reaction Γ p
-unfolding reaction
-reaction-is Γ p = refl
+-- a line's number, where it is one of those that a line may give; and 1 without a line
+pub reactionOf-given : (x : ℕ) → L.fastest ≤ x → reactionOf x ≡ x
+unfolding reactionOf
+reactionOf-given x h = omega arith
 
--- so the time that is reckoned with it is that from which on p is known
-pub known-after-is : (Γ : Network) (σ : List ℕ) (s p : ℕ) {k : ℕ}
-    → k ≡ knownAfter (Γ .events) σ s (observation Γ p) L.reaction → k ≡ knownFrom Γ σ s p
-known-after-is Γ σ s p e = e ∙ ap (knownAfter (Γ .events) σ s (observation Γ p)) (reaction-is Γ p)
+pub reactionOf-least : (x : ℕ) → x ≤ L.fastest → reactionOf x ≡ L.fastest
+unfolding reactionOf
+reactionOf-least x h = omega arith
+
+pub reactionOf-most : (x : ℕ) → x ≤ L.slowest → reactionOf x ≤ L.slowest
+unfolding reactionOf
+reactionOf-most x h = omega arith
+
+-- before any line, nothing is given, and every signal has the reaction 1
+pub given-empty : (h p : ℕ) → reactionGiven (empty h) p ≡ 0
+given-empty h zero = refl
+given-empty h (suc zero) = refl
+given-empty h (suc (suc zero)) = refl
+given-empty h (suc (suc (suc zero))) = refl
+given-empty h (suc (suc (suc (suc p)))) = refl
+
+pub reaction-empty : (h p : ℕ) → reaction (empty h) p ≡ L.fastest
+reaction-empty h p = reactionOf-least (reactionGiven (empty h) p) (omega (arith, given-empty h p))
+
+-- a line says how its signal reacts, and nothing of the others
+module _ (Γ : Network) (p minutes : ℕ) where
+  pub reaction-with : p < length (Γ .reactions) → reaction (withReaction Γ p minutes) p ≡ reactionOf minutes
+  reaction-with l = ap reactionOf (getD-set-same (Γ .reactions) p minutes 0 l)
+
+  pub reaction-other : (q : ℕ) → (q ≡ p → ⊥) → reaction (withReaction Γ p minutes) q ≡ reaction Γ q
+  reaction-other q n = ap reactionOf (getD-set-other (Γ .reactions) p q minutes 0 n)
 
 -- nothing is known in the minute in which it is observed
 pub reaction-some : (Γ : Network) (p : ℕ) → 1 ≤ reaction Γ p
-unfolding reaction
+unfolding reactionOf
 reaction-some Γ p = omega arith
 
 module _ (Γ : Network) (σ : List ℕ) (s p m : ℕ) where

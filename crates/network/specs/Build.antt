@@ -1,5 +1,5 @@
--- How a network is built: from its horizon, then event by event, signal by signal and rule by rule, in the order of
--- the sheet (004, Definition 2; labels on constraints only, as in 002).
+-- How a network is built: from its horizon, then event by event, signal by signal, rule by rule and reaction by
+-- reaction, in the order of the sheet (004, Definition 2; labels on constraints only, as in 002).
 use mathlib.Core.List.{List}
 use Prim.Native.Nat.{ℕ, _+_, _*_, _^_}
 use lib.IntN.{pos}
@@ -12,7 +12,14 @@ use Rattle.network.specs.declared.Limits.{Limits}
 
 -- document 01's numbers, as the code's struct
 abbrev pub limits : Limits
-limits = record { horizon = L.horizon; events = L.events; signals = L.signals; rules = L.rules; reaction = L.reaction }
+limits = record {
+  horizon = L.horizon;
+  events = L.events;
+  signals = L.signals;
+  rules = L.rules;
+  fastest = L.fastest;
+  slowest = L.slowest;
+}
 
 -- what stands where no constraint does
 abbrev pub noConstraint : Constraint
@@ -27,6 +34,7 @@ empty h = record {
   signals = 0;
   letters = replicate L.signals 0;
   observations = replicate L.signals 0;
+  reactions = replicate L.signals 0;
   rules = 0;
   constraints = replicate L.rules noConstraint;
 }
@@ -42,6 +50,7 @@ module _ (Γ : Network) where
     signals = Γ .signals;
     letters = Γ .letters;
     observations = Γ .observations;
+    reactions = Γ .reactions;
     rules = Γ .rules;
     constraints = Γ .constraints;
   }
@@ -56,6 +65,7 @@ module _ (Γ : Network) where
     signals = Γ .signals + 1;
     letters = set (Γ .letters) (Γ .signals) letter;
     observations = set (Γ .observations) (Γ .signals) observation;
+    reactions = Γ .reactions;
     rules = Γ .rules;
     constraints = Γ .constraints;
   }
@@ -70,8 +80,24 @@ module _ (Γ : Network) where
     signals = Γ .signals;
     letters = Γ .letters;
     observations = Γ .observations;
+    reactions = Γ .reactions;
     rules = Γ .rules + 1;
     constraints = set (Γ .constraints) (Γ .rules) c;
+  }
+
+  -- signal p is trusted after so many minutes
+  abbrev pub withReaction : ℕ → ℕ → Network
+  withReaction p minutes = record {
+    horizon = Γ .horizon;
+    events = Γ .events;
+    starts = Γ .starts;
+    lengths = Γ .lengths;
+    signals = Γ .signals;
+    letters = Γ .letters;
+    observations = Γ .observations;
+    reactions = set (Γ .reactions) p minutes;
+    rules = Γ .rules;
+    constraints = Γ .constraints;
   }
 
   -- the name of event u, as a part of the sheet
@@ -85,6 +111,10 @@ module _ (Γ : Network) where
   -- the event that gives signal p: its observation event
   abbrev pub observation : ℕ → ℕ
   observation p = getD (Γ .observations) p 0
+
+  -- after how many minutes a line says that signal p is trusted; 0 where no line does
+  abbrev pub reactionGiven : ℕ → ℕ
+  reactionGiven p = getD (Γ .reactions) p 0
 
   -- the rule at place c of the sheet
   abbrev pub constraint : ℕ → Constraint

@@ -1,5 +1,5 @@
--- The limits of a sheet (01, The sheet), the reaction of its signals, and what follows of bounds, cases and cells. The
--- code has limits and reaction as constants of `Network`, whose contract `limits` pins them to these.
+-- The limits of a sheet (01, The sheet; of reactions 02, point 3), and what follows of bounds, cases and cells. The code
+-- has the limits as constants of `Network`, whose contract `limits` pins them to these.
 use Prim.Native.Nat.{ℕ, _*_, _^_}
 
 -- "H from 0 to 10,080", and the size of a rule's limit
@@ -18,9 +18,12 @@ signals = 4
 abbrev pub rules : ℕ
 rules = 64
 
--- "a signal given at minute 5 may change what happens from minute 6 on": the reaction of every signal
-abbrev pub reaction : ℕ
-reaction = 1
+-- "minutes from 1 to 60", after which a signal is trusted
+abbrev pub fastest : ℕ
+fastest = 1
+
+abbrev pub slowest : ℕ
+slowest = 60
 
 -- a rule sets at most two bounds between the times of its events: a `fix` two, the others one
 abbrev pub bounds : ℕ

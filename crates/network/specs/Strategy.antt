@@ -2,12 +2,12 @@
 -- its times minutes.
 use mathlib.Core.Bool.{Bool, not}
 use mathlib.Core.List.{List}
-use Prim.Native.Nat.{ℕ, _+_, _*_}
+use Prim.Native.Nat.{ℕ, _+_, _*_, max}
 use lib.Dec.{leb}
 use lib.ListN.{getD}
 use Rattle.prelude.specs.Bounded.{minWhere}
 use Rattle.network.specs.Limits as L
-use Rattle.network.specs.Build.{observation}
+use Rattle.network.specs.Build.{observation, reactionGiven}
 use Rattle.network.specs.Scenario.{agree}
 use Rattle.network.specs.declared.Network.{Network}
 
@@ -19,9 +19,13 @@ time n σ s u = getD σ (s * n + u) 0
 abbrev pub knownAfter : ℕ → List ℕ → ℕ → ℕ → ℕ → ℕ
 knownAfter n σ s u x = time n σ s u + x
 
--- after how many minutes p is known: the reaction time (004, Definition 13)
-unfoldable pub reaction : Network → ℕ → ℕ
-reaction Γ p = L.reaction
+-- what a line gives is at least 1, and "A signal without a line keeps 1" (02, point 3)
+unfoldable pub reactionOf : ℕ → ℕ
+reactionOf given = max L.fastest given
+
+-- after how many minutes p is known: its reaction time (004, Definition 13)
+abbrev pub reaction : Network → ℕ → ℕ
+reaction Γ p = reactionOf (reactionGiven Γ p)
 
 module _ (Γ : Network) (σ : List ℕ) where
   -- from when on the truth of p is known in s

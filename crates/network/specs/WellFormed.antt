@@ -7,6 +7,7 @@ use lib.IntN.{ℤ, pos, negsuc}
 use lib.ListN.{length, getD}
 use Rattle.network.specs.Limits as L
 use Rattle.network.specs.Build.{observation, constraint, scenarios}
+use Rattle.network.specs.Strategy.{reaction}
 use Rattle.network.specs.declared.Constraint.{Constraint}
 use Rattle.network.specs.declared.Network.{Network}
 
@@ -29,6 +30,7 @@ pub record Arrays (Γ : Network) : Type 0 where
   pub lengths : length (Γ .lengths) ≡ L.events
   pub letters : length (Γ .letters) ≡ L.signals
   pub observations : length (Γ .observations) ≡ L.signals
+  pub reactions : length (Γ .reactions) ≡ L.signals
   pub constraints : length (Γ .constraints) ≡ L.rules
 
 -- how many of each are still to come, at most
@@ -54,6 +56,7 @@ pub record Forming (t : ToCome) (Γ : Network) : Type 0 where
   -- "An event gives at most one signal"
   pub one-signal : (p q : ℕ) → p < Γ .signals → q < Γ .signals → observation Γ p ≡ observation Γ q → p ≡ q
   pub proper : (c : ℕ) → c < Γ .rules → Proper Γ (constraint Γ c)
+  pub reacts : (p : ℕ) → reaction Γ p ≤ L.slowest
 
 -- nothing is still to come
 abbrev pub WellFormed : Network → Type 0

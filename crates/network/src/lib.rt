@@ -38,8 +38,8 @@ pub struct Constraint {
 }
 
 // Event u is named by the part of the sheet from starts[u] on, of lengths[u] bytes; event 0 is the origin.
-// Proposition p has the letter letters[p] and the observation event observations[p]. Behind the counts the arrays
-// hold what the empty network has.
+// Proposition p has the letter letters[p], the observation event observations[p] and, where a line gives one, the
+// reaction reactions[p], otherwise 0. Behind the counts the arrays hold what the empty network has.
 pub struct Network {
     pub horizon: u16,
     pub events: usize,
@@ -48,17 +48,19 @@ pub struct Network {
     pub signals: usize,
     pub letters: [u8; Network::SIGNALS],
     pub observations: [usize; Network::SIGNALS],
+    pub reactions: [u16; Network::SIGNALS],
     pub rules: usize,
     pub constraints: [Constraint; Network::RULES],
 }
 
-// The most of each that a network holds, and the reaction of its signals.
+// The most of each that a network holds, and the range of reactions.
 pub struct Limits {
     pub horizon: u16,
     pub events: usize,
     pub signals: usize,
     pub rules: usize,
-    pub reaction: u16,
+    pub fastest: u16,
+    pub slowest: u16,
 }
 
 impl Network {
@@ -73,8 +75,10 @@ impl Network {
     // As many bounds between two times as the rules set at most.
     pub const BOUNDS: usize = 2 * Self::RULES;
 
-    // How many minutes after its event a signal is known.
-    pub const REACTION: u16 = 1;
+    // How many minutes after its event a signal is known, at least and at most.
+    pub const FASTEST: u16 = 1;
+
+    pub const SLOWEST: u16 = 60;
 
     // As many cases as the signals make, and as many cells as a table then has.
     pub const CASES: usize = 1 << Self::SIGNALS;
@@ -90,7 +94,8 @@ impl Network {
             events: Self::EVENTS,
             signals: Self::SIGNALS,
             rules: Self::RULES,
-            reaction: Self::REACTION,
+            fastest: Self::FASTEST,
+            slowest: Self::SLOWEST,
         }
     }
 
@@ -116,6 +121,7 @@ impl Network {
             signals: 0,
             letters: [0; Self::SIGNALS],
             observations: [0; Self::SIGNALS],
+            reactions: [0; Self::SIGNALS],
             rules: 0,
             constraints: [c; Self::RULES],
         }

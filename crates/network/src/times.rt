@@ -2,7 +2,8 @@
 ghost use mathlib.Core.Path.{_≡_};
 ghost use Prim.Native.Nat.{_+_, _*_, _<_};
 ghost use lib.ListN.{length};
-ghost use Rattle.network.specs.Strategy.{time, knownAfter};
+ghost use Rattle.network.specs.Strategy.{time, knownAfter, reactionOf};
+use super::Network;
 
 // The time of event u in scenario s.
 pub fn time_of(table: &[u16], events: usize, s: usize, u: usize) -> u16
@@ -12,10 +13,20 @@ pub fn time_of(table: &[u16], events: usize, s: usize, u: usize) -> u16
     table[s * events + u]
 }
 
-// From when on a proposition is known in s, by its observation event and its reaction.
-pub fn known_after(table: &[u16], events: usize, s: usize, observation: usize, reaction: u16) -> u32
-    requires { ⌜ s * events + observation < length (now table) ⌝ }
-    ensures { λ r. ⌜ r ≡ knownAfter events (now (table .entry)) s observation reaction ⌝ }
+// The reaction of a proposition, by what a line gives; 0 where no line does.
+pub fn reaction_of(given: u16) -> u16
+    ensures { λ r. ⌜ r ≡ reactionOf given ⌝ }
 {
-    time_of(table, events, s, observation) as u32 + reaction as u32
+    if given < Network::FASTEST {
+        return Network::FASTEST;
+    }
+    given
+}
+
+// From when on a proposition is known in s, by its observation event and what a line gives as its reaction.
+pub fn known_after(table: &[u16], events: usize, s: usize, observation: usize, given: u16) -> u32
+    requires { ⌜ s * events + observation < length (now table) ⌝ }
+    ensures { λ r. ⌜ r ≡ knownAfter events (now (table .entry)) s observation (reactionOf given) ⌝ }
+{
+    time_of(table, events, s, observation) as u32 + reaction_of(given) as u32
 }

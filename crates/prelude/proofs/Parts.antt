@@ -1,12 +1,12 @@
 -- A list by its parts: what stands in it is its first or stands behind it, and what holds of each element of the
 -- parts holds of each of the whole, and the other way round. Assumes nothing.
-use mathlib.Core.Path.{_≡_, refl}
+use mathlib.Core.Path.{_≡_, refl, _∙_}
 use mathlib.Core.Logic.{_⊎_, inl, inr}
 use mathlib.Core.List.{List, [], _∷_, _++_}
 use Prim.Native.Nat.{ℕ, zero, suc, _+_, _-_, _<_}
 use native.Mathlib.Omega.{arith}
 use lib.ListN.{length, getD, length-append, List·getD-append}
-use lib.Seq.{getD-append-add}
+use lib.Seq.{getD-append-add, getD-append-seam}
 use Rattle.prelude.specs.Lists.{In, Each}
 use Rattle.prelude.proofs.Tests.{lt-or-ge}
 
@@ -25,6 +25,22 @@ module _ {A : Type 0} {d x : A} {xs : List A} where
       at : (p : ℕ) → p < length (x ∷ xs) → getD (x ∷ xs) p d ≡ y → (x ≡ y) ⊎ In y xs d
       at zero h e = inl e
       at (suc p) h e = inr (record { place = p; place-lt = omega arith; is = e })
+
+-- what stands in a list stands in a longer one, and the last stands there too
+module _ {A : Type 0} (d : A) (xs : List A) where
+  pub in-before : {y : A} (ys : List A) → In y xs d → In y (xs ++ ys) d
+  in-before ys i = record {
+    place = i .place;
+    place-lt = omega (arith, i .place-lt, length-append xs ys);
+    is = List·getD-append xs ys d (i .place) (i .place-lt) ∙ i .is;
+  }
+
+  pub in-last : (x : A) → In x (xs ++ x ∷ []) d
+  in-last x = record {
+    place = length xs;
+    place-lt = omega (arith, length-append xs (x ∷ []));
+    is = getD-append-seam xs x [] d;
+  }
 
 -- what holds of each
 module _ {A : Type 0} (P : A → Type 0) (d : A) where

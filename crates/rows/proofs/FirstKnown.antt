@@ -1,5 +1,5 @@
 -- Laws of first known times: the table by doubling, and known times by a row. Assumes nothing.
-use mathlib.Core.Path.{_≡_, refl, _∙_, ap}
+use mathlib.Core.Path.{_≡_, refl, _∙_, ap, ap₂}
 use mathlib.Core.Logic.{inl, inr}
 use mathlib.Core.Bool.{true, false}
 use mathlib.Core.List.{List}
@@ -12,15 +12,13 @@ use lib.ListN.{length, getD, set, length-set}
 use lib.Seq.{getD-set-same, getD-set-other}
 use Rattle.prelude.proofs.Tests.{lt-or-ge, eq-or-ne}
 use Rattle.prelude.proofs.Minima.{minWhere-top, minWhere-ext, minWhere-fewer}
-use Rattle.network.specs.Limits as L
 use Rattle.network.specs.Build.{observation}
 use Rattle.network.specs.Scenario.{truth}
 use Rattle.network.specs.Strategy.{knownFrom}
 use Rattle.network.specs.WellFormed.{WellFormed}
 use Rattle.network.specs.declared.Network.{Network}
-use Rattle.network.proofs.Strategy.{known-after-is}
 use Rattle.rows.specs.declared.Frame.{Frame}
-use Rattle.rows.specs.Framed.{Framed}
+use Rattle.rows.specs.Framed.{Prompt, Framed}
 use Rattle.rows.specs.Rows.{RowIn}
 use Rattle.rows.specs.Known.{firstOf, FirstKnown, Doubled}
 
@@ -120,11 +118,14 @@ first-fewer f g k m F h l e = record {
 -- from when on p is known, by a row of its scenario; the remainder changes nothing, since observations are events
 pub known-in-row : (Γ : Network) (σ : List ℕ) (s : ℕ) {frame : Frame} {row : List ℕ} → WellFormed Γ → Framed Γ frame
     → RowIn Γ σ s row → (p : ℕ) → p < frame .signals
-    → getD row (getD (frame .observations) p 0 % 16) 0 + L.reaction ≡ knownFrom Γ σ s p
+    → getD row (getD (frame .observations) p 0 % 16) 0 + getD (frame .reactions) p 0 ≡ knownFrom Γ σ s p
 known-in-row Γ σ s {frame} {row} W F R p l =
     let u = observation Γ p in
     let inside : u < Γ .events = W .observed p (omega (arith, F .signals)) in
     let seen : getD (frame .observations) p 0 ≡ u = ap (λ (xs : List ℕ). getD xs p 0) (F .observations) in
     let place : getD (frame .observations) p 0 % 16 ≡ u = omega (arith, W .events) in
-    known-after-is Γ σ s p
-    (ap (λ (v : ℕ). getD row v 0 + L.reaction) place ∙ ap (λ (t : ℕ). t + L.reaction) (R .at u inside))
+    ap₂ _+_ (ap (λ (v : ℕ). getD row v 0) place ∙ R .at u inside) (F .reactions p (omega (arith, F .signals, W .signals)))
+
+-- a frame's reactions are within their limit
+pub prompt : {Γ : Network} {frame : Frame} → WellFormed Γ → Framed Γ frame → Prompt frame
+prompt W F p l = omega (arith, F .reactions p l, W .reacts p)

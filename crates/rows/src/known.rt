@@ -7,7 +7,7 @@ ghost use Rattle.network.specs.Limits as L;
 ghost use Rattle.network.specs.Strategy.{knownFrom};
 ghost use Rattle.network.specs.WellFormed.{WellFormed};
 ghost use Rattle.network.specs.declared.Network.{Network};
-ghost use Rattle.rows.specs.Framed.{Framed};
+ghost use Rattle.rows.specs.Framed.{Prompt, Framed};
 ghost use Rattle.rows.specs.Rows.{Few, RowIn};
 ghost use Rattle.rows.specs.Known.{Doubled, FirstKnown};
 use crate::Frame;
@@ -28,18 +28,20 @@ fn double(first: &mut [u16; Network::CASES], p: usize, v: u16)
 
 // From when on proposition p is known in a scenario whose times are row. Behind the last signal the observation is any
 // number, and the remainder keeps the index in the row.
-fn known_from(row: &[u16; Network::EVENTS], frame: Frame, p: usize, reaction: u16) -> u16
-    requires { ⌜ (p < L.signals) × Few L.horizon (now row) × (reaction ≤ 60) ⌝ }
-    ensures { λ r. ⌜ r ≡ getD (now (row .entry)) (getD (frame .observations) p 0 % L.events) 0 + reaction ⌝ }
+fn known_from(row: &[u16; Network::EVENTS], frame: Frame, p: usize) -> u16
+    requires { ⌜ (p < L.signals) × Few L.horizon (now row) × Prompt frame ⌝ }
+    ensures { λ r. ⌜ r ≡ getD (now (row .entry)) (getD (frame .observations) p 0 % L.events) 0
+        + getD (frame .reactions) p 0 ⌝ }
 {
     let u = frame.observations[p];
-    row[u % Network::EVENTS] + reaction
+    row[u % Network::EVENTS] + frame.reactions[p]
 }
 
 // The first known time of each set d of propositions, for two propositions or for four: the sets that no scenario asks
 // for cost less than a loop over the signals.
 pub fn first_known(row: &[u16; Network::EVENTS], frame: Frame, first: &mut [u16; Network::CASES])
-    requires { ⌜ (frame .signals ≤ L.signals) × Few L.horizon (now row) × (length (now first) ≡ L.cases) ⌝ }
+    requires { ⌜ (frame .signals ≤ L.signals) × Few L.horizon (now row) × (length (now first) ≡ L.cases)
+        × Prompt frame ⌝ }
     ensures { λ _. ⌜ ((Γ : Network) (σ : List ℕ) (s : ℕ) → WellFormed Γ → Framed Γ frame
         → RowIn Γ σ s (now (row .entry)) → FirstKnown (frame .signals) (knownFrom Γ σ s) (now (first .exit))) ⌝ }
 {
@@ -48,11 +50,11 @@ pub fn first_known(row: &[u16; Network::EVENTS], frame: Frame, first: &mut [u16;
     if signals == 0 {
         return;
     }
-    double(first, 1, known_from(row, frame, 0, Network::REACTION));
-    double(first, 2, known_from(row, frame, 1, Network::REACTION));
+    double(first, 1, known_from(row, frame, 0));
+    double(first, 2, known_from(row, frame, 1));
     if signals <= 2 {
         return;
     }
-    double(first, 4, known_from(row, frame, 2, Network::REACTION));
-    double(first, 8, known_from(row, frame, 3, Network::REACTION));
+    double(first, 4, known_from(row, frame, 2));
+    double(first, 8, known_from(row, frame, 3));
 }

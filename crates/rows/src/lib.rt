@@ -10,6 +10,7 @@ ghost use Rattle.network.specs.WellFormed.{WellFormed};
 ghost use Rattle.rows.specs.Framed.{Framed};
 ghost use Rattle.rows.specs.Rows.{Few, Row, Stored, Wrote, gapless};
 use network::Network;
+use network::times;
 
 pub mod known;
 
@@ -20,6 +21,7 @@ pub struct Frame {
     pub scenarios: usize,
     pub signals: usize,
     pub observations: [usize; Network::SIGNALS],
+    pub reactions: [u16; Network::SIGNALS],
 }
 
 pub fn frame_of(network: Network) -> Frame
@@ -27,12 +29,19 @@ pub fn frame_of(network: Network) -> Frame
     ensures { λ r. ⌜ Framed network r ⌝ }
 {
     let observations = network.observations;
+    let given = network.reactions;
     Frame {
         horizon: network.horizon,
         events: network.events,
         scenarios: 1 << network.signals,
         signals: network.signals,
         observations: observations,
+        reactions: [
+            times::reaction_of(given[0]),
+            times::reaction_of(given[1]),
+            times::reaction_of(given[2]),
+            times::reaction_of(given[3]),
+        ],
     }
 }
 

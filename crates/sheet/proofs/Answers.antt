@@ -1,5 +1,5 @@
 -- What the reading answers of the whole sheet: it is refused with its fault, or each line holds its tests. Behind the
--- last rule no byte may follow, and what is longer than the limit is not read. Assumes nothing.
+-- last section no byte may follow, and what is longer than the limit is not read. Assumes nothing.
 use mathlib.Core.Path.{_≡_, refl, ap}
 use mathlib.Core.Logic.{inl, inr}
 use mathlib.Core.Bool.{Bool, true, false, not}
@@ -15,7 +15,7 @@ use Rattle.sheet.specs.Place.{NoMore, tests}
 use Rattle.sheet.specs.Fault.{FirstFault, Fault}
 use Rattle.sheet.specs.declared.Outcome.{Outcome}
 use Rattle.sheet.specs.declared.Outcome.the-variants.{Accepted, Refused}
-use Rattle.sheet.proofs.Whole.{toRules, toEnd, by-length}
+use Rattle.sheet.proofs.Whole.{toReactions, toEnd, by-length}
 use Rattle.sheet.proofs.Over.{all-hold}
 use Rattle.sheet.proofs.Comes.{At, Comes, stops, sections-come}
 
@@ -48,7 +48,7 @@ module _ (sheet : List ℕ) where
   answers =
       by-length sheet (λ p. Answers (answered p .outcome))
       (λ h. inl (h, refl))
-      (λ h. ended (toEnd sheet) h (then-ends (toRules sheet) (sections-come sheet)))
+      (λ h. ended (toEnd sheet) h (then-ends (toReactions sheet) (sections-come sheet)))
     where
       ended : (p : Progress) → length sheet ≤ longest → Ends p → Answers (answered p .outcome)
       ended (Stop r) l e = inr (l, e)

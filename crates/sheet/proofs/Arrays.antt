@@ -1,10 +1,10 @@
--- The arrays of a network are as long as the limits say at first, and stay so with one event, signal or rule more.
--- Assumes nothing.
+-- The arrays of a network are as long as the limits say at first, and stay so with one event, signal, rule or reaction
+-- more. Assumes nothing.
 use mathlib.Core.Path.{_∙_}
 use Prim.Native.Nat.{ℕ}
 use lib.ListN.{length-set, length-replicate}
 use Rattle.network.specs.Limits as L
-use Rattle.network.specs.Build.{noConstraint, empty, withEvent, withSignal, withRule}
+use Rattle.network.specs.Build.{noConstraint, empty, withEvent, withSignal, withRule, withReaction}
 use Rattle.network.specs.WellFormed.{Arrays}
 use Rattle.network.specs.declared.Constraint.{Constraint}
 use Rattle.network.specs.declared.Network.{Network}
@@ -15,6 +15,7 @@ arrays-empty h = record {
   lengths = length-replicate {A = ℕ} L.events 0;
   letters = length-replicate {A = ℕ} L.signals 0;
   observations = length-replicate {A = ℕ} L.signals 0;
+  reactions = length-replicate {A = ℕ} L.signals 0;
   constraints = length-replicate L.rules noConstraint;
 }
 
@@ -25,6 +26,7 @@ module _ {Γ : Network} (a : Arrays Γ) where
     lengths = length-set (Γ .lengths) (Γ .events) length ∙ a .lengths;
     letters = a .letters;
     observations = a .observations;
+    reactions = a .reactions;
     constraints = a .constraints;
   }
 
@@ -34,6 +36,7 @@ module _ {Γ : Network} (a : Arrays Γ) where
     lengths = a .lengths;
     letters = length-set (Γ .letters) (Γ .signals) letter ∙ a .letters;
     observations = length-set (Γ .observations) (Γ .signals) u ∙ a .observations;
+    reactions = a .reactions;
     constraints = a .constraints;
   }
 
@@ -43,5 +46,16 @@ module _ {Γ : Network} (a : Arrays Γ) where
     lengths = a .lengths;
     letters = a .letters;
     observations = a .observations;
+    reactions = a .reactions;
     constraints = length-set (Γ .constraints) (Γ .rules) c ∙ a .constraints;
+  }
+
+  pub arrays-reaction : (p minutes : ℕ) → Arrays (withReaction Γ p minutes)
+  arrays-reaction p minutes = record {
+    starts = a .starts;
+    lengths = a .lengths;
+    letters = a .letters;
+    observations = a .observations;
+    reactions = length-set (Γ .reactions) p minutes ∙ a .reactions;
+    constraints = a .constraints;
   }

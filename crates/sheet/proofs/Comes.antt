@@ -2,6 +2,7 @@
 -- of a section, and the sections one behind the other. Assumes nothing.
 use mathlib.Core.Path.{_≡_, refl, ap}
 use mathlib.Core.Logic.{inl, inr}
+use mathlib.Core.Bool.{Bool, true, false, cond}
 use mathlib.Core.Option.{Option, none, some}
 use mathlib.Core.List.{List}
 use Prim.Native.Nat.{ℕ, zero, suc, _<_}
@@ -17,13 +18,13 @@ use Rattle.network.specs.declared.Network.{Network}
 use Rattle.line.specs.Tests.{Tests, sectionCount}
 use Rattle.line.specs.Sections.{withLine}
 use Rattle.line.specs.declared.Section.{Section}
-use Rattle.line.specs.declared.Section.the-variants.{Events, Signals, Rules}
+use Rattle.line.specs.declared.Section.the-variants.{Events, Signals, Rules, Reactions}
 use Rattle.sheet.specs.Reading.{Progress, Stop, Go, stopOr, andThen, readEntries, readSection, readHorizon}
-use Rattle.sheet.specs.Reading.{follows}
+use Rattle.sheet.specs.Reading.{follows, readOptional}
 use Rattle.sheet.specs.Place.{Expected, Horizon, Heading, Entry, NoMore, behind, entries, Place, testsAt}
 use Rattle.sheet.specs.Place.{expectedAfter, definedAfter, next, place, tests}
 use Rattle.sheet.specs.Fault.{FirstFault}
-use Rattle.sheet.proofs.Whole.{toEvents, toSignals, toRules}
+use Rattle.sheet.proofs.Whole.{toEvents, toSignals, toRules, toReactions}
 
 module _ (sheet : List ℕ) where
   -- line k begins at this place, and the lines above it pass
@@ -112,12 +113,24 @@ module _ (sheet : List ℕ) where
   then-comes d e (Stop r) f c g = c
   then-comes d e (Go Γ at k) f c g = g Γ at k c
 
-  pub sections-come : Comes (λ at. NoMore) (toRules sheet)
+  -- the reactions may be absent: where bytes follow they are expected, and otherwise no more
+  reactions-come : (Γ : Network) (at k : ℕ) → At (next-of Rules at) Γ at k
+      → Comes (λ at. NoMore) (readOptional sheet Reactions Γ at k)
+  reactions-come Γ at k a = by-bytes (follows sheet at) a
+    where
+      by-bytes : (more : Bool) → At (behind Rules more) Γ at k
+          → Comes (λ at. NoMore) (cond more (readSection sheet Reactions Γ at k) (Go Γ at k))
+      by-bytes true a = section-comes Reactions Γ at k a
+      by-bytes false a = a
+
+  pub sections-come : Comes (λ at. NoMore) (toReactions sheet)
   sections-come =
-      then-comes (λ at. Heading Rules) (λ at. NoMore) (toSignals sheet) (readSection sheet Rules)
+      then-comes (next-of Rules) (λ at. NoMore) (toRules sheet) (readOptional sheet Reactions)
+      (then-comes (λ at. Heading Rules) (next-of Rules) (toSignals sheet) (readSection sheet Rules)
       (then-comes (λ at. Heading Signals) (λ at. Heading Rules) (toEvents sheet) (readSection sheet Signals)
       (then-comes (λ at. Heading Events) (λ at. Heading Signals) (readHorizon sheet) (readSection sheet Events)
       horizon-comes
       (section-comes Events))
       (section-comes Signals))
-      (section-comes Rules)
+      (section-comes Rules))
+      reactions-come

@@ -12,13 +12,14 @@ use Rattle.refusal.specs.declared.Cause.{Cause}
 use Rattle.network.specs.declared.Network.{Network}
 use Rattle.line.specs.Sections.{testsOf, withLine}
 use Rattle.line.specs.declared.Section.{Section}
-use Rattle.line.specs.declared.Section.the-variants.{Events, Signals, Rules}
+use Rattle.line.specs.declared.Section.the-variants.{Events, Signals, Rules, Reactions}
 use Rattle.sheet.specs.Reading.{Progress, Stop, Go, readEntries}
 use Rattle.sheet.specs.Stage.{toCome, Stage}
 use Rattle.sheet.proofs.ReadLine.{refusalAt, passes, readLine-stop, readLine-on, Keeps}
 use Rattle.sheet.proofs.Stages.{stage-event}
 use Rattle.sheet.proofs.SignalStage.{stage-signal}
 use Rattle.sheet.proofs.RuleStage.{stage-rule}
+use Rattle.sheet.proofs.ReactionStage.{stage-reaction}
 
 -- the stage before m lines of a section, which each line keeps
 abbrev pub Before : List ℕ → Section → ℕ → Network → ℕ → ℕ → Type 0
@@ -28,6 +29,7 @@ pub stage-keeps : (sheet : List ℕ) (s : Section) → Keeps sheet s (Before she
 stage-keeps sheet Events m Γ at k g p = stage-event sheet g p
 stage-keeps sheet Signals m Γ at k g p = stage-signal sheet g p
 stage-keeps sheet Rules m Γ at k g p = stage-rule sheet g p
+stage-keeps sheet Reactions m Γ at k g p = stage-reaction sheet Γ at k m g p
 
 -- the lines that are left, of those that give p
 pub record EntriesLeft (sheet : List ℕ) (s : Section) (p : Progress) (left : ℕ) (Γ : Network) (at k : ℕ) : Type 0 where

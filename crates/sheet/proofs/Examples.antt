@@ -11,7 +11,7 @@ use Rattle.prelude.specs.Bytes.{ascii}
 use Rattle.text.specs.Lines.{lineFeed}
 use Rattle.text.specs.Number.{isNumber, inRange}
 use Rattle.refusal.specs.Refusal.{numberOf}
-use Rattle.line.specs.Tests.{sectionTests, eventTests, signalTests, endsTests, ruleTests}
+use Rattle.line.specs.Tests.{sectionTests, eventTests, signalTests, endsTests, ruleTests, letterTests, reactionTests}
 use Rattle.sheet.specs.Reading.{Progress, Stop, Go, progress}
 
 -- lines of text, each with its line feed
@@ -50,6 +50,10 @@ one = "signals,1" ∷ "p,door" ∷ []
 -- one rule, which is line 8
 abbrev rule : String → List ℕ
 rule r = sheetOf hour two one ("rules,1" ∷ r ∷ [])
+
+-- no rule, and then these lines, from line 8 on
+abbrev reactions : List String → List ℕ
+reactions r = sheetOf hour two one ("rules,0" ∷ r)
 
 abbrev examples : List Example
 examples =
@@ -101,9 +105,24 @@ examples =
     ∷ refused 8 8 (rule "max,start,door,5,q")
     ∷ refused 9 8 (rule "max,start,door,5,p!p")
     ∷ refused 9 8 (rule "max,start,door,5,pp")
-    -- 10: bytes behind the last rule
-    ∷ refused 10 7 (sheetOf hour two none ("rules,0" ∷ "" ∷ []))
-    ∷ refused 10 9 (rule "max,start,door,5,p" ++ ascii "x")
+    -- reactions: bytes behind the last rule begin their section
+    ∷ refused 3 7 (sheetOf hour two none ("rules,0" ∷ "" ∷ []))
+    ∷ refused 2 9 (rule "max,start,door,5,p" ++ ascii "x")
+    ∷ refused 3 7 (sheetOf hour two one ("reactions,0" ∷ "rules,0" ∷ []))
+    ∷ refused 4 8 (reactions ("reactions,01" ∷ []))
+    ∷ refused 5 8 (reactions ("reactions,5" ∷ []))
+    ∷ refused 2 9 (reactions ("reactions,1" ∷ []))
+    ∷ refused 3 9 (reactions ("reactions,1" ∷ "p" ∷ []))
+    ∷ refused 4 9 (reactions ("reactions,1" ∷ "p,+1" ∷ []))
+    ∷ refused 5 9 (reactions ("reactions,1" ∷ "p,0" ∷ []))
+    ∷ refused 5 9 (reactions ("reactions,1" ∷ "p,61" ∷ []))
+    ∷ refused 6 9 (reactions ("reactions,1" ∷ "P,2" ∷ []))
+    ∷ refused 7 10 (reactions ("reactions,2" ∷ "p,1" ∷ "p,2" ∷ []))
+    ∷ refused 8 9 (reactions ("reactions,1" ∷ "q,2" ∷ []))
+    -- 10: bytes behind the last section
+    ∷ refused 10 9 (reactions ("reactions,0" ∷ "" ∷ []))
+    ∷ refused 10 10 (reactions ("reactions,1" ∷ "p,60" ∷ []) ++ ascii "x")
+    ∷ refused 10 9 (reactions ("reactions,0" ∷ "reactions,0" ∷ []))
     -- two faults on one line: the lowest number; on two lines: the first
     ∷ refused 3 8 (rule "most,start,lock,010,p!p")
     ∷ refused 4 8 (rule "max,start,lock,010,p!p")
@@ -119,6 +138,9 @@ examples =
     ∷ accepted (rule "max,start,start,0,-")
     ∷ accepted (rule "max,start,door,10080,p")
     ∷ accepted (rule "min,door,start,-10080,!p")
+    ∷ accepted (reactions ("reactions,0" ∷ []))
+    ∷ accepted (reactions ("reactions,1" ∷ "p,1" ∷ []))
+    ∷ accepted (reactions ("reactions,1" ∷ "p,60" ∷ []))
     ∷ accepted (sheetOf hour two one ("rules,2" ∷ "fix,start,door,5,p" ∷ "fix,start,door,5,p" ∷ []))
     ∷ []
 
@@ -132,5 +154,5 @@ allEnd [] = true
 allEnd (x ∷ xs) = ends (progress (x .sheet)) (x .number) (x .line) && allEnd xs
 
 pub examples-end : allEnd examples ≡ true
-unfolding isNumber inRange sectionTests eventTests signalTests endsTests ruleTests progress
+unfolding isNumber inRange sectionTests eventTests signalTests endsTests ruleTests letterTests reactionTests progress
 examples-end = refl

@@ -8,6 +8,7 @@ pub mod Arrays
 pub mod Stages
 pub mod SignalStage
 pub mod RuleStage
+pub mod ReactionStage
 pub mod EntriesLeft
 pub mod Lines
 pub mod WellFormed

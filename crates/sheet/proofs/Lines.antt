@@ -17,7 +17,7 @@ use Rattle.names.specs.Found.{NamesIn}
 use Rattle.line.specs.Tests.{eventTests}
 use Rattle.line.specs.Sections.{testsOf, entryOf, added, withLine}
 use Rattle.line.specs.declared.Section.{Section}
-use Rattle.line.specs.declared.Section.the-variants.{Events, Signals, Rules}
+use Rattle.line.specs.declared.Section.the-variants.{Events, Signals, Rules, Reactions}
 use Rattle.line.specs.declared.entry.Entry.{Entry}
 use Rattle.line.specs.declared.entry.Entry.the-variants as E
 use Rattle.line.specs.declared.entry.EntryLine.the-variants as R
@@ -28,6 +28,7 @@ use Rattle.sheet.specs.Reading.{Progress, Stop}
 use Rattle.sheet.specs.Stage.{Stage}
 use Rattle.sheet.proofs.ReadLine.{refusalAt, Passes, passes}
 use Rattle.sheet.proofs.Stages.{andMore-is}
+use Rattle.sheet.proofs.ReactionStage.{reacting-signal}
 use Rattle.sheet.proofs.EntriesLeft.{Before, EntriesLeft, reads-stop, reads-on}
 
 -- the events of the network are named by parts of the sheet
@@ -46,15 +47,18 @@ abbrev pub Room : Entry → Network → Type 0
 Room E.Event Γ = Γ .events < L.events
 Room (E.Signal b u) Γ = Γ .signals < L.signals
 Room (E.Rule c) Γ = Γ .rules < L.rules
+Room (E.Reaction p m) Γ = p < L.signals
 
 module _ (sheet : List ℕ) (Γ : Network) (at k : ℕ) where
   abbrev fs : List (List ℕ)
   fs = fields (lineAt sheet at)
 
-  room-of : (s : Section) (left : ℕ) → Before sheet s left Γ at k → 0 < left → Room (entryOf sheet s Γ fs) Γ
-  room-of Events left g h = omega (arith, g .forming .events, andMore-is (Γ .events) left)
-  room-of Signals left g h = omega (arith, g .forming .signals, andMore-is (Γ .signals) left)
-  room-of Rules left g h = omega (arith, g .forming .rules, andMore-is (Γ .rules) left)
+  room-of : (s : Section) (left : ℕ) → Before sheet s left Γ at k → 0 < left → Passes sheet at k (testsOf sheet s Γ)
+      → Room (entryOf sheet s Γ fs) Γ
+  room-of Events left g h p = omega (arith, g .forming .events, andMore-is (Γ .events) left)
+  room-of Signals left g h p = omega (arith, g .forming .signals, andMore-is (Γ .signals) left)
+  room-of Rules left g h p = omega (arith, g .forming .rules, andMore-is (Γ .rules) left)
+  room-of Reactions left g h p = omega (arith, g .forming .signals, reacting-signal sheet Γ at k p)
 
   -- what a line that passes adds is what it holds
   adds : (s : Section) → Passes sheet at k (testsOf sheet s Γ)
@@ -65,6 +69,7 @@ module _ (sheet : List ℕ) (Γ : Network) (at k : ℕ) where
       ap (λ (f : List ℕ). withEvent Γ at (length f)) (only-field (lineAt sheet at) one)
   adds Signals p = refl
   adds Rules p = refl
+  adds Reactions p = refl
 
 module _ {sheet : List ℕ} {s : Section} {p : Progress} {left : ℕ} {Γ : Network} {at k : ℕ}
     (here : EntriesLeft sheet s p left Γ at k) (some : 0 < left) where
@@ -87,7 +92,7 @@ module _ {sheet : List ℕ} {s : Section} {p : Progress} {left : ℕ} {Γ : Netw
       let entry = w .1 in
       let size = w .2 in
       record {
-        room = rw entry at (room-of sheet Γ at k s left (here .stage) some);
+        room = rw entry at (room-of sheet Γ at k s left (here .stage) some pass);
         inside = omega (arith, line-inside sheet at (pass .ends));
         next = reads-on left Γ at k here some (w .0) (added x Γ at n) (at + n + 1)
             (adds sheet Γ at k s pass ∙ rw (entry, size)) (omega arith);

@@ -11,8 +11,9 @@ use Rattle.prelude.proofs.Tests.{clash}
 use Rattle.refusal.specs.Refusal.{numberOf}
 use Rattle.refusal.specs.declared.Cause.{Cause}
 use Rattle.network.specs.declared.Network.{Network}
-use Rattle.line.specs.Tests.{Tests, sectionTests, eventTests, signalTests, endsTests, ruleTests}
-use Rattle.line.specs.declared.Section.the-variants.{Events, Signals, Rules}
+use Rattle.line.specs.Tests.{Tests, sectionTests, eventTests, signalTests, endsTests, ruleTests, letterTests}
+use Rattle.line.specs.Tests.{reactionTests}
+use Rattle.line.specs.declared.Section.the-variants.{Events, Signals, Rules, Reactions}
 use Rattle.sheet.specs.Place.{Expected, Horizon, Heading, Entry, NoMore, testsAt, place, tests}
 use Rattle.sheet.specs.Fault.{Fails}
 
@@ -50,13 +51,15 @@ first-fails-lowest lo hi (t ∷ ts) c d o (inr f) (inr g) = first-fails-lowest (
 
 module _ (sheet : List ℕ) where
   expected-in-order : (d : Expected) (Γ : Network) (at : ℕ) → InOrder 1 10 (testsAt sheet d Γ at)
-  unfolding sectionTests eventTests signalTests endsTests ruleTests
+  unfolding sectionTests eventTests signalTests endsTests ruleTests letterTests reactionTests
   expected-in-order Horizon Γ at = omega arith & omega arith & omega arith & omega arith & omega arith
   expected-in-order (Heading s) Γ at = omega arith & omega arith & omega arith & omega arith & omega arith
   expected-in-order (Entry Events m) Γ at = omega arith & omega arith & omega arith & omega arith & omega arith
   expected-in-order (Entry Signals m) Γ at = omega arith & omega arith & omega arith & omega arith & omega arith
       & omega arith
   expected-in-order (Entry Rules m) Γ at =
+      omega arith & omega arith & omega arith & omega arith & omega arith & omega arith & omega arith & omega arith
+  expected-in-order (Entry Reactions m) Γ at =
       omega arith & omega arith & omega arith & omega arith & omega arith & omega arith & omega arith & omega arith
   expected-in-order NoMore Γ at = omega arith & omega arith
 

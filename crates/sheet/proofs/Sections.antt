@@ -19,24 +19,17 @@ use Rattle.line.specs.Tests.{sectionCount}
 use Rattle.line.specs.Sections.{Heading, headingOf, horizonHeading, headingTests}
 use Rattle.line.specs.Answers.{sectionAnswer, headingAt}
 use Rattle.line.specs.declared.Section.{Section}
-use Rattle.line.specs.declared.Section.the-variants.{Events, Signals, Rules}
+use Rattle.line.proofs.Answered.{section-answer-refused, section-answer}
+use Rattle.line.specs.declared.Section.the-variants.{Events, Signals, Rules, Reactions}
 use Rattle.line.specs.declared.HeadingLine.the-variants as S
 use Rattle.sheet.proofs.Places.{line-inside}
 use Rattle.sheet.specs.Reading.{Progress, Stop, Go, andThen, readLine, readEntries, readSection, readHorizon}
-use Rattle.sheet.specs.Reading.{readEnd, longest, answered, read}
+use Rattle.sheet.specs.Reading.{readOptional, readEnd, longest, answered, read}
 use Rattle.sheet.specs.Stage.{toCome, whole, Stage}
 use Rattle.sheet.proofs.ReadLine.{refusalAt, passes, readLine-stop, readLine-on}
 use Rattle.sheet.proofs.Whole.{too-long, in-length}
 use Rattle.sheet.proofs.Passing.{counted}
 use Rattle.sheet.proofs.Stages.{stage-section}
-
-section-answer-refused : (o : Option Cause) (m n : ℕ) (c : Cause) → sectionAnswer o m n ≡ S.Refused c → o ≡ some c
-section-answer-refused none m n c e = zero-is-one cc
-section-answer-refused (some d) m n c e = cc
-
-section-answer : (o : Option Cause) (m n a b : ℕ) → sectionAnswer o m n ≡ S.Count a b → (o ≡ none) × (m ≡ a) × (n ≡ b)
-section-answer none m n a b e = (refl, cc, cc)
-section-answer (some d) m n a b e = zero-is-one cc
 
 -- the line at a place of the sheet, whose remaining part is given
 module _ (sheet : List ℕ) (at k : ℕ) (h : Heading) (rest : List ℕ) (is : rest ≡ drop at sheet) where
@@ -139,8 +132,8 @@ module _ (sheet : List ℕ) where
   pub read-too-long : longest < length sheet → answered (Stop (refusal C.TooLong 0)) ≡ read sheet
   read-too-long h = ap answered (sym (too-long sheet h))
 
-  pub read-whole : (a b c d : Progress) → length sheet ≤ longest → a ≡ readHorizon sheet → b
+  pub read-whole : (a b c d e : Progress) → length sheet ≤ longest → a ≡ readHorizon sheet → b
       ≡ andThen a (readSection sheet Events)
       → c ≡ andThen b (readSection sheet Signals) → d ≡ andThen c (readSection sheet Rules)
-      → answered (andThen d (readEnd sheet)) ≡ read sheet
-  read-whole a b c d h i j k l = rw (in-length sheet h, l, k, j, i)
+      → e ≡ andThen d (readOptional sheet Reactions) → answered (andThen e (readEnd sheet)) ≡ read sheet
+  read-whole a b c d e h i j k l m = rw (in-length sheet h, m, l, k, j, i)

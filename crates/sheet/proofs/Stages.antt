@@ -19,7 +19,7 @@ use Rattle.names.specs.Names.{isName}
 use Rattle.line.specs.Tests.{eventTests}
 use Rattle.line.specs.Sections.{headingOf}
 use Rattle.line.specs.declared.Section.{Section}
-use Rattle.line.specs.declared.Section.the-variants.{Events, Signals, Rules}
+use Rattle.line.specs.declared.Section.the-variants.{Events, Signals, Rules, Reactions}
 use Rattle.line.proofs.Checks.{all-hold}
 use Rattle.sheet.proofs.Places.{first-field, line-inside}
 use Rattle.sheet.specs.Stage.{toCome, whole, Stage}
@@ -56,6 +56,7 @@ module _ (sheet : List ℕ) {Γ : Network} {at k : ℕ} where
           observed = w .observed;
           one-signal = w .one-signal;
           proper = w .proper;
+          reacts = w .reacts;
         };
         named = g .named;
         inside = i;
@@ -78,6 +79,8 @@ module _ (sheet : List ℕ) {Γ : Network} {at k : ℕ} where
       by-section Signals lo hi g = stage-on (omega arith) hi (omega arith) (g .forming .some-event)
           (line-inside sheet at p) on g
       by-section Rules lo hi g = stage-on (omega arith) (omega arith) hi (g .forming .some-event)
+          (line-inside sheet at p) on g
+      by-section Reactions lo hi g = stage-on (omega arith) (omega arith) (omega arith) (g .forming .some-event)
           (line-inside sheet at p) on g
 
   -- an event
@@ -113,6 +116,7 @@ module _ (sheet : List ℕ) {Γ : Network} {at k : ℕ} where
                 positive = x .positive;
                 negative = x .negative;
               };
+          reacts = w .reacts;
         };
         named = record {
           inside = λ u h.

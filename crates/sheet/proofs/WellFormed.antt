@@ -2,6 +2,7 @@
 -- read one by one (ReadLine), and the sections one behind the other. Assumes nothing.
 use mathlib.Core.Path.{_≡_, refl, sym, _∙_}
 use mathlib.Core.Option.{Option, none, some}
+use mathlib.Core.Bool.{Bool, true, false, cond}
 use mathlib.Core.List.{List}
 use Prim.Native.Nat.{ℕ, suc, _≤_}
 use native.Mathlib.Omega.{arith}
@@ -17,16 +18,17 @@ use Rattle.network.specs.WellFormed.{WellFormed, Named}
 use Rattle.network.specs.declared.Network.{Network}
 use Rattle.line.specs.Tests.{sectionCount}
 use Rattle.line.specs.Sections.{headingOf, horizonHeading, headingTests}
+use Rattle.network.proofs.Strategy.{reaction-empty}
 use Rattle.line.specs.declared.Section.{Section}
-use Rattle.line.specs.declared.Section.the-variants.{Events, Signals, Rules}
+use Rattle.line.specs.declared.Section.the-variants.{Events, Signals, Rules, Reactions}
 use Rattle.sheet.proofs.Places.{line-inside}
 use Rattle.sheet.specs.Reading.{Progress, Stop, Go, stopOr, andThen, readEntries, readSection, readHorizon}
-use Rattle.sheet.specs.Reading.{endTests, readEnd, progress, read, answered}
+use Rattle.sheet.specs.Reading.{follows, readOptional, endTests, readEnd, progress, read, answered}
 use Rattle.sheet.specs.Stage.{toCome, whole, Stage}
 use Rattle.sheet.specs.Reached.{Ready}
 use Rattle.sheet.specs.declared.Outcome.the-variants.{Accepted}
 use Rattle.sheet.proofs.ReadLine.{stop-not-go, came, went, entries-keep}
-use Rattle.sheet.proofs.Whole.{toEvents, toSignals, toRules, within-length}
+use Rattle.sheet.proofs.Whole.{toEvents, toSignals, toRules, toReactions, within-length}
 use Rattle.sheet.proofs.Arrays.{arrays-empty}
 use Rattle.sheet.proofs.Passing.{counted}
 use Rattle.sheet.proofs.Stages.{stage-section}
@@ -46,6 +48,7 @@ module _ (sheet : List ℕ) where
       observed = λ p q. absurd (omega arith);
       one-signal = λ p q a c e. absurd (omega arith);
       proper = λ c q. absurd (omega arith);
+      reacts = λ p. omega (arith, reaction-empty h p);
     };
     named = record { inside = λ u q. absurd (omega arith); short = λ u q. absurd (omega arith) };
     inside = i;
@@ -84,6 +87,19 @@ module _ (sheet : List ℕ) where
       entries-keep sheet s (Before sheet s) (stage-keeps sheet s) (sectionCount fs) Γ Δ (afterLine sheet at) (suc k) b j
       (stage-section sheet s (sectionCount fs) (w .passed .ends) (n .least) (n .most) (h Γ at k (c .first))) (w .then)
 
+  -- an optional section: behind it, or where it would begin, the sheet is ready for the end
+  pub optional-ready : (s : Section) (p q : Progress) → q ≡ andThen p (readOptional sheet s)
+      → ((Γ : Network) (at k : ℕ) → Stage sheet (whole s) Γ at k → Stage sheet (toCome s 0) Γ at k)
+      → Ready sheet (whole s) p → Ready sheet (toCome s 0) q
+  optional-ready s p q i absent h Δ b j e =
+      let c = came p (readOptional sheet s) Δ b j (sym i ∙ e) in
+      by-bytes (c .network) (c .at) (c .line) (follows sheet (c .at)) (c .first) (c .then)
+    where
+      by-bytes : (Γ : Network) (at k : ℕ) (more : Bool) → p ≡ Go Γ at k
+          → cond more (readSection sheet s Γ at k) (Go Γ at k) ≡ Go Δ b j → Stage sheet (toCome s 0) Δ b j
+      by-bytes Γ at k true f t = section-ready s p (readSection sheet s Γ at k) (rw f) h Δ b j t
+      by-bytes Γ at k false f t = absent Δ b j (h Δ b j (f ∙ t))
+
   -- what is left at the end
   ended : (Γ Δ : Network) (at k b j : ℕ) → readEnd sheet Γ at k ≡ Go Δ b j → Γ ≡ Δ
   ended Γ Δ at k b j e = by-refusal (firstFailing (endTests sheet at)) e
@@ -93,16 +109,17 @@ module _ (sheet : List ℕ) where
       by-refusal none e = cc
 
   -- the sections one behind the other
-  sections-ready : Ready sheet (toCome Rules 0) (toRules sheet)
+  sections-ready : Ready sheet (toCome Reactions 0) (toReactions sheet)
   sections-ready =
-      section-ready Rules (toSignals sheet) (toRules sheet) refl
+      optional-ready Reactions (toRules sheet) (toReactions sheet) refl (λ Γ at k g. g)
+      (section-ready Rules (toSignals sheet) (toRules sheet) refl
       (section-ready Signals (toEvents sheet) (toSignals sheet) refl
-      (section-ready Events (readHorizon sheet) (toEvents sheet) refl (horizon-ready (readHorizon sheet) refl)))
+      (section-ready Events (readHorizon sheet) (toEvents sheet) refl (horizon-ready (readHorizon sheet) refl))))
 
   read-stage : (Γ : Network) (at k : ℕ) → progress sheet ≡ Go Γ at k → (b : ℕ) × (j : ℕ)
-      × Stage sheet (toCome Rules 0) Γ b j
+      × Stage sheet (toCome Reactions 0) Γ b j
   read-stage Γ at k e =
-      let w = came (toRules sheet) (readEnd sheet) Γ at k (within-length sheet Γ at k e .1) in
+      let w = came (toReactions sheet) (readEnd sheet) Γ at k (within-length sheet Γ at k e .1) in
       let same = ended (w .network) Γ (w .at) (w .line) at k (w .then) in
       (w .at, w .line, rw same at (sections-ready (w .network) (w .at) (w .line) (w .first)))
 

@@ -10,8 +10,9 @@ use Rattle.prelude.proofs.Tests.{lt-or-ge}
 use Rattle.refusal.specs.Refusal.{refusal}
 use Rattle.refusal.specs.declared.Cause.the-variants.{TooLong}
 use Rattle.network.specs.declared.Network.{Network}
-use Rattle.line.specs.declared.Section.the-variants.{Events, Signals, Rules}
-use Rattle.sheet.specs.Reading.{longest, Progress, Stop, Go, andThen, readHorizon, readSection, readEnd, progress}
+use Rattle.line.specs.declared.Section.the-variants.{Events, Signals, Rules, Reactions}
+use Rattle.sheet.specs.Reading.{longest, Progress, Stop, Go, andThen, readHorizon, readSection, readEnd}
+use Rattle.sheet.specs.Reading.{readOptional, progress}
 use Rattle.sheet.proofs.ReadLine.{stop-not-go}
 
 module _ (sheet : List ℕ) where
@@ -25,8 +26,11 @@ module _ (sheet : List ℕ) where
   abbrev pub toRules : Progress
   toRules = andThen toSignals (readSection sheet Rules)
 
+  abbrev pub toReactions : Progress
+  toReactions = andThen toRules (readOptional sheet Reactions)
+
   abbrev pub toEnd : Progress
-  toEnd = andThen toRules (readEnd sheet)
+  toEnd = andThen toReactions (readEnd sheet)
 
   pub too-long : longest < length sheet → progress sheet ≡ Stop (refusal TooLong 0)
   unfolding progress

@@ -1,5 +1,6 @@
--- What is expected on each line of a sheet, and the tests of that place (01, The sheet and Refused sheets and calls).
-use mathlib.Core.Bool.{Bool}
+-- What is expected on each line of a sheet, and the tests of that place (01, The sheet and Refused sheets and calls; 02,
+-- point 3).
+use mathlib.Core.Bool.{Bool, true, false}
 use mathlib.Core.List.{List}
 use Prim.Native.Nat.{ℕ, zero, suc}
 use lib.ListN.{drop}
@@ -9,7 +10,7 @@ use Rattle.network.specs.declared.Network.{Network}
 use Rattle.line.specs.Tests.{Tests, lineTests, sectionCount}
 use Rattle.line.specs.Sections.{headingOf, horizonHeading, headingTests, testsOf, withLine}
 use Rattle.line.specs.declared.Section.{Section}
-use Rattle.line.specs.declared.Section.the-variants.{Events, Signals, Rules}
+use Rattle.line.specs.declared.Section.the-variants.{Events, Signals, Rules, Reactions}
 use Rattle.sheet.specs.Reading.{follows, endTests}
 
 -- what is expected on a line: the horizon, the word and the count of a section, a line of a section with so many more
@@ -21,11 +22,13 @@ pub data Expected : Type 0 where
   NoMore : Expected
 
 -- "Sections stand in this order, each after its count" (01, The sheet). What is expected behind a section is told
--- whether bytes follow, since a section may be absent (02, points 3 and 6); of these three none may
+-- whether bytes follow: the reactions may be absent, and "Any byte after the last rule begins this section" (02, point 3)
 abbrev pub behind : Section → Bool → Expected
 behind Events more = Heading Signals
 behind Signals more = Heading Rules
-behind Rules more = NoMore
+behind Rules true = Heading Reactions
+behind Rules false = NoMore
+behind Reactions more = NoMore
 
 -- so many lines of a section, and then what is behind it
 abbrev pub entries : Section → Bool → ℕ → Expected
@@ -50,7 +53,7 @@ abbrev pub top : Place
 top = record { expected = Horizon; network = empty 0; at = 0 }
 
 module _ (sheet : List ℕ) where
-  -- the tests of what is expected; behind the last rule no byte follows
+  -- the tests of what is expected; behind the last section no byte follows
   abbrev pub testsAt : Expected → Network → ℕ → Tests
   testsAt Horizon Γ at = lineTests (drop at sheet) (headingTests horizonHeading)
   testsAt (Heading s) Γ at = lineTests (drop at sheet) (headingTests (headingOf s))

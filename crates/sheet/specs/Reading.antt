@@ -1,5 +1,5 @@
--- The whole sheet: its sections in order, and the first line at fault (01, The sheet and Refused sheets).
-use mathlib.Core.Bool.{Bool, true, false, not}
+-- The whole sheet: its sections in order, and the first line at fault (01, The sheet and Refused sheets; 02, point 3).
+use mathlib.Core.Bool.{Bool, true, false, not, cond}
 use mathlib.Core.Option.{Option, none, some}
 use mathlib.Core.List.{List, [], _∷_}
 use Prim.Native.Nat.{ℕ, zero, suc}
@@ -16,7 +16,7 @@ use Rattle.network.specs.declared.Network.{Network}
 use Rattle.line.specs.Tests.{Tests, lineTests, sectionCount}
 use Rattle.line.specs.Sections.{headingOf, horizonHeading, headingTests, testsOf, withLine}
 use Rattle.line.specs.declared.Section.{Section}
-use Rattle.line.specs.declared.Section.the-variants.{Events, Signals, Rules}
+use Rattle.line.specs.declared.Section.the-variants.{Events, Signals, Rules, Reactions}
 use Rattle.sheet.specs.declared.Outcome.the-variants.{Accepted, Refused}
 use Rattle.sheet.specs.declared.Reading.{Reading}
 
@@ -62,7 +62,11 @@ module _ (sheet : List ℕ) where
   abbrev pub follows : ℕ → Bool
   follows at = ltb at (length sheet)
 
-  -- "Bytes follow the last rule; the line is the one that they begin"
+  -- a section that may be absent: any byte that stands here begins it
+  abbrev pub readOptional : Section → Network → ℕ → ℕ → Progress
+  readOptional s Γ at k = cond (follows at) (readSection s Γ at k) (Go Γ at k)
+
+  -- bytes behind the last section; "the line is the one that they begin"
   abbrev pub endTests : ℕ → Tests
   endTests at = (not (follows at), C.TrailingBytes) ∷ []
 
@@ -75,8 +79,9 @@ module _ (sheet : List ℕ) where
       elim (leb (length sheet) longest) [
         | false ↦ Stop (refusal C.TooLong 0)
         | true ↦
-            andThen (andThen (andThen (andThen readHorizon (readSection Events)) (readSection Signals))
+            andThen (andThen (andThen (andThen (andThen readHorizon (readSection Events)) (readSection Signals))
             (readSection Rules))
+            (readOptional Reactions))
             readEnd
       ]
 

@@ -7,13 +7,14 @@ use Rattle.network.specs.WellFormed.{ToCome, Forming, Named}
 use Rattle.network.specs.declared.Network.{Network}
 use Rattle.line.specs.Sections.{headingOf}
 use Rattle.line.specs.declared.Section.{Section}
-use Rattle.line.specs.declared.Section.the-variants.{Events, Signals, Rules}
+use Rattle.line.specs.declared.Section.the-variants.{Events, Signals, Rules, Reactions}
 
--- m lines of this section, and all that stand behind it
+-- m lines of this section, and all that stand behind it; a reaction needs no room of its own
 abbrev pub toCome : Section → ℕ → ToCome
 toCome Events m = record { events = m; signals = L.signals; rules = L.rules }
 toCome Signals m = record { events = 0; signals = m; rules = L.rules }
 toCome Rules m = record { events = 0; signals = 0; rules = m }
+toCome Reactions m = record { events = 0; signals = 0; rules = 0 }
 
 -- the whole section
 abbrev pub whole : Section → ToCome

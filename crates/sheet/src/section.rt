@@ -5,7 +5,7 @@ ghost use Prim.Native.Nat.{_≤_};
 ghost use lib.ListN.{length, drop};
 ghost use Rattle.refusal.specs.Refusal.{refusal};
 ghost use Rattle.sheet.specs.Reading.{longest, Stop, andThen, readEntries, readSection, readHorizon, readEnd};
-ghost use Rattle.sheet.specs.Reading.{answered};
+ghost use Rattle.sheet.specs.Reading.{readOptional, answered};
 ghost use Rattle.sheet.specs.Stage.{Stage, toCome, whole};
 ghost use Rattle.sheet.specs.Reached.{progressOf, Ready};
 use super::Outcome;
@@ -50,6 +50,7 @@ fn read_entries(
             w.signals,
             &w.letters,
             &w.observations,
+            &w.reactions,
         );
         match read {
             EntryLine::Refused(cause) => {
@@ -76,6 +77,9 @@ fn read_entries(
                         let n = w.rules;
                         w.constraints[n] = constraint;
                         w.rules = n + 1;
+                    }
+                    Entry::Reaction { signal, minutes } => {
+                        w.reactions[signal] = minutes;
                     }
                 }
                 place = place + length + 1;
@@ -153,6 +157,23 @@ pub(crate) fn read_after(section: Section, sheet: &[u8], reached: Reached) -> Re
     match step {
         Step::Refused(_) => reached,
         Step::Next { at, line } => read_section(section, sheet, &sheet[at..], at, line, network),
+    }
+}
+
+// A section that may be absent: it is there where any byte follows.
+pub(crate) fn read_optional(section: Section, sheet: &[u8], reached: Reached) -> Reached
+    requires { ⌜ (length (now sheet) ≤ longest) × Ready (now sheet) (whole section) (progressOf reached) ⌝ }
+    ensures { λ r. ⌜ progressOf r ≡ andThen (progressOf reached) (readOptional (now (sheet .entry)) section) ⌝ }
+{
+    let step = reached.step;
+    match step {
+        Step::Refused(_) => reached,
+        Step::Next { at, .. } => {
+            if at < sheet.len() {
+                return read_after(section, sheet, reached);
+            }
+            reached
+        }
     }
 }
 

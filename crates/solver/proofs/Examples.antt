@@ -10,7 +10,7 @@ use Rattle.fixpoint.specs.Run.{Run, End, Rests, Passes, Spent, runFrom}
 use Rattle.network.specs.Build.{empty, withEvent, withSignal, withRule}
 use Rattle.network.specs.Scenario.{satisfies}
 use Rattle.network.specs.Constraint.{covers}
-use Rattle.network.specs.Strategy.{reaction}
+use Rattle.network.specs.Strategy.{reactionOf}
 use Rattle.network.specs.declared.Kind.{Kind}
 use Rattle.network.specs.declared.Kind.the-variants.{Max, Min}
 use Rattle.network.specs.declared.Constraint.{Constraint}
@@ -76,5 +76,5 @@ pub rounds-and-runs :
     -- a budget that is used up leaves the floor reached so far
     ∷ isRun (runFrom (propagate (ring 4)) (cap (ring 4)) 0 3 (floor (ring 4))) 3 2 (0 ∷ 2 ∷ 1 ∷ [])
     ∷ []) ≡ true
-unfolding satisfies covers reaction propagate solve
+unfolding satisfies covers reactionOf propagate solve
 rounds-and-runs = refl

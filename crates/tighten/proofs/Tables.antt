@@ -1,7 +1,7 @@
 -- Which tables keep the upper bounds: of networks that agree in all but names, letters and rules, a table that solves
 -- the first solves the second where each upper bound of the second has one as tight among those of the first. So they
 -- have the same solutions where the same ones remain. Assumes nothing.
-use mathlib.Core.Path.{_≡_, refl, sym, _∙_, ap}
+use mathlib.Core.Path.{_≡_, sym, _∙_, ap}
 use mathlib.Core.Logic.{_↔_}
 use mathlib.Core.Bool.{true}
 use mathlib.Core.List.{List}
@@ -35,6 +35,7 @@ pub record Agree (Γ Δ : Network) : Type 0 where
   pub events : Γ .events ≡ Δ .events
   pub signals : Γ .signals ≡ Δ .signals
   pub observations : (p : ℕ) → p < Γ .signals → observation Γ p ≡ observation Δ p
+  pub reactions : (p : ℕ) → p < Γ .signals → reaction Γ p ≡ reaction Δ p
 
 pub agree-sym : {Γ Δ : Network} → Agree Γ Δ → Agree Δ Γ
 agree-sym a = record {
@@ -42,14 +43,11 @@ agree-sym a = record {
   events = sym (a .events);
   signals = sym (a .signals);
   observations = λ p h. sym (a .observations p (omega (arith, a .signals)));
+  reactions = λ p h. sym (a .reactions p (omega (arith, a .signals)));
 }
 
 module _ {Γ Δ : Network} (a : Agree Γ Δ) where
-  -- they react alike, and upper bounds of one key cover the same scenarios
-  reaction-agree : (p : ℕ) → reaction Γ p ≡ reaction Δ p
-  unfolding reaction
-  reaction-agree p = refl
-
+  -- upper bounds of one key cover the same scenarios
   covers-agree : (x y : Constraint) → keyOf x ≡ keyOf y → (s : ℕ) → covers Γ x s ≡ covers Δ y s
   covers-agree x y e s = covers-satisfies Γ x s ∙ ap (satisfies s) (key-label x y e) ∙ sym (covers-satisfies Δ y s)
 
@@ -64,7 +62,7 @@ module _ {Γ Δ : Network} (a : Agree Γ Δ) where
     time-agree s u = ap (λ (n : ℕ). time n σ s u) (a .events)
 
     knownFrom-agree : (s p : ℕ) → p < Γ .signals → knownFrom Γ σ s p ≡ knownFrom Δ σ s p
-    knownFrom-agree s p h = rw (reaction-agree p, a .events, a .observations p h)
+    knownFrom-agree s p h = rw (a .reactions p h, a .events, a .observations p h)
 
     on-time-agree : (s u : ℕ) → OnTime Γ σ s u → OnTime Δ σ s u
     on-time-agree s u o = record {

@@ -16,7 +16,8 @@ slice-aggregate-hand-out c = sym (length-take-le _ _ (omega arith))
 returns : tie.Need-returns
 returns c =
     let handed = c .before .before in
-    let rules = handed .before .before .before .before in
+    let reactions = handed .before .before .before .before in
+    let rules = reactions .before .before .before in
     let signals = rules .before .before .before in
     let events = signals .before .before .before in
     let horizon = events .before .before .before in
@@ -27,6 +28,7 @@ returns c =
     (events .push-events .ensures)
     (signals .push-signals .ensures)
     (rules .push-rules .ensures)
+    (reactions .push-reactions .ensures)
     in
     rw (append-front whole .1) at (handed .hand-out .ensures)
 
@@ -35,4 +37,4 @@ write-spec =
     tie.close
     (tie.spec (λ c. search needs) (λ c. search needs) (λ c κs. search needs) (λ c. search needs)
     (λ c κs. search needs) (λ c. search needs) (λ c κs. search needs) (λ c. search needs) (λ c κs. search needs)
-    (λ c. search needs) slice-aggregate-hand-out (λ c κs. search needs) (λ c. search needs) returns)
+    (λ c. search needs) (λ c κs. search needs) (λ c. search needs) slice-aggregate-hand-out (λ c κs. search needs) (λ c. search needs) returns)

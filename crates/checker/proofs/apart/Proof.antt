@@ -18,14 +18,15 @@ use Rattle.checker.proofs.apart.Statement.{statement}
 use Rattle.checker.proofs.apart.Tie as tie
 
 abbrev Inv-loop : tie.InvT-loop
-Inv-loop σ os n k s r first₀ p₀ first p =
-    (p ≤ k) × ((Γ : Network) → n ≡ Γ .events → os ≡ Γ .observations → first ≡ leastKnown Γ σ s r never p)
+Inv-loop σ os xs n k s r first₀ p₀ first p =
+    (p ≤ k) × ((Γ : Network) → n ≡ Γ .events → os ≡ Γ .observations → xs ≡ Γ .reactions
+    → first ≡ leastKnown Γ σ s r never p)
 
 abbrev μ-loop : tie.MeasureT-loop
-μ-loop σ os n k s r first₀ p₀ first p = k - p
+μ-loop σ os xs n k s r first₀ p₀ first p = k - p
 
 loop-holds : tie.Need-loop-holds Inv-loop μ-loop
-loop-holds c = (omega arith, λ Γ d e. refl)
+loop-holds c = (omega arith, λ Γ d e f. refl)
 
 agree-requires : tie.Need-agree-requires Inv-loop μ-loop
 agree-requires c κs =
@@ -40,9 +41,17 @@ element-copy-out-observation c =
     let asked = c .before .before .before .before .before .pre .0 in
     omega (arith, asked .few, asked .array)
 
+element-copy-out-given : tie.Need-element-copy-out-given Inv-loop μ-loop
+element-copy-out-given c =
+    let asked = c .before .before .before .before .before .before .pre .0 in
+    omega (arith, asked .few, asked .reactions)
+
+mul-given : tie.Need-mul-given Inv-loop μ-loop
+mul-given c = omega (arith, c .before .before .before .before .before .before .pre .0 .few)
+
 known-after-requires : tie.Need-known-after-requires Inv-loop μ-loop
 known-after-requires c κs =
-    let in-loop = c .before .before .before in
+    let in-loop = c .before .before .before .before in
     in-loop .before .before .before .pre .0 .inside (in-loop .before .loop .p) (in-loop .loop-test .taken)
 
 add-p : tie.Need-add-p Inv-loop μ-loop
@@ -57,12 +66,12 @@ loop-again c =
     let differ : ℕ → Bool = λ q. not (agree (a .s) (a .r) q) in
     let σ = now (a .table) in (
       omega arith,
-      λ Γ d e.
-          let here = at-loop .loop .inv .1 Γ d e in
+      λ Γ d e f.
+          let here = at-loop .loop .inv .1 Γ d e f in
           let known = knownFrom Γ σ (a .s) in
           ⊎-elim
           (λ w.
-          w .4 ∙ w .3 .ensures ∙ ap₂ min here (w .2 .ensures ∙ known-part Γ σ (a .s) p d e)
+          w .5 ∙ w .4 .ensures ∙ ap₂ min here (w .3 .ensures ∙ known-part Γ σ (a .s) p d e f)
           ∙ sym (minWhere-more differ known never p (rw (← agreed) (w .0 .taken))))
           (λ w. w .1 ∙ here ∙ sym (minWhere-skip differ known never p (rw (← agreed) (w .0 .left))))
           (c .if1 .came),
@@ -71,10 +80,10 @@ loop-again c =
 returns : tie.Need-returns Inv-loop μ-loop
 returns c =
     let all : c .before .loop .p ≡ c .before .before .before .args .signals = omega arith in
-    λ Γ d e. rw (← all) (c .before .loop .inv .1 Γ d e)
+    λ Γ d e f. rw (← all) (c .before .loop .inv .1 Γ d e f)
 
 pub apart-spec : {M : Type 1} → statement M
 apart-spec =
     tie.close
     (tie.spec Inv-loop μ-loop loop-holds agree-requires mul-observation element-copy-out-observation
-    known-after-requires (λ c κs. search needs) add-p (λ c. search needs) loop-again returns)
+    mul-given element-copy-out-given known-after-requires (λ c κs. search needs) add-p (λ c. search needs) loop-again returns)

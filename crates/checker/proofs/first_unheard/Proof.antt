@@ -21,42 +21,54 @@ use Rattle.checker.proofs.first_unheard.Statement.{statement}
 use Rattle.checker.proofs.first_unheard.Tie as tie
 
 abbrev Inv-loop2 : tie.InvT-loop2
-Inv-loop2 Γ σ n os cases found₀ s r told u₀ found u =
+Inv-loop2 Γ σ n os xs cases found₀ s r told u₀ found u =
     Seeking (λ v. unless (isAlike Γ σ s r v) (Unheard s r v)) n u found
 
 abbrev μ-loop2 : tie.MeasureT-loop2
-μ-loop2 Γ σ n os cases found₀ s r told u₀ found u = n - u
+μ-loop2 Γ σ n os xs cases found₀ s r told u₀ found u = n - u
 
 abbrev Inv-loop : tie.InvT-loop
-Inv-loop Γ σ n os cases found₀ s r₀ found r = Seeking (unheardIn Γ σ s) (scenarios Γ) r found
+Inv-loop Γ σ n os xs cases found₀ s r₀ found r = Seeking (unheardIn Γ σ s) (scenarios Γ) r found
 
 abbrev μ-loop : tie.MeasureT-loop
-μ-loop Γ σ n os cases found₀ s r₀ found r = scenarios Γ - r
+μ-loop Γ σ n os xs cases found₀ s r₀ found r = scenarios Γ - r
 
 abbrev Inv-unheard : tie.InvT-unheard
-Inv-unheard Γ σ n os cases found₀ s₀ found s = Seeking (unheardFrom Γ σ) (scenarios Γ) s found
+Inv-unheard Γ σ n os xs cases found₀ s₀ found s = Seeking (unheardFrom Γ σ) (scenarios Γ) s found
 
 abbrev μ-unheard : tie.MeasureT-unheard
-μ-unheard Γ σ n os cases found₀ s₀ found s = scenarios Γ - s
+μ-unheard Γ σ n os xs cases found₀ s₀ found s = scenarios Γ - s
+
+-- the places of the three loops, each from the next
+abbrev start : tie.In-unheard Inv-loop2 μ-loop2 Inv-loop μ-loop Inv-unheard μ-unheard
+    → tie.Start Inv-loop2 μ-loop2 Inv-loop μ-loop Inv-unheard μ-unheard
+start c = c .before .before .before .before .before .before
+
+abbrev outer : tie.In-loop Inv-loop2 μ-loop2 Inv-loop μ-loop Inv-unheard μ-unheard
+    → tie.In-unheard Inv-loop2 μ-loop2 Inv-loop μ-loop Inv-unheard μ-unheard
+outer c = c .before .before
+
+abbrev inner : tie.In-loop2 Inv-loop2 μ-loop2 Inv-loop μ-loop Inv-unheard μ-unheard
+    → tie.In-loop Inv-loop2 μ-loop2 Inv-loop μ-loop Inv-unheard μ-unheard
+inner c = c .before .before .before .before .before
 
 -- what the code compares of an event
 compared : (c : tie.After-time-of Inv-loop2 μ-loop2 Inv-loop μ-loop Inv-unheard μ-unheard)
-    → let a = c .before .before .before .before .before .before .before .before .before .before .before .before .args in
-    let s = c .before .before .before .before .before .before .before .before .unheard .s in
-    let r = c .before .before .before .before .before .before .loop .r in
-    Compared (a .network) (now (a .table)) s r (c .before .before .loop2 .u) (c .before .before .before .apart .result)
-    (c .time-of .result)
+    → let at-event = c .before in
+    let at-other = inner at-event in
+    let a = start (outer at-other) .args in
+    Compared (a .network) (now (a .table)) (outer at-other .before .unheard .s) (at-other .before .loop .r)
+    (at-event .before .loop2 .u) (at-event .before .before .apart .result) (c .time-of .result)
 compared c =
-    let a = c .before .before .before .before .before .before .before .before .before .before .before .before .args in
     record {
-      told-is = c .before .before .before .apart .ensures (a .network) refl refl;
+      told-is = c .before .before .before .apart .ensures (start (outer (inner (c .before))) .args .network) refl refl refl;
       mine-is = c .time-of .ensures;
       small = omega arith;
     }
 
 scenario-count-requires :
     tie.Need-scenario-count-requires Inv-loop2 μ-loop2 Inv-loop μ-loop Inv-unheard μ-unheard
-scenario-count-requires c κs = c .before .before .pre .0 .signals
+scenario-count-requires c κs = c .before .before .before .pre .0 .signals
 
 unheard-holds : tie.Need-unheard-holds Inv-loop2 μ-loop2 Inv-loop μ-loop Inv-unheard μ-unheard
 unheard-holds c = seeking-start _ _ refl
@@ -66,34 +78,33 @@ loop-holds c = seeking-start _ _ (c .before .unheard .inv .nothing)
 
 apart-requires : tie.Need-apart-requires Inv-loop2 μ-loop2 Inv-loop μ-loop Inv-unheard μ-unheard
 apart-requires c κs =
-    let start = c .before .before .before .before .before .before .before .before in
-    let Γ = start .args .network in
-    let σ = now (start .args .table) in
-    let s = c .before .before .before .before .unheard .s in
-    let r = c .before .before .loop .r in
-    (observed Γ σ (start .pre) s (omega arith), scenario-lt Γ σ (start .pre) r (omega arith))
+    let at-other = c .before .before in
+    let z = start (outer at-other) in
+    let Γ = z .args .network in
+    let σ = now (z .args .table) in
+    let s = outer at-other .before .unheard .s in
+    let r = at-other .before .loop .r in
+    (observed Γ σ (z .pre) s (omega arith), scenario-lt Γ σ (z .pre) r (omega arith))
 
 loop2-holds : tie.Need-loop2-holds Inv-loop2 μ-loop2 Inv-loop μ-loop Inv-unheard μ-unheard
-loop2-holds c = seeking-start _ _ (c .before .before .before .loop .inv .nothing)
+loop2-holds c = seeking-start _ _ (c .before .before .before .before .loop .inv .nothing)
 
 time-of-requires :
     tie.Need-time-of-requires Inv-loop2 μ-loop2 Inv-loop μ-loop Inv-unheard μ-unheard
 time-of-requires c κs =
-    let start = c .before .before .before .before .before .before .before .before .before .before .before in
-    let s = c .before .before .before .before .before .before .before .unheard .s in
-    cell-in (start .args .network) (now (start .args .table)) (start .pre .1) s (c .before .loop2 .u) (omega arith)
-    (c .loop2-test .taken)
+    let at-case = outer (inner c) in
+    let z = start at-case in
+    cell-in (z .args .network) (now (z .args .table)) (z .pre .1) (at-case .before .unheard .s) (c .before .loop2 .u)
+    (omega arith) (c .loop2-test .taken)
 
 time-of-requires-2 :
     tie.Need-time-of-requires-2 Inv-loop2 μ-loop2 Inv-loop μ-loop Inv-unheard μ-unheard
 time-of-requires-2 c κs =
-    let in-loop = c .before .before in
-    let start = c .before .before .before .before .before .before .before .before .before .before .before
-    .before .before in
-    let r = c .before .before .before .before .before .before .before .loop .r in
-    let u = in-loop .before .loop2 .u in
-    cell-in (start .args .network) (now (start .args .table)) (start .pre .1) r u (omega arith)
-    (in-loop .loop2-test .taken)
+    let at-event = c .before .before in
+    let at-other = inner at-event in
+    let z = start (outer at-other) in
+    cell-in (z .args .network) (now (z .args .table)) (z .pre .1) (at-other .before .loop .r)
+    (at-event .before .loop2 .u) (omega arith) (at-event .loop2-test .taken)
 
 loop2-again : tie.Need-loop2-again Inv-loop2 μ-loop2 Inv-loop μ-loop Inv-unheard μ-unheard
 loop2-again c =
@@ -106,7 +117,7 @@ loop2-again c =
 
 loop-again : tie.Need-loop-again Inv-loop2 μ-loop2 Inv-loop μ-loop Inv-unheard μ-unheard
 loop-again c =
-    let at-loop = c .before .before .before .before .before in
+    let at-loop = c .before .before .before .before .before .before in
     past-row (at-loop .loop .inv) (c .before .loop2 .inv) refl (omega arith) (c .loop2-test .left)
 
 unheard-again : tie.Need-unheard-again Inv-loop2 μ-loop2 Inv-loop μ-loop Inv-unheard μ-unheard
@@ -122,12 +133,12 @@ returns-2 c =
     let theirs = c .before .time-of2 in
     let unheard = not-alike here (theirs .result) (theirs .ensures) (c .before .before .if1 .taken)
     (not-true _ (c .if2 .taken)) in
-    let in-loop2 = c .before .before .before .before in
-    let at-loop = in-loop2 .before .before .before .before .before in
-    let at-unheard = at-loop .before .before in
-    let breach = Unheard (at-unheard .unheard .s) (at-loop .loop .r) (in-loop2 .before .loop2 .u) in
-    let at = row-hit (at-loop .loop .inv) (in-loop2 .before .loop2 .inv) refl breach (omega arith) in
-    let found = hit (at-unheard .unheard .inv) breach (omega arith) (at (in-loop2 .loop2-test .taken) (rw unheard)) in
+    let at-event = c .before .before .before .before in
+    let at-other = inner at-event .before in
+    let at-case = outer (inner at-event) .before in
+    let breach = Unheard (at-case .unheard .s) (at-other .loop .r) (at-event .before .loop2 .u) in
+    let at = row-hit (at-other .loop .inv) (at-event .before .loop2 .inv) refl breach (omega arith) in
+    let found = hit (at-case .unheard .inv) breach (omega arith) (at (at-event .loop2-test .taken) (rw unheard)) in
     ap verdictOf (sym found)
 
 pub first-unheard-spec : {M : Type 1} → statement M

@@ -6,7 +6,7 @@ use borrow.Author.Needs.{needs}
 use borrow.Author.Tests.{not-true, not-false}
 use denote.Ref.{now}
 use Rattle.network.specs.Build.{observation}
-use Rattle.network.proofs.Strategy.{cell-in, known-after-is}
+use Rattle.network.proofs.Strategy.{cell-in}
 use Rattle.dispatch.specs.Due.{asHeard}
 use Rattle.dispatch.specs.Said.{saidOn}
 use Rattle.prelude.proofs.Bounded.{Passing, passing-start, passing-on, failed-at, passed-all}
@@ -20,49 +20,53 @@ Inv-loop σ m x s Γ n k p₀ p = Passing (asHeard Γ σ m (saidOn x) s) (Γ .si
 abbrev μ-loop : tie.MeasureT-loop
 μ-loop σ m x s Γ n k p₀ p = Γ .signals - p
 
+-- the turn of the loop in which a signal is asked for
+abbrev in-loop : tie.After-as-said Inv-loop μ-loop → tie.In-loop Inv-loop μ-loop
+in-loop c = c .before .before .before .before .before .before
+
 -- the code's test of a signal
 tested : (c : tie.After-as-said Inv-loop μ-loop)
-    → let at-loop = c .before .before .before .before .before .before in
+    → let at-loop = in-loop c .before in
     let a = at-loop .before .before .args in
     c .as-said .result ≡ asHeard (a .t1) (now (a .table)) (a .minute) (saidOn (a .said)) (a .s) (at-loop .loop .p)
 tested c =
     let at-known = c .before .before in
-    let at-loop = at-known .before .before .before .before in
+    let at-loop = in-loop c .before in
     let a = at-loop .before .before .args in
     let p = at-loop .loop .p in
     let known = at-known .known-after in
     c .as-said .ensures
     ∙ as-heard-is (a .t1) (now (a .table)) (a .minute) (a .said) (a .s) p (known .result) _
-    (known-after-is (a .t1) (now (a .table)) (a .s) p (known .ensures)) (c .before .has .ensures)
+    (known .ensures) (c .before .has .ensures)
 
 loop-holds : tie.Need-loop-holds Inv-loop μ-loop
 loop-holds c = passing-start _ _
 
 known-after-requires : tie.Need-known-after-requires Inv-loop μ-loop
 known-after-requires c κs =
-    let in-loop = c .before .before in
-    let start = in-loop .before .before .before in
+    let here = c .before .before .before in
+    let start = here .before .before .before in
     let a = start .args in
     let asked = start .pre in
-    let p = in-loop .before .loop .p in
+    let p = here .before .loop .p in
     cell-in (a .t1) (now (a .table)) (asked .1) (a .s) (observation (a .t1) p) (asked .3)
-    (asked .0 .observed p (in-loop .loop-test .taken))
+    (asked .0 .observed p (here .loop-test .taken))
 
 as-said-requires : tie.Need-as-said-requires Inv-loop μ-loop
 as-said-requires c κs =
-    let in-loop = c .before .before .before .before in
-    in-loop .before .before .before .pre .2 .lower (in-loop .before .loop .p) (in-loop .loop-test .taken)
+    let here = c .before .before .before .before .before in
+    here .before .before .before .pre .2 .lower (here .before .loop .p) (here .loop-test .taken)
 
 returns : tie.Need-returns Inv-loop μ-loop
 returns c =
-    let in-loop = c .before .before .before .before .before .before in
-    sym (failed-at (in-loop .before .loop .inv) (in-loop .loop-test .taken) (sym (tested (c .before))
+    let here = in-loop (c .before) in
+    sym (failed-at (here .before .loop .inv) (here .loop-test .taken) (sym (tested (c .before))
     ∙ not-true _ (c .if1 .taken)))
 
 loop-again : tie.Need-loop-again Inv-loop μ-loop
 loop-again c =
-    let in-loop = c .before .before .before .before .before .before in
-    passing-on (in-loop .before .loop .inv) (in-loop .loop-test .taken) (sym (tested (c .before))
+    let here = in-loop (c .before) in
+    passing-on (here .before .loop .inv) (here .loop-test .taken) (sym (tested (c .before))
     ∙ not-false _ (c .if1 .left))
 
 returns-2 : tie.Need-returns-2 Inv-loop μ-loop
@@ -72,5 +76,5 @@ pub has-heard-spec : {M : Type 1} → statement M
 has-heard-spec =
     tie.close
     (tie.spec Inv-loop μ-loop loop-holds (λ c. search needs) (λ c. search needs) (λ c. search needs)
-    known-after-requires (λ c. search needs) (λ c κs. search needs) as-said-requires returns (λ c. search needs)
+    (λ c. search needs) (λ c. search needs) known-after-requires (λ c. search needs) (λ c κs. search needs) as-said-requires returns (λ c. search needs)
     (λ c. search needs) loop-again returns-2)

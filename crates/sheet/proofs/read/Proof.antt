@@ -3,7 +3,7 @@ use borrow.Author.Needs.{needs}
 use mathlib.Core.Path.{_∙_}
 use mathlib.Core.List.{List}
 use Prim.Native.Nat.{ℕ}
-use Rattle.line.specs.declared.Section.the-variants.{Events, Signals, Rules}
+use Rattle.line.specs.declared.Section.the-variants.{Events, Signals, Rules, Reactions}
 use Rattle.sheet.specs.Stage.{whole}
 use Rattle.sheet.specs.Reached.{progressOf, Ready}
 use Rattle.sheet.proofs.WellFormed.{horizon-ready, section-ready}
@@ -21,6 +21,9 @@ sheet-2 d = sheet-1 (d .before)
 abbrev sheet-3 : tie.After-read-after2 → List ℕ
 sheet-3 d = sheet-2 (d .before)
 
+abbrev sheet-4 : tie.After-read-after3 → List ℕ
+sheet-4 d = sheet-3 (d .before)
+
 -- it is ready for the next
 at-events : (d : tie.After-read-horizon) → Ready (sheet-1 d) (whole Events) (progressOf (d .read-horizon .result))
 at-events d = horizon-ready (sheet-1 d) (progressOf (d .read-horizon .result)) (d .read-horizon .ensures)
@@ -35,6 +38,12 @@ at-rules d =
     section-ready (sheet-3 d) Signals (progressOf (d .before .read-after .result)) (progressOf (d .read-after2 .result))
     (d .read-after2 .ensures) (at-signals (d .before))
 
+at-reactions : (d : tie.After-read-after3)
+    → Ready (sheet-4 d) (whole Reactions) (progressOf (d .read-after3 .result))
+at-reactions d =
+    section-ready (sheet-4 d) Rules (progressOf (d .before .read-after2 .result)) (progressOf (d .read-after3 .result))
+    (d .read-after3 .ensures) (at-rules (d .before))
+
 returns : tie.Need-returns
 returns c = c .rejected .ensures ∙ read-too-long (c .before .before .before .args .sheet .now) (c .before .if1 .taken)
 
@@ -47,20 +56,26 @@ read-after-requires-2 c κs = (c .before .before .if1 .left, at-signals c)
 read-after-requires-3 : tie.Need-read-after-requires-3
 read-after-requires-3 c κs = (c .before .before .before .if1 .left, at-rules c)
 
+read-optional-requires : tie.Need-read-optional-requires
+read-optional-requires c κs = (c .before .before .before .before .if1 .left, at-reactions c)
+
 returns-2 : tie.Need-returns-2
 returns-2 c =
-    let args = c .before .before .before .before .before .before .before .args in
-    let if1 = c .before .before .before .before .before .if1 in
-    let horizon = c .before .before .before .before .read-horizon in
-    let events = c .before .before .before .read-after in
-    let signals = c .before .before .read-after2 in
-    let rules = c .before .read-after3 in
-    c .end-of .ensures ∙ read-whole (args .sheet .now) (progressOf (horizon .result)) (progressOf (events .result))
-    (progressOf (signals .result)) (progressOf (rules .result))
-    (if1 .left) (horizon .ensures) (events .ensures) (signals .ensures) (rules .ensures)
+    let reactions = c .before .read-optional in
+    let behind-rules = c .before .before in
+    let rules = behind-rules .read-after3 in
+    let signals = behind-rules .before .read-after2 in
+    let events = behind-rules .before .before .read-after in
+    let behind-horizon = behind-rules .before .before .before in
+    let horizon = behind-horizon .read-horizon in
+    c .end-of .ensures
+    ∙ read-whole (sheet-4 behind-rules) (progressOf (horizon .result)) (progressOf (events .result))
+    (progressOf (signals .result)) (progressOf (rules .result)) (progressOf (reactions .result))
+    (behind-horizon .before .if1 .left) (horizon .ensures) (events .ensures) (signals .ensures) (rules .ensures)
+    (reactions .ensures)
 
 pub read-spec : {M : Type 1} → statement M
 read-spec =
     tie.close
     (tie.spec (λ c κs. search needs) returns (λ c κs. search needs) read-after-requires read-after-requires-2
-    read-after-requires-3 (λ c κs. search needs) returns-2)
+    read-after-requires-3 read-optional-requires (λ c κs. search needs) returns-2)

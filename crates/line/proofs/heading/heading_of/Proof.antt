@@ -25,9 +25,16 @@ returns-3 c =
     ∙ sym (ap (λ (s : Section). headingAt (c .before .before .before .before .before .args .rest .now) (headingOf s))
     (c .before .before .enum-told3 .given .1))
 
+returns-4 : tie.Need-returns-4
+returns-4 c =
+    c .section-line4 .ensures
+    ∙ sym (ap (λ (s : Section). headingAt (c .before .before .before .before .before .args .rest .now) (headingOf s))
+    (c .before .before .enum-told4 .given .1))
+
 pub heading-of-spec : {M : Type 1} → statement M
 heading-of-spec =
     tie.close
     (tie.spec (λ c. search needs) (λ c. search needs) (λ c. search needs) (λ c κs. search needs) (λ c. search needs)
     (λ c. search needs) (λ c. search needs) (λ c κs. search needs) (λ c. search needs) (λ c. search needs)
-    (λ c. search needs) (λ c κs. search needs) returns returns-2 returns-3)
+    (λ c. search needs) (λ c κs. search needs) (λ c. search needs) (λ c. search needs) (λ c. search needs)
+    (λ c κs. search needs) returns returns-2 returns-3 returns-4)

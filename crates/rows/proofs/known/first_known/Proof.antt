@@ -8,7 +8,6 @@ use native.Mathlib.Omega.{arith}
 use borrow.Author.Needs.{needs}
 use lib.ListN.{length, getD, set, length-set}
 use lib.Seq.{getD-set-same}
-use Rattle.network.specs.Limits as L
 use Rattle.network.specs.Strategy.{knownFrom}
 use Rattle.network.specs.WellFormed.{WellFormed}
 use Rattle.network.specs.declared.Network.{Network}
@@ -21,7 +20,8 @@ use Rattle.rows.proofs.known.first_known.Tie as tie
 
 -- from when on a proposition is known, also one behind the last signal
 abbrev known : tie.Start → ℕ → ℕ
-known z p = getD (z .args .row .now) (getD (z .args .frame .observations) p 0 % 16) 0 + L.reaction
+known z p =
+    getD (z .args .row .now) (getD (z .args .frame .observations) p 0 % 16) 0 + getD (z .args .frame .reactions) p 0
 
 -- the table of no proposition, and of one, two and three; where each stands, the function's start
 started : (z : tie.Start) → FirstKnown 0 (known z) (set (z .args .first .now) 0 32767)
@@ -52,11 +52,11 @@ three c =
     first-next _ 4 (omega arith) (two l) refl (c .before .known-from3 .ensures) (c .double3 .ensures)
 
 -- what a doubling asks
-fit : (z : tie.Start) (k : ℕ) {v : ℕ} {first : List ℕ} → 2 ^ k ≤ 8 → FirstKnown k (known z) first → v ≡ known z k
+fit : (z : tie.Start) (k : ℕ) {v : ℕ} {first : List ℕ} → k < 4 → 2 ^ k ≤ 8 → FirstKnown k (known z) first → v ≡ known z k
     → (2 ^ k ≤ 8) × (length first ≡ 16) × (v ≤ 32767) × ((d : ℕ) → d < 2 ^ k → getD first d 0 ≤ 32767)
-fit z k l F e =
+fit z k m l F e =
     let low = z .pre .1 (getD (z .args .frame .observations) k 0 % 16) (omega arith) in
-    (l, F .sized, omega arith, first-few _ F)
+    (l, F .sized, omega (arith, low, z .pre .3 k m), first-few _ F)
 
 -- a table for at least the network's propositions
 ended : (z : tie.Start) (m : ℕ) {first : List ℕ} → FirstKnown m (known z) first → z .args .frame .signals ≤ m → m ≤ 4
@@ -71,12 +71,12 @@ returns c = ended (c .before) 0 (started (c .before)) (omega (arith, c .if1 .tak
 double-requires : tie.Need-double-requires
 double-requires c κs =
     let z = c .before .before .before in
-    fit z 0 (omega arith) (started z) (c .known-from .ensures)
+    fit z 0 (omega arith) (omega arith) (started z) (c .known-from .ensures)
 
 double-requires-2 : tie.Need-double-requires-2
 double-requires-2 c κs =
     let l = c .before .before in
-    fit (start₁ l) 1 (omega arith) (one l) (c .known-from2 .ensures)
+    fit (start₁ l) 1 (omega arith) (omega arith) (one l) (c .known-from2 .ensures)
 
 returns-2 : tie.Need-returns-2
 returns-2 c = ended (start₂ (c .before)) 2 (two (c .before)) (omega (arith, c .if2 .taken)) (omega arith)
@@ -84,12 +84,12 @@ returns-2 c = ended (start₂ (c .before)) 2 (two (c .before)) (omega (arith, c 
 double-requires-3 : tie.Need-double-requires-3
 double-requires-3 c κs =
     let l = c .before .before .before in
-    fit (start₂ l) 2 (omega arith) (two l) (c .known-from3 .ensures)
+    fit (start₂ l) 2 (omega arith) (omega arith) (two l) (c .known-from3 .ensures)
 
 double-requires-4 : tie.Need-double-requires-4
 double-requires-4 c κs =
     let l = c .before .before in
-    fit (start₃ l) 3 (omega arith) (three l) (c .known-from4 .ensures)
+    fit (start₃ l) 3 (omega arith) (omega arith) (three l) (c .known-from4 .ensures)
 
 returns-3 : tie.Need-returns-3
 returns-3 c =

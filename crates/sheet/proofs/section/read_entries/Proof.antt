@@ -3,7 +3,9 @@
 use borrow.Author.Needs.{needs}
 use mathlib.Core.Path.{_≡_, refl, sym, _∙_}
 use mathlib.Core.Logic.{inl, inr}
+use Prim.Native.Nat.{_≤_}
 use native.Mathlib.Omega.{arith}
+use lib.ListN.{length}
 use Rattle.line.specs.Sections.{added}
 use Rattle.sheet.specs.Reading.{readEntries}
 use Rattle.sheet.proofs.EntriesLeft.{EntriesLeft, reads-end}
@@ -29,29 +31,33 @@ part-entry-at-start c = c .before .loop .inv .stage .inside
 
 entry-at-requires : tie.Need-entry-at-requires Inv-loop μ-loop
 entry-at-requires c κs =
-    let loop = c .before .before .before .before .before .before .before .loop in
+    let loop = c .before .before .before .before .before .before .before .before .loop in
     (names-in (loop .inv .stage), few-signals (loop .inv .stage))
+
+-- the turn of the loop, seen from behind the reader of its line, and from where its answer is known
+abbrev in-loop : tie.After-entry-at Inv-loop μ-loop → tie.In-loop Inv-loop μ-loop
+in-loop c = c .before .before .before .before .before .before .before .before
+
+abbrev in-turn : tie.After-known-told2 Inv-loop μ-loop → tie.In-loop Inv-loop μ-loop
+in-turn d = in-loop (d .before .before .before)
 
 returns : tie.Need-returns Inv-loop μ-loop
 returns c =
-    let loop = c .before .before .before .before .before .before .before .before .before .before .before
-    .before .loop in
-    let test = c .before .before .before .before .before .before .before .before .before .before .before .loop-test in
-    let entry-at = c .before .before .before .before .entry-at in
+    let at-line = c .before .before .before .before in
+    let here = in-loop at-line in
     let read = c .before .before .read in
-    c .refused .ensures ∙ entry-stop (loop .inv) (test .taken) (read .given .0 .0) (sym (entry-at .ensures)
-    ∙ read .given .1)
+    c .refused .ensures
+    ∙ entry-stop (here .before .loop .inv) (here .loop-test .taken) (read .given .0 .0)
+    (sym (at-line .entry-at .ensures) ∙ read .given .1)
 
 -- the turn that a line makes which has passed
 turn : (d : tie.After-known-told2 Inv-loop μ-loop)
-    → EntryTurn (d .before .before .before .before .before .before .before .before .before .before .before .loop .inv)
-    (d .before .before .before .before .before .before .before .before .before .before .loop-test .taken)
-    (d .before .read2 .given .0 .0) (d .before .read2 .given .0 .1 .0)
+    → EntryTurn (in-turn d .before .loop .inv) (in-turn d .loop-test .taken) (d .before .read2 .given .0 .0)
+    (d .before .read2 .given .0 .1 .0)
 turn d =
-    let loop = d .before .before .before .before .before .before .before .before .before .before .before .loop in
-    let test = d .before .before .before .before .before .before .before .before .before .before .loop-test in
+    let here = in-turn d in
     let read2 = d .before .read2 in
-    entry-turn (loop .inv) (test .taken) (read2 .given .0 .0) (read2 .given .0 .1 .0)
+    entry-turn (here .before .loop .inv) (here .loop-test .taken) (read2 .given .0 .0) (read2 .given .0 .1 .0)
     (sym (d .before .before .before .entry-at .ensures) ∙ read2 .given .1)
 
 mul-w : tie.Need-mul-w Inv-loop μ-loop
@@ -94,46 +100,44 @@ element-set-from-constraint c = let room = rw (c .before .entry2 .given .1) at (
 add-w-3 : tie.Need-add-w-3 Inv-loop μ-loop
 add-w-3 c = let room = rw (c .before .entry2 .given .1) at (turn (c .before .before .before) .room) in omega arith
 
+mul-w-4 : tie.Need-mul-w-4 Inv-loop μ-loop
+mul-w-4 c = let room = rw (c .before .entry3 .given .1) at (turn (c .before .before .before) .room) in omega arith
+
+element-write-w-5 : tie.Need-element-write-w-5 Inv-loop μ-loop
+element-write-w-5 c = let room = rw (c .before .entry3 .given .1) at (turn (c .before .before .before) .room)
+    in omega arith
+
+-- the sheet is short, so that places and lines are small
+short : (d : tie.After-known-told2 Inv-loop μ-loop) → length (in-turn d .before .before .before .args .sheet .now) ≤ 4096
+short d = in-turn d .before .before .before .pre .0
+
 add-place : tie.Need-add-place Inv-loop μ-loop
-add-place c =
-    let pre = c .before .before .before .before .before .before .before .before .before .before .before .before .before
-    .before .pre in
-    omega (arith, turn (c .before) .inside, pre .0)
+add-place c = omega (arith, turn (c .before) .inside, short (c .before))
 
 add-place-2 : tie.Need-add-place-2 Inv-loop μ-loop
-add-place-2 c =
-    let pre = c .before .before .before .before .before .before .before .before .before .before .before .before .before
-    .before .pre in
-    omega (arith, turn (c .before) .inside, pre .0)
+add-place-2 c = omega (arith, turn (c .before) .inside, short (c .before))
 
 add-line : tie.Need-add-line Inv-loop μ-loop
 add-line c =
-    let pre = c .before .before .before .before .before .before .before .before .before .before .before .before .before
-    .before .pre in
-    let loop = c .before .before .before .before .before .before .before .before .before .before .before
-    .before .loop in
-    omega (arith, loop .inv .stage .line, loop .inv .stage .inside, pre .0)
+    let stage = in-turn (c .before) .before .loop .inv .stage in
+    omega (arith, stage .line, stage .inside, short (c .before))
 
 sub-left : tie.Need-sub-left Inv-loop μ-loop
-sub-left c =
-    let test = c .before .before .before .before .before .before .before .before .before .before .before .loop-test in
-    omega (arith, test .taken)
+sub-left c = omega (arith, in-turn (c .before) .loop-test .taken)
 
 loop-less : tie.Need-loop-less Inv-loop μ-loop
-loop-less c =
-    let test = c .before .before .before .before .before .before .before .before .before .before .before .loop-test in
-    omega (arith, test .taken)
+loop-less c = omega (arith, in-turn (c .before) .loop-test .taken)
 
 loop-again : tie.Need-loop-again Inv-loop μ-loop
 loop-again c =
     let read2 = c .before .before .read2 in
-    let loop = c .before .before .before .before .before .before .before .before .before .before .before
-    .before .loop in
+    let loop = in-turn (c .before) .before .loop in
     let grown : c .match2 .w ≡ added (read2 .given .0 .0) (loop .w) (loop .place) (read2 .given .0 .1 .0) =
     elim (c .match2 .came) [
       | inl w ↦ w .2 ∙ sym (rw (w .1 .given .1))
       | inr (inl w) ↦ w .3 ∙ sym (rw (w .1 .given .1))
-      | inr (inr w) ↦ w .3 ∙ sym (rw (w .1 .given .1))
+      | inr (inr (inl w)) ↦ w .3 ∙ sym (rw (w .1 .given .1))
+      | inr (inr (inr w)) ↦ w .3 ∙ sym (rw (w .1 .given .1))
     ] in
     rw grown (turn (c .before) .next)
 
@@ -146,5 +150,6 @@ read-entries-spec =
     (tie.spec Inv-loop μ-loop loop-holds sub-entry-at part-entry-at-start (λ c. search needs) entry-at-requires
     (λ c. search needs) (λ c κs. search needs) returns (λ c. search needs) (λ c. search needs) mul-w element-write-w
     mul-w-2 element-write-w-2 add-w (λ c. search needs) element-write-w-3 mul-w-3 element-write-w-4 add-w-2
-    (λ c. search needs) mul-constraint element-set-from-constraint add-w-3 add-place add-place-2 add-line sub-left
+    (λ c. search needs) mul-constraint element-set-from-constraint add-w-3 (λ c. search needs) mul-w-4
+    element-write-w-5 add-place add-place-2 add-line sub-left
     loop-less loop-again returns-2)
