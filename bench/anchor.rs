@@ -1,5 +1,6 @@
-//! A solver to measure against: an unproved Rust solver, written apart from the library, of the same job and with the same rounds.
-//! Taken over as it was, but for its layout and its names. A sheet is taken to be in order: the reader panics where it is not.
+//! A solver to measure against: an unproved Rust solver, written apart from the library, of the same job and with the
+//! same rounds. Taken over as it was, but for its layout, its names and the reading of reactions, which its rounds
+//! had from the first. A sheet is taken to be in order: the reader panics where it is not.
 
 pub struct Rule {
     /// 0 `max`, 1 `min`, 2 `fix`.
@@ -17,7 +18,7 @@ pub struct Sheet {
     pub events: usize,
     pub signals: usize,
     pub givers: [usize; 4],
-    /// Minutes until a signal can be acted on: 1 in every sheet here.
+    /// Minutes until a signal can be acted on: 1 where the sheet has no line for it.
     pub reactions: [i32; 4],
     pub rules: Vec<Rule>,
 }
@@ -81,7 +82,15 @@ impl Sheet {
             let (from, to) = (event(fields[1]), event(fields[2]));
             rules.push(Rule { kind, from, to, limit: fields[3].parse().unwrap(), positive, negative });
         }
-        Sheet { horizon, events, signals, givers, reactions: [1; 4], rules }
+        let mut reactions = [1; 4];
+        if let Some(heading) = lines.next() {
+            for _ in 0..count_of(heading, "reactions") {
+                let (letter, minutes) = lines.next().unwrap().split_once(',').unwrap();
+                let signal = letters.iter().position(|&known| known == letter.as_bytes()[0]).unwrap();
+                reactions[signal] = minutes.parse().unwrap();
+            }
+        }
+        Sheet { horizon, events, signals, givers, reactions, rules }
     }
 }
 

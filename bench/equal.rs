@@ -11,6 +11,8 @@ pub const SCENARIOS: usize = 1 << SIGNALS;
 pub const HORIZON: i32 = 10_080;
 const SHEET_MOST: usize = 4096;
 const NAME_MOST: usize = 8;
+/// The most minutes until a signal counts.
+const REACTION_MOST: i32 = 60;
 /// The most fields that a line has.
 const FIELDS: usize = 5;
 /// A constraint that is a `fix` has two bounds.
@@ -56,6 +58,7 @@ pub struct Network<'a> {
     signals: usize,
     letters: [u8; SIGNALS],
     observations: [u8; SIGNALS],
+    reactions: [u16; SIGNALS],
     rules: usize,
     constraints: [Constraint; RULES],
 }
@@ -70,6 +73,7 @@ impl<'a> Network<'a> {
             signals: 0,
             letters: [0; SIGNALS],
             observations: [0; SIGNALS],
+            reactions: [1; SIGNALS],
             rules: 0,
             constraints: [Constraint { kind: Kind::Max, from: 0, to: 0, label, limit: 0 }; RULES],
         }
@@ -90,6 +94,11 @@ impl<'a> Network<'a> {
     /// The observation event of each proposition.
     pub fn observations(&self) -> &[u8] {
         &self.observations[..self.signals]
+    }
+
+    /// The reaction of each proposition: 1, or what its line says.
+    pub fn reactions(&self) -> &[u16] {
+        &self.reactions[..self.signals]
     }
 
     pub fn constraints(&self) -> &[Constraint] {
@@ -182,6 +191,14 @@ pub fn read(sheet: &[u8]) -> Result<Network<'_>, Refusal> {
         let line = lines.next()?;
         add_rule(&mut network, line.fields()).map_err(|number| (number, lines.line))?;
     }
+    if lines.rest.is_empty() {
+        return Ok(network);
+    }
+    let mut slow = 0;
+    for _ in 0..lines.section(b"reactions", 0, SIGNALS as i32)? {
+        let line = lines.next()?;
+        slow |= add_reaction(&mut network, line.fields(), slow).map_err(|number| (number, lines.line))?;
+    }
     if !lines.rest.is_empty() {
         return Err((10, lines.line + 1));
     }
@@ -221,6 +238,23 @@ fn add_signal(network: &mut Network, fields: &[&[u8]]) -> Result<(), u8> {
     network.observations[network.signals] = event.ok_or(8)?;
     network.signals += 1;
     Ok(())
+}
+
+/// The weight of the proposition, where those of these weights have a line already.
+fn add_reaction(network: &mut Network, fields: &[&[u8]], slow: u8) -> Result<u8, u8> {
+    let &[letter, minutes] = fields else {
+        return Err(3);
+    };
+    let minutes = number(minutes, 1, REACTION_MOST)?;
+    let &[letter @ b'a'..=b'z'] = letter else {
+        return Err(6);
+    };
+    let signal = network.letter_at(letter).ok_or(8)?;
+    if slow >> signal & 1 == 1 {
+        return Err(7);
+    }
+    network.reactions[signal] = minutes as u16;
+    Ok(1 << signal)
 }
 
 fn add_rule(network: &mut Network, fields: &[&[u8]]) -> Result<(), u8> {
@@ -339,6 +373,7 @@ pub struct Compiled {
     scenarios: usize,
     signals: usize,
     observations: [u8; SIGNALS],
+    reactions: [u16; SIGNALS],
     counts: [usize; SCENARIOS],
     bounds: [[Bound; BOUNDS]; SCENARIOS],
 }
@@ -351,6 +386,7 @@ impl Compiled {
             scenarios: network.scenarios(),
             signals: network.signals,
             observations: network.observations,
+            reactions: network.reactions,
             counts: [0; SCENARIOS],
             bounds: [[Bound { target: 0, source: 0, weight: 0 }; BOUNDS]; SCENARIOS],
         }
@@ -395,8 +431,8 @@ enum Outcome {
 fn first_known(compiled: &Compiled, row: &Row) -> [u16; SCENARIOS] {
     let mut first = [u16::MAX; SCENARIOS];
     let mut sets = 1;
-    for &u in &compiled.observations[..compiled.signals] {
-        let time = row[usize::from(u) % EVENTS] + 1;
+    for (&u, &reaction) in compiled.observations.iter().zip(&compiled.reactions).take(compiled.signals) {
+        let time = row[usize::from(u) % EVENTS] + reaction;
         for d in 0..sets {
             first[sets + d] = first[d].min(time);
         }

@@ -43,6 +43,11 @@ pub fn text_of(sheet: &Sheet) -> String {
         let kind = ["max", "min", "fix"][rule.kind as usize];
         text += &format!("{kind},{},{},{},{}\n", name(rule.from), name(rule.to), rule.limit, label_text(rule));
     }
+    let slow: Vec<usize> = (0..sheet.signals).filter(|&p| sheet.reactions[p] != 1).collect();
+    if !slow.is_empty() {
+        text += &format!("reactions,{}\n", slow.len());
+        slow.iter().for_each(|&p| text += &format!("{},{}\n", letter(p), sheet.reactions[p]));
+    }
     text
 }
 

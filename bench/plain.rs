@@ -21,13 +21,13 @@ fn by_rule(table: &Table, c: &Constraint, s: usize, u: usize) -> i32 {
     least
 }
 
-/// The minute from which event `u` of case `s` has to be on by the hyperarc to case `r`: that of `u` in `r`, or one more than the
-/// earliest minute in `s` of a signal on which the two differ.
+/// The minute from which event `u` of case `s` has to be on by the hyperarc to case `r`: that of `u` in `r`, or the
+/// earliest in `s` at which a signal counts on which the two differ.
 fn by_case(network: &Network, table: &Table, s: usize, r: usize, u: usize) -> i32 {
     let mut least = table[r][u];
-    for (p, &event) in network.observations().iter().enumerate() {
+    for (p, (&event, &reaction)) in network.observations().iter().zip(network.reactions()).enumerate() {
         if (s ^ r) >> p & 1 == 1 {
-            least = least.min(table[s][usize::from(event)] + 1);
+            least = least.min(table[s][usize::from(event)] + i32::from(reaction));
         }
     }
     least

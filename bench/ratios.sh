@@ -9,11 +9,12 @@
 # the same way, by one program that lends 512 bytes for the table. A call's cost is the difference between a run with some calls
 # and a run with one, so the program's start, the reading of the file and the first use of libc's functions are no part of it.
 #
-# One-off work, reading and compiling, is found from outside, in the same way on both sides, since the library's functions may be
-# inlined. An ordinary sheet is solved with its own horizon (R rounds) and with `horizon,10`, which its first round passes: the
-# lines differ in two digits, so the difference is R - 1 rounds (and the writing of the table, under 1 % of it). One round less
-# than the second cost is the one-off work. Of it, reading is what a call costs that lends no table: such a call ends with refusal
-# 12 once the sheet is read. What callgrind says of the functions that are still there is printed as a check.
+# One-off work, reading and compiling, is found from outside, in the same way on both sides, since the library's
+# functions may be inlined. An ordinary sheet (slow4 is one with reactions) is solved with its own horizon (R rounds)
+# and with `horizon,10`, which its first round passes: the lines differ in two digits, so the difference is R - 1
+# rounds (and the writing of the table, under 1 % of it). One round less than the second cost is the one-off work. Of
+# it, reading is what a call costs that lends no table: such a call ends with refusal 12 once the sheet is read. What
+# callgrind says of the functions that are still there is printed as a check.
 #
 # callgrind counts each byte that a `rep stosb` of libc's memset writes as an instruction, from 2,048 bytes on. With
 # GLIBC_TUNABLES=glibc.cpu.x86_rep_stosb_threshold=1000000 in the environment, memset runs and counts as its vector loop.
@@ -35,7 +36,8 @@ fi
 "${release[@]}" -o "$out/speed" "$here/main.rs" -L "native=$out/link" || die "no program"
 
 # ---- measure
-ordinary='ordinary2 ordinary3 ordinary4'
+ordinary='ordinary2 ordinary3 ordinary4 slow4'
+declare -A cost
 for name in $ordinary; do sed '1s/.*/horizon,10/' "$here/sheets/$name.csv" >"$out/$name-short.csv"; done
 sheet_of() { if [ -f "$here/sheets/$1.csv" ]; then echo "$here/sheets/$1.csv"; else echo "$out/$1.csv"; fi; }
 
@@ -93,7 +95,7 @@ for name in ring16 full $ordinary; do
         target "(b) sixteen events, four signals, 64 rules: library / equal" "$l/$e" "at most" 1.3
         target "(b) plain loops / library" "$p/$l" "at least" 10
         ;;
-    *) cost[${name#ordinary}]="$rounds $l $e" ;;
+    *) cost[$name]="$rounds $l $e" ;;
     esac
 done
 
@@ -104,7 +106,7 @@ for name in $ordinary; do
     compare "$name-short"
     compare "$name" read
     [ "$(rounds_of "$name-short")" = 1 ] || die "$name: the first round does not pass horizon 10"
-    read -r rounds own_library own_equal <<<"${cost[${name#ordinary}]}"
+    read -r rounds own_library own_equal <<<"${cost[$name]}"
     for by in library equal; do
         if [ $by = library ]; then own=$own_library reader=sheet::read lister=list_constraints; else own=$own_equal reader=equal::read lister=equal::compile; fi
         short=$(call_cost "$name-short" $by 11) && reading=$(call_cost "$name" $by 11 read) || exit 2

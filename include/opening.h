@@ -11,11 +11,15 @@
  *                   or digits. The first event is the start
  *     signals,k     k from 0 to 4; then k lines `letter,event`, the letter from a to z. An event gives at most one signal
  *     rules,m       m from 0 to 64; then m lines `kind,from,to,limit,label`
+ *     reactions,r   r from 0 to 4; then r lines `letter,minutes`, minutes from 1 to 60. The sheet may end before this section;
+ *                   any byte behind the rules begins it
  *
  * Of the difference minute(to) - minute(from) the kind `max` asks that it is at most the limit, `min` that it is at least the
  * limit, and `fix` that it is the limit, which is from -10,080 to 10,080. A label is `-` for every case, or letters, each with
  * `!` before it for false: `p!q` means the cases in which p is true and q false. A number is `0`, or digits without a leading
  * zero, with `-` before it if it is negative.
+ *
+ * A signal's reaction is how many minutes after its event it is trusted. Without a line it is 1; a letter has at most one line.
  *
  * The table
  *
@@ -25,8 +29,9 @@
  * lines: no call hands them out.
  *
  * A table is good if, first, no minute is over the horizon and the start is at 0 in each case; second, each rule holds in each
- * case of its label; and third, each event has the same minute in any two cases s and r, unless a signal that tells them apart
- * has in s an earlier minute than the event: what is given at minute 5 may change what happens from minute 6 on.
+ * case of its label; and third, each event has the same minute in any two cases s and r, unless the minute in s of a signal
+ * that tells them apart, plus the signal's reaction, is at most the event's: what is given at minute 5 may change what happens
+ * from minute 6 on, and with a reaction of 8 from minute 13 on.
  *
  * Signals heard are handed in as text: their letters, each with `!` before it if the signal said false (`p!q`), in any order;
  * nothing, or `-`, for none; no line feed and no NUL.
@@ -67,10 +72,12 @@
  *      4  an ill-formed number: `010`, `-0`, `+5`, nothing
  *      5  a well-formed number beyond its range, however many digits it has
  *      6  an ill-formed name, letter or label; an empty line where a name is due
- *      7  a name or letter defined a second time, or an event that already gives a signal
+ *      7  a name or letter defined a second time, an event that already gives a signal, or a letter that already has a
+ *         reaction
  *      8  an event or letter that is not defined
  *      9  a label with one letter twice, with either sign
- *     10  bytes behind the last rule, a lone line feed or a NUL too: the line that they begin
+ *     10  bytes behind the last line of the reactions, a lone line feed or a NUL too: the line that they begin; bytes
+ *         behind the rules that are no such section are 2 to 5
  *     11  judge, due, listing: not exactly n * 2^k minutes in the table, or an odd number of bytes         (line 0)
  *     12  solve: the table has fewer than n * 2^k whole pairs of bytes;
  *         listing, house: out is shorter than the text                                                     (line 0)
@@ -152,7 +159,7 @@ uint64_t opening_solve(const uint8_t *sheet, size_t sheet_len, uint8_t *table, s
  *     OPENING_LATE     in case opening_first, event opening_second is over the horizon, or is the start and not at 0
  *     OPENING_RULE     in case opening_first, rule opening_second of the sheet (the first is 0) is broken
  *     OPENING_UNHEARD  in case opening_first, event opening_third has another minute than in case opening_second, although no
- *                      signal that tells the two cases apart has in case opening_first an earlier minute than that event
+ *                      signal that tells the two cases apart has come in case opening_first, its reaction ago or earlier
  *
  * All cells are tried for Late first, by case and then event; then all rules, by case and then rule; then the pairs of cases,
  * by the first, the second and then the event. Numbers that a word does not use are 0. */
@@ -160,10 +167,10 @@ uint64_t opening_judge(const uint8_t *sheet, size_t sheet_len, const uint8_t *ta
 
 /* Says which events are due at a minute, for those who have heard exactly these signals before it.
  *
- * A signal is heard before the minute if its event was due at an earlier one: what is given at 5 is heard from 6 on. The text
- * must be all that has been heard, and no more, in any order. Two cases that have heard the same get the same events. Nothing
- * is written; table_len is as for the judge. If the answer's number is 0, bit u of opening_events(answer) says whether event u
- * is due. That nothing is due is no fault, nor is a minute over the horizon.
+ * A signal is heard before the minute if its event was due its reaction ago or earlier: what is given at 5 is heard from 6 on,
+ * and with a reaction of 8 from 13 on. The text must be all that has been heard, and no more, in any order. Two cases that have
+ * heard the same get the same events. Nothing is written; table_len is as for the judge. If the answer's number is 0, bit u of
+ * opening_events(answer) says whether event u is due. That nothing is due is no fault, nor is a minute over the horizon.
  *
  * The judge is asked first, at each call: a table that it does not pass is answered with 14 at every minute, whatever has been
  * heard. opening_judge says what is wrong with such a table. */
@@ -182,14 +189,15 @@ uint64_t opening_listing(const uint8_t *sheet, size_t sheet_len, const uint8_t *
 /* Writes the sheet in its house form: horizon, events and signals as they are, and every rule as `max` rows (a `min` with its
  * ends swapped and its limit negated, a `fix` as both). Of rows with equal ends and label the one with the least limit stays.
  * They are ordered by `from`, then `to`, in event order, then by the sum of the weights of the label's true letters (signal i
- * has weight 1 << i), then of its false ones; a label's letters stand in signal order.
+ * has weight 1 << i), then of its false ones; a label's letters stand in signal order. Of the reactions only those other than
+ * 1 are listed, in signal order, with no section if there are none.
  *
  * The form is itself a sheet, with the same good tables, and it is its own form; its rules have other places than the sheet's,
  * so a Rule verdict on the one does not name a rule of the other. Two sheets have the same form, byte for byte, if and only if
- * horizons, events, signals and the rows that stay are equal. If the answer's number is 0, the first opening_bytes(answer)
- * bytes of out are the form, with no NUL behind it, and all bytes behind them are unaltered; an out longer than needed is no
- * fault, and OPENING_SHEET_MOST bytes are always enough. Otherwise out keeps all its contents. A sheet that has a good table
- * may still be refused with 17. */
+ * horizons, events, signals, reactions (1 without a line) and the rows that stay are equal. If the answer's number is 0, the
+ * first opening_bytes(answer) bytes of out are the form, with no NUL behind it, and all bytes behind them are unaltered; an out
+ * longer than needed is no fault, and OPENING_SHEET_MOST bytes are always enough. Otherwise out keeps all its contents. A sheet
+ * that has a good table may still be refused with 17. */
 uint64_t opening_house(const uint8_t *sheet, size_t sheet_len, uint8_t *out, size_t out_len);
 
 /* Of every answer: the number of the refusal, or 0. */

@@ -1,6 +1,6 @@
 /* The workshop bench: calls the library as a C program does, and compares every answer and every lent byte with what document 01
- * and points 1 and 2 of document 02 ask. The answers here were written by hand from the papers; where a table is played, what the
- * solver wrote is to come out.
+ * and points 1, 2 and 3 of document 02 ask. The answers here were written by hand from the papers; where a table is
+ * played, what the solver wrote is to come out.
  *
  * cc -std=c11 -O2 -Wall -Wextra -Werror -o bench bench.c DIR/libopening.a
  *
@@ -271,6 +271,28 @@ static const char four_signals[] = "horizon,60\nevents,6\nstart\na\nb\nc\nd\ndoo
                                    "min,start,a,3,-\nmin,a,b,2,p\nmin,a,b,1,!p\nmin,a,c,4,q\nmin,b,c,3,p!q\nmin,c,d,2,w\n"
                                    "min,d,door,5,p!z\nmin,c,door,9,!pwz\n";
 
+/* Document 01's sheet, whose signal counts after 1 minute, after 2, and after 15, when the door waits no longer; and
+ * the form of the second. */
+#define RULES "max,start,door,30,-\n"
+static const char after_1[] = HEAD TWO RULES "reactions,1\np,1\n";
+static const char after_2[] = HEAD TWO RULES "reactions,1\np,2\n";
+static const char after_15[] = HEAD TWO RULES "reactions,1\np,15\n";
+static const uint16_t opened_after_2[] = {0, 5, 7, 0, 5, 20};
+static const uint16_t opened_after_15[] = {0, 5, 20, 0, 5, 20};
+#define FORM HEAD "max,start,door,30,-\nmax,call,start,-5,-\nmax,door,call,-15,p\n"
+static const char form_after_2[] = FORM "reactions,1\np,2\n";
+
+/* The call at 5 gives a signal that counts after 60 minutes; the door waits until 100 where it is true. */
+static const char after_60[] = "horizon,120\nevents,3\nstart\ncall\ndoor\nsignals,1\np,call\nrules,2\n"
+                               "min,start,call,5,-\nmin,start,door,100,p\nreactions,1\np,60\n";
+static const uint16_t opened_after_60[] = {0, 5, 65, 0, 5, 100};
+
+/* The start gives p, which counts from 2 on, and the call at 2 gives q, which counts from 5 on. */
+#define PAIR "horizon,60\nevents,3\nstart\ncall\ndoor\nsignals,2\np,start\nq,call\nrules,3\n"
+#define PAIR_RULES "min,start,call,2,-\nmin,start,door,20,p\nmin,start,door,10,q\n"
+static const char slow_pair[] = PAIR PAIR_RULES "reactions,2\nq,3\np,2\n";
+static const uint16_t pair_opened[] = {0, 2, 5, 0, 2, 20, 0, 2, 10, 0, 2, 20};
+
 /* A minute with a high byte: 1000 is 232 and 3. */
 static const char high[] = "horizon,10080\nevents,2\nstart\ndoor\nsignals,0\nrules,1\nmin,start,door,1000,-\n";
 static const uint16_t high_opened[] = {0, 1000};
@@ -295,7 +317,31 @@ static const struct {
     {7, 4, "horizon,60\nevents,3\nstart\nstart\n"},
     {8, 11, HEAD TWO "max,start,gate,30,-\n"},
     {9, 11, HEAD TWO "max,start,door,30,p!p\n"},
-    {10, 12, HEAD TWO "max,start,door,30,-\n\n"},
+    {3, 12, HEAD TWO RULES "\n"},
+    {2, 12, HEAD TWO RULES "x"},
+    {2, 12, HEAD TWO RULES "reactions,0"},
+    {3, 12, HEAD TWO RULES "max,start,door,30,-\n"},
+    {4, 12, HEAD TWO RULES "reactions,00\n"},
+    {5, 12, HEAD TWO RULES "reactions,5\n"},
+    {3, 8, "horizon,60\nevents,3\nstart\ncall\ndoor\nsignals,1\np,call\nreactions,0\nrules,0\n"},
+    {2, 13, HEAD TWO RULES "reactions,1\n"},
+    {2, 14, HEAD TWO RULES "reactions,2\np,2\n"},
+    {3, 13, HEAD TWO RULES "reactions,1\np,2,-\n"},
+    {4, 13, HEAD TWO RULES "reactions,1\np,02\n"},
+    {5, 13, HEAD TWO RULES "reactions,1\np,0\n"},
+    {5, 13, HEAD TWO RULES "reactions,1\np,61\n"},
+    {5, 13, HEAD TWO RULES "reactions,1\np,258\n"},
+    {5, 13, HEAD TWO RULES "reactions,1\nP,61\n"},
+    {5, 14, HEAD TWO RULES "reactions,2\np,2\np,0\n"},
+    {6, 13, HEAD TWO RULES "reactions,1\nP,60\n"},
+    {6, 13, HEAD TWO RULES "reactions,1\npq,2\n"},
+    {7, 14, HEAD TWO RULES "reactions,2\np,2\np,2\n"},
+    {7, 14, HEAD TWO RULES "reactions,4\np,2\np,3\nq,4\nr,5\n"},
+    {8, 13, HEAD TWO RULES "reactions,1\nq,2\n"},
+    {8, 14, HEAD TWO RULES "reactions,4\np,2\nq,3\nr,4\ns,5\n"},
+    {10, 13, HEAD TWO RULES "reactions,0\n\n"},
+    {10, 13, HEAD TWO RULES "reactions,0\nx"},
+    {10, 14, HEAD TWO RULES "reactions,1\np,2\nreactions,0\n"},
 };
 
 /* ---------------------------------------------------------------- What is tried */
@@ -372,6 +418,38 @@ static void solver_trials(void)
     judge("at the horizon exactly", edge, (const uint16_t[]){0, 10}, 2, OPENING_PASS, 0, 0, 0);
 }
 
+/* Slow signals: what they hold up, what they make impossible, and what of a table is too quick for them. */
+static void slow_signals(void)
+{
+    static const char apart[] = HEAD "min,start,call,5,-\nmin,start,door,10,p\nmax,start,door,6,!p\n"
+                                     "reactions,1\np,2\n";
+    static const char none[] = HEAD TWO RULES "reactions,0\n";
+    static const char only_p[] = "horizon,60\nevents,3\nstart\ncall\ndoor\nsignals,2\np,start\nq,call\nrules,2\n"
+                                 "min,start,call,2,-\nmin,start,door,9,p\nreactions,2\np,2\nq,3\n";
+    static const uint16_t too_quick_for_q[] = {0, 2, 4, 0, 2, 20, 0, 2, 10, 0, 2, 20};
+    static const uint16_t too_quick_for_p[] = {0, 2, 1, 0, 2, 20, 0, 2, 10, 0, 2, 20};
+    static const uint16_t only_p_opened[] = {0, 2, 2, 0, 2, 9, 0, 2, 2, 0, 2, 9};
+    solve("p after 1 minute", after_1, strlen(after_1), 12, 0, 0, opened, 6);
+    solve("no lines of reactions", none, strlen(none), 12, 0, 0, opened, 6);
+    solve("p after 2 minutes", after_2, strlen(after_2), 12, 0, 0, opened_after_2, 6);
+    solve("p after 2 minutes, a pair less", after_2, strlen(after_2), 10, 12, 0, NULL, 0);
+    solve("p after 15 minutes", after_15, strlen(after_15), 12, 0, 0, opened_after_15, 6);
+    solve("p after 60 minutes", after_60, strlen(after_60), 12, 0, 0, opened_after_60, 6);
+    solve("two slow signals", slow_pair, strlen(slow_pair), 24, 0, 0, pair_opened, 12);
+    solve("each its own reaction", only_p, strlen(only_p), 24, 0, 0, only_p_opened, 12);
+    judge("each its own reaction, judged", only_p, only_p_opened, 12, OPENING_PASS, 0, 0, 0);
+    solve("trial 11, p after 2 minutes", apart, strlen(apart), 12, 13, 0, NULL, 0);
+    judge("p after 1 minute, judged", after_1, opened, 6, OPENING_PASS, 0, 0, 0);
+    judge("a minute too quick", after_2, opened, 6, OPENING_UNHEARD, 0, 1, 2);
+    judge("p after 2 minutes, judged", after_2, opened_after_2, 6, OPENING_PASS, 0, 0, 0);
+    judge("a minute later", after_2, (const uint16_t[]){0, 5, 8, 0, 5, 20}, 6, OPENING_PASS, 0, 0, 0);
+    judge("a minute too quick for 60", after_60, (const uint16_t[]){0, 5, 64, 0, 5, 100}, 6, OPENING_UNHEARD, 0, 1, 2);
+    judge("p after 60 minutes, judged", after_60, opened_after_60, 6, OPENING_PASS, 0, 0, 0);
+    judge("two slow signals, judged", slow_pair, pair_opened, 12, OPENING_PASS, 0, 0, 0);
+    judge("too quick for q", slow_pair, too_quick_for_q, 12, OPENING_UNHEARD, 0, 2, 2);
+    judge("too quick for p", slow_pair, too_quick_for_p, 12, OPENING_UNHEARD, 0, 1, 2);
+}
+
 static void solver_without_table(void)
 {
     const size_t length = strlen(no_table);
@@ -402,14 +480,14 @@ static void long_sheets(void)
 {
     static char sheet[OPENING_SHEET_MOST + 1];
     static const uint8_t bytes[12];
-    const unsigned behind[6] = {10, 12, 0, 0, 0, 0}, too_long[6] = {1, 0, 0, 0, 0, 0};
+    const unsigned behind[6] = {10, 14, 0, 0, 0, 0}, too_long[6] = {1, 0, 0, 0, 0, 0};
     memset(sheet, 'x', sizeof sheet);
-    memcpy(sheet, example, strlen(example));
-    solve("4,096 bytes", sheet, OPENING_SHEET_MOST, 12, 10, 12, NULL, 0);
+    memcpy(sheet, after_2, strlen(after_2));
+    solve("4,096 bytes", sheet, OPENING_SHEET_MOST, 12, 10, 14, NULL, 0);
     solve("4,097 bytes", sheet, OPENING_SHEET_MOST + 1, 12, 1, 0, NULL, 0);
     judge_bytes("4,096 bytes, judged", sheet, OPENING_SHEET_MOST, bytes, sizeof bytes, behind);
     judge_bytes("4,097 bytes, judged", sheet, OPENING_SHEET_MOST + 1, bytes, sizeof bytes, too_long);
-    refused_by_all("4,096 bytes, by the others", sheet, OPENING_SHEET_MOST, 10, 12);
+    refused_by_all("4,096 bytes, by the others", sheet, OPENING_SHEET_MOST, 10, 14);
     refused_by_all("4,097 bytes, by the others", sheet, OPENING_SHEET_MOST + 1, 1, 0);
 }
 
@@ -458,10 +536,11 @@ static void judge_lengths(void)
         judge_refused("judge, another length", example, other_lengths[i], 11, 0);
 }
 
-/* Plays the solver's table of a sheet with horizon 60, each case minute by minute: an event is due exactly once, at its minute in
- * the case. What has been heard is kept here from the answers: a signal whose event was due, with its truth in the case, from the
- * next minute on, the last one first. */
-static void play(const char *sheet, unsigned events, const char *letters, const unsigned *givers)
+/* Plays the solver's table of a sheet up to minute 120, each case minute by minute: an event is due exactly once, at
+ * its minute in the case. What has been heard is kept here from the answers: a signal whose event was due, with its
+ * truth in the case, from so many minutes later on as its reaction is, the last one first. */
+static void play_slow(const char *sheet, unsigned events, const char *letters, const unsigned *givers,
+                      const unsigned *reactions)
 {
     uint8_t table[OPENING_TABLE_MOST], played[OPENING_TABLE_MOST];
     const unsigned signals = (unsigned)strlen(letters), cases = 1u << signals;
@@ -473,8 +552,14 @@ static void play(const char *sheet, unsigned events, const char *letters, const 
     for (unsigned s = 0; s < cases; s++) {
         char heard[16] = "", longer[16];
         uint16_t row[16] = {0};
-        unsigned seen = 0;
-        for (unsigned minute = 0; minute <= 60; minute++) {
+        unsigned seen = 0, from[4] = {0};
+        for (unsigned minute = 0; minute <= 120; minute++) {
+            for (unsigned p = 0; p < signals; p++) {
+                if (seen >> givers[p] & 1 && from[p] == minute) {
+                    sprintf(longer, "%s%c%s", s >> p & 1 ? "" : "!", letters[p], heard);
+                    strcpy(heard, longer);
+                }
+            }
             uint64_t answer = ask("play", handed, minute, heard, strlen(heard));
             expect("play", "the number", opening_number(answer), 0);
             const unsigned due = opening_events(answer);
@@ -485,10 +570,8 @@ static void play(const char *sheet, unsigned events, const char *letters, const 
                     row[u] = (uint16_t)minute;
             }
             for (unsigned p = 0; p < signals; p++) {
-                if (due >> givers[p] & 1) {
-                    sprintf(longer, "%s%c%s", s >> p & 1 ? "" : "!", letters[p], heard);
-                    strcpy(heard, longer);
-                }
+                if (due >> givers[p] & 1)
+                    from[p] = minute + reactions[p];
             }
         }
         expect("play", "the number of all events due", seen, (1u << events) - 1);
@@ -498,6 +581,12 @@ static void play(const char *sheet, unsigned events, const char *letters, const 
         expect("play", "a byte of the table as it was played", played[i], table[i]);
 }
 
+/* The same where each signal counts after a minute. */
+static void play(const char *sheet, unsigned events, const char *letters, const unsigned *givers)
+{
+    play_slow(sheet, events, letters, givers, (const unsigned[]){1, 1, 1, 1});
+}
+
 static void played_tables(void)
 {
     play(example, 3, "p", (const unsigned[]){1});
@@ -505,6 +594,11 @@ static void played_tables(void)
     play(two_signals, 4, "pq", (const unsigned[]){1, 2});
     play(weights, 3, "pq", (const unsigned[]){0, 1});
     play(four_signals, 6, "wpzq", (const unsigned[]){3, 1, 4, 2});
+    play(after_1, 3, "p", (const unsigned[]){1});
+    play_slow(after_2, 3, "p", (const unsigned[]){1}, (const unsigned[]){2});
+    play_slow(after_15, 3, "p", (const unsigned[]){1}, (const unsigned[]){15});
+    play_slow(after_60, 3, "p", (const unsigned[]){1}, (const unsigned[]){60});
+    play_slow(slow_pair, 3, "pq", (const unsigned[]){0, 1}, (const unsigned[]){2, 3});
 }
 
 /* A question, and its answer by hand: event u is due where bit u stands. */
@@ -548,6 +642,35 @@ static void questions(void)
     due_by_hand(handed, of_weights, sizeof of_weights / sizeof of_weights[0]);
     handed = (struct handed){high, strlen(high), bytes, pairs(bytes, high_opened, 2)};
     due_by_hand(handed, of_high, sizeof of_high / sizeof of_high[0]);
+}
+
+/* The player around the minute at which a slow signal counts: 7 for a reaction of 2, 65 for one of 60, and 2 and 5 for
+ * two. */
+static void slow_questions(void)
+{
+    static const struct question of_after_2[] = {
+        {0, "", 0, 1},    {5, "", 0, 2},   {5, "p", 16, 0},  {6, "", 0, 0},   {6, "-", 0, 0},   {6, "p", 16, 0},
+        {6, "!p", 16, 0}, {7, "", 16, 0},  {7, "p", 0, 0},   {7, "!p", 0, 4}, {8, "!p", 0, 0},  {20, "p", 0, 4},
+        {20, "", 16, 0},  {263, "", 16, 0}, {263, "!p", 0, 0}, {7, "q", 15, 0},
+    };
+    static const struct question of_after_60[] = {
+        {5, "", 0, 2},    {6, "", 0, 0},   {6, "p", 16, 0},   {64, "", 0, 0},    {64, "!p", 16, 0}, {65, "", 16, 0},
+        {65, "!p", 0, 4}, {65, "p", 0, 0}, {66, "!p", 0, 0}, {100, "p", 0, 4}, {100, "", 16, 0},
+    };
+    static const struct question of_pair[] = {
+        {0, "", 0, 1},    {1, "", 0, 0},    {1, "p", 16, 0},  {2, "", 16, 0},    {2, "p", 0, 2},    {2, "!p", 0, 2},
+        {4, "p", 0, 0},   {4, "pq", 16, 0}, {4, "!p", 0, 0},  {5, "!p", 16, 0},  {5, "!p!q", 0, 4}, {5, "!q!p", 0, 4},
+        {5, "!pq", 0, 0}, {10, "q!p", 0, 4}, {20, "pq", 0, 4}, {20, "p!q", 0, 4},
+    };
+    uint8_t bytes[24];
+    struct handed handed = {after_2, strlen(after_2), bytes, pairs(bytes, opened_after_2, 6)};
+    due_by_hand(handed, of_after_2, sizeof of_after_2 / sizeof of_after_2[0]);
+    handed = (struct handed){after_60, strlen(after_60), bytes, pairs(bytes, opened_after_60, 6)};
+    due_by_hand(handed, of_after_60, sizeof of_after_60 / sizeof of_after_60[0]);
+    handed = (struct handed){slow_pair, strlen(slow_pair), bytes, pairs(bytes, pair_opened, 12)};
+    due_by_hand(handed, of_pair, sizeof of_pair / sizeof of_pair[0]);
+    handed = (struct handed){after_2, strlen(after_2), bytes, pairs(bytes, opened, 6)};
+    due("too quick a table", handed, 0, "", 0, 14, 0, 0);
 }
 
 /* Texts that are no list of the sheet's one letter. */
@@ -651,7 +774,7 @@ static void longest_listing(void)
 
 static void house_forms(void)
 {
-    static const char form[] = HEAD "max,start,door,30,-\nmax,call,start,-5,-\nmax,door,call,-15,p\n";
+    static const char form[] = FORM;
     static const char typed[] = "horizon,60\nevents,3\nstart\ncall\ndoor\nsignals,2\nq,call\np,door\nrules,5\n"
                                 "fix,call,door,0,p!q\nmin,start,door,7,-\nmax,call,door,4,!qp\nmin,start,door,9,-\n"
                                 "max,start,start,0,q\n";
@@ -666,6 +789,24 @@ static void house_forms(void)
     house("house form of a form", form, strlen(form), exact, 0, 0, form);
     house("house form, shorter than its sheet", typed, strlen(typed), strlen(merged), 0, 0, merged);
     house("house form, shorter than its sheet, a byte less", typed, strlen(typed), strlen(merged) - 1, 12, 0, NULL);
+}
+
+/* Only reactions other than 1 are listed, in signal order. */
+static void house_forms_of_slow_signals(void)
+{
+    static const char two_and_one[] = PAIR PAIR_RULES "reactions,2\nq,1\np,2\n";
+    static const char pair_rows[] = PAIR "max,call,start,-2,-\nmax,door,start,-20,p\nmax,door,start,-10,q\n";
+    char wanted[sizeof pair_rows + 32];
+    house("house form, p after 1 minute", after_1, strlen(after_1), strlen(FORM), 0, 0, FORM);
+    house("house form, p after 2 minutes", after_2, strlen(after_2), strlen(form_after_2), 0, 0, form_after_2);
+    house("house form, a byte less of it", after_2, strlen(after_2), strlen(form_after_2) - 1, 12, 0, NULL);
+    house("house form, room for the rules only", after_2, strlen(after_2), strlen(FORM), 12, 0, NULL);
+    house("house form of a slow form", form_after_2, strlen(form_after_2), ROOM, 0, 0, form_after_2);
+    sprintf(wanted, "%sreactions,1\np,2\n", pair_rows);
+    house("house form, only the 2", two_and_one, strlen(two_and_one), strlen(wanted), 0, 0, wanted);
+    sprintf(wanted, "%sreactions,2\np,2\nq,3\n", pair_rows);
+    house("house form, in signal order", slow_pair, strlen(slow_pair), strlen(wanted), 0, 0, wanted);
+    house("house form, in signal order, again", wanted, strlen(wanted), strlen(wanted), 0, 0, wanted);
 }
 
 /* A sheet of `fix` rules, each between two events of its own, and the form, in which each leaves two rows; for an odd number of
@@ -710,8 +851,10 @@ static void rows_left(void)
     house("65 rows", sheet, strlen(sheet), OPENING_SHEET_MOST, 17, 0, NULL);
     house("65 rows, a byte less: 17 comes first", sheet, strlen(sheet), strlen(form) - 1, 17, 0, NULL);
     house("65 rows, no bytes: 17 comes first", sheet, strlen(sheet), 0, 17, 0, NULL);
+    strcat(sheet, "reactions,0\n");
+    house("65 rows and no reactions", sheet, strlen(sheet), OPENING_SHEET_MOST, 17, 0, NULL);
     strcat(sheet, "x");
-    house("65 rows and a byte: 10 comes first", sheet, strlen(sheet), OPENING_SHEET_MOST, 10, 54, NULL);
+    house("65 rows and a byte: 10 comes first", sheet, strlen(sheet), OPENING_SHEET_MOST, 10, 55, NULL);
 }
 
 /* 16 events, 4 signals: 256 minutes in 512 bytes, so that both bytes of their count are used. Event i waits for minute i. */
@@ -757,6 +900,7 @@ int main(void)
     readers_bit_by_bit();
     solver_lengths();
     solver_trials();
+    slow_signals();
     solver_without_table();
     refused_sheets();
     long_sheets();
@@ -767,15 +911,19 @@ int main(void)
     largest_table();
     played_tables();
     questions();
+    slow_questions();
     questions_turned_away();
     listings();
     longest_listing();
     house_forms();
+    house_forms_of_slow_signals();
     rows_left();
     solve_then_judge(example);
     solve_then_judge(signal_last);
     solve_then_judge(two_signals);
     solve_then_judge(high);
+    solve_then_judge(after_60);
+    solve_then_judge(slow_pair);
     printf("bench: %u calls, all answers and all lent bytes as the papers ask\n", calls);
     return 0;
 }

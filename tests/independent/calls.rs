@@ -4,7 +4,7 @@ use crate::gen::{self, Rng};
 use crate::lent::{lend_bytes, lend_room, lend_text, Lent};
 use crate::library::{self, Library, Question};
 use crate::model::{self, Net, Refusal, Verdict};
-use crate::{alike, count, text_of, Counts};
+use crate::{alike, count, pace, text_of, Counts};
 use std::process::exit;
 
 // ---------------------------------------------------------------- The answers that the papers ask for
@@ -163,7 +163,7 @@ fn ask_player(rng: &mut Rng, library: &Library, case: &Case, table: &Lent, count
     let good = judge_outcome(&case.reading, table.slice()) == Ok(Verdict::Pass);
     for _ in 0..if good { 6 } else { 1 } {
         let minutes = minutes(table.slice());
-        let minute = gen::minute(rng, &minutes);
+        let minute = gen::minute(rng, case.reading.as_ref().ok(), &minutes);
         let heard = gen::heard(rng, case.reading.as_ref().ok(), &minutes, minute);
         let heard = lend_text(rng, &heard);
         compare_due(library, case, table, minute, &heard, counts)?;
@@ -299,7 +299,7 @@ fn scene(case: &Case, table: Option<&Lent>) -> String {
 
 fn reading_kind(reading: &Result<Net, Refusal>) -> String {
     match reading {
-        Ok(_) => "sheet accepted".to_string(),
+        Ok(net) => format!("sheet accepted, {}", pace(net)),
         Err(refusal) => format!("sheet refused {:>2}", refusal.number),
     }
 }

@@ -1,8 +1,10 @@
-//! Wrong libraries, to see that the comparison notices them: those of document 01's last section, and some like them for each call.
+//! Wrong libraries, to see that the comparison notices them: those of document 01's last section, and some like them
+//! for each call and for reactions (02, point 3).
 
 use crate::library::own::{self, handed, minutes_of, refused, refused_call, two_bytes, verdict, write, write_text};
 use crate::library::{Library, Question};
 use crate::model::{self, truth, Kind, Net, Refusal, Rule, Verdict};
+use std::ops::RangeInclusive;
 
 const fn solver(solve: fn(&[u8], &mut [u8]) -> u64) -> Library {
     Library { solve, ..own::LIBRARY }
@@ -32,7 +34,7 @@ const REFUSES_ALL: Library = Library {
     house: |_, _| refused_call(17),
 };
 
-pub const FAULTS: [(&str, Library); 114] = [
+pub const FAULTS: [(&str, Library); 159] = [
     ("13-at-once", solver(|sheet, table| with_solver(sheet, table, |_| None))),
     ("refuses-all", REFUSES_ALL),
     ("minute-0-throughout", solver(|sheet, table| with_solver(sheet, table, |net| model::solve(net).map(|good| vec![0; good.len()])))),
@@ -83,8 +85,8 @@ pub const FAULTS: [(&str, Library); 114] = [
     ("due-letter-twice", due(|asked| with_list(asked, |_, list| without_doubles(list)))),
     ("due-last-truth-counts", due(|asked| with_list(asked, |_, list| last_truths(list)))),
     ("due-undefined-ignored", due(|asked| with_list(asked, without_undefined))),
-    ("due-heard-in-its-minute", due(|asked| with_player(asked, Player { heard: |given, minute| given <= minute, ..PLAYER }))),
-    ("due-heard-a-minute-late", due(|asked| with_player(asked, Player { heard: |given, minute| given + 1 < minute, ..PLAYER }))),
+    ("due-heard-in-its-minute", due(|asked| with_player(asked, Player { heard: |known, at| known - at < 2, ..PLAYER }))),
+    ("due-heard-a-minute-late", due(|asked| with_player(asked, Player { heard: |known, at| known < at, ..PLAYER }))),
     ("due-a-minute-late", due(|asked| with_player(asked, Player { due: |at, minute| at + 1 == minute, ..PLAYER }))),
     ("due-until-the-minute", due(|asked| with_player(asked, Player { due: |at, minute| at <= minute, ..PLAYER }))),
     ("due-in-case-0", due(|asked| with_player(asked, Player { answers: |_, _| 0, ..PLAYER }))),
@@ -147,11 +149,56 @@ pub const FAULTS: [(&str, Library); 114] = [
     ("house-needs-a-byte-more", house(|sheet, out| needing(out, |length| length + 1, |out| own::house(sheet, out)))),
     ("house-needs-the-sheet's-length", house(|sheet, out| needing(out, |_| sheet.len(), |out| own::house(sheet, out)))),
     ("house-line-lost", house(|sheet, out| write_text(model::house(sheet).map_err(|refusal| Refusal { line: 0, ..refusal }), out))),
+    ("reaction-0-accepted", judge(|sheet, table| read_by(sheet, table, Slip::ZeroAccepted))),
+    ("reaction-60-refused", judge(|sheet, table| read_by(sheet, table, Slip::SixtyRefused))),
+    ("reaction-61-accepted", judge(|sheet, table| read_by(sheet, table, Slip::SixtyOneAccepted))),
+    ("reaction-of-a-byte", judge(|sheet, table| read_by(sheet, table, Slip::MinutesOfAByte))),
+    ("reactions-first-line-counts", judge(|sheet, table| read_by(sheet, table, Slip::FirstLineCounts))),
+    ("reactions-last-line-counts", judge(|sheet, table| read_by(sheet, table, Slip::LastLineCounts))),
+    ("reactions-7-and-8-exchanged", judge(|sheet, table| read_by(sheet, table, Slip::SevenForEight))),
+    ("reactions-6-before-5", judge(|sheet, table| read_by(sheet, table, Slip::SixBeforeFive))),
+    ("reactions-7-before-5", judge(|sheet, table| read_by(sheet, table, Slip::SevenBeforeFive))),
+    ("reactions-first-byte-is-letter", judge(|sheet, table| read_by(sheet, table, Slip::FirstByteIsLetter))),
+    ("reactions-undefined-ignored", judge(|sheet, table| read_by(sheet, table, Slip::UndefinedIgnored))),
+    ("reactions-third-field-ignored", judge(|sheet, table| read_by(sheet, table, Slip::ThirdFieldIgnored))),
+    ("reactions-5-lines", judge(|sheet, table| read_by(sheet, table, Slip::FiveLines))),
+    ("reactions-as-many-as-signals", judge(|sheet, table| read_by(sheet, table, Slip::AsManyAsSignals))),
+    ("reactions-0-refused", judge(|sheet, table| read_by(sheet, table, Slip::NoLinesRefused))),
+    ("reactions-not-read", judge(|sheet, table| read_by(sheet, table, Slip::TenBehindRules))),
+    ("reactions-lone-feed-accepted", judge(|sheet, table| read_by(sheet, table, Slip::LoneFeedAccepted))),
+    ("reactions-lone-feed-is-10", judge(|sheet, table| read_by(sheet, table, Slip::LoneFeedIsTen))),
+    ("reactions-end-not-asked", judge(|sheet, table| read_by(sheet, table, Slip::EndNotAsked))),
+    ("reactions-feed-behind-accepted", judge(|sheet, table| read_by(sheet, table, Slip::FeedBehindAccepted))),
+    ("reactions-2-behind-them", judge(|sheet, table| read_by(sheet, table, Slip::TwoBehind))),
+    ("reactions-10-a-line-before", judge(|sheet, table| read_by(sheet, table, Slip::TenALineBefore))),
+    ("reactions-twice-accepted", judge(|sheet, table| read_by(sheet, table, Slip::TwiceAccepted))),
+    ("reactions-before-rules", judge(|sheet, table| own::judge(&section_moved(sheet), table))),
+    ("solver-reactions-ignored", solver(|sheet, table| solved_with(sheet, table, IGNORED))),
+    ("solver-reaction-late", solver(|sheet, table| solved_with(sheet, table, LATE))),
+    ("solver-reaction-early", solver(|sheet, table| solved_with(sheet, table, EARLY))),
+    ("solver-reaction-of-the-next", solver(|sheet, table| solved_with(sheet, table, NEXT))),
+    ("solver-longest-for-all", solver(|sheet, table| solved_with(sheet, table, LONGEST_OF_ALL))),
+    ("solver-reactions-by-place", solver(|sheet, table| own::solve(&by_place(sheet), table))),
+    ("judge-reactions-ignored", judge(|sheet, table| judged_with(sheet, table, IGNORED))),
+    ("judge-reaction-late", judge(|sheet, table| judged_with(sheet, table, LATE))),
+    ("judge-reaction-early", judge(|sheet, table| judged_with(sheet, table, EARLY))),
+    ("judge-reaction-of-the-next", judge(|sheet, table| judged_with(sheet, table, NEXT))),
+    ("judge-longest-for-all", judge(|sheet, table| judged_with(sheet, table, LONGEST_OF_ALL))),
+    ("judge-reactions-by-place", judge(|sheet, table| own::judge(&by_place(sheet), table))),
+    ("due-reactions-ignored", due(|asked| with_reactions(asked, IGNORED))),
+    ("due-reaction-late", due(|asked| with_reactions(asked, LATE))),
+    ("due-reaction-early", due(|asked| with_reactions(asked, EARLY))),
+    ("due-reaction-of-the-next", due(|asked| with_reactions(asked, NEXT))),
+    ("due-longest-for-all", due(|asked| with_reactions(asked, LONGEST_OF_ALL))),
+    ("due-reactions-by-place", due(|asked| own::due(Question { sheet: &by_place(asked.sheet), ..asked }))),
+    ("due-judged-without-reactions", due(judged_without_reactions)),
+    ("house-reactions-dropped", house(|sheet, out| write_text(model::house(sheet).map(without_reactions), out))),
+    ("house-room-without-reactions", house(room_without_reactions)),
 ];
 
 // ---------------------------------------------------------------- Wrong solvers
 
-fn with_solver(sheet: &[u8], table: &mut [u8], solve: fn(&Net) -> Option<Vec<u16>>) -> u64 {
+fn with_solver(sheet: &[u8], table: &mut [u8], solve: impl Fn(&Net) -> Option<Vec<u16>>) -> u64 {
     match model::read(sheet) {
         Ok(net) if table.len() / 2 >= net.cells() => match solve(&net) {
             None => refused_call(13),
@@ -177,8 +224,9 @@ fn one_later(net: &Net) -> Option<Vec<u16>> {
     Some(if model::judge(net, &later) == Verdict::Pass { later } else { good })
 }
 
-/// A solver by sweeps that uses a signal in the minute it is given. (One that looks only at cases that differ in one signal would
-/// be no fault: point 3 for those implies point 3 for all. A judge may not do so, since it must name the first breach.)
+/// A solver by sweeps that uses a signal a minute before it counts: with a reaction of 1, in the minute it is given.
+/// (One that looks only at cases that differ in one signal would be no fault: point 3 for those implies point 3 for
+/// all. A judge may not do so, since it must name the first breach.)
 fn same_minute_solve(net: &Net) -> Option<Vec<u16>> {
     let mut minutes = vec![0i64; net.cells()];
     loop {
@@ -209,10 +257,10 @@ fn sweep_rule(net: &Net, minutes: &mut [i64], case: usize, rule: &Rule) {
 
 fn sweep_case(net: &Net, minutes: &mut [i64], s: usize, r: usize) {
     for u in 0..net.events.len() {
-        let given = |signal: usize| minutes[net.cell(s, net.signals[signal].event)];
+        let known = |signal: usize| minutes[net.cell(s, net.signals[signal].event)] + net.signals[signal].reaction;
         let differing = (0..net.signals.len()).filter(|&signal| truth(s, signal) != truth(r, signal));
-        let earliest = differing.map(given).min().unwrap();
-        let bound = minutes[net.cell(r, u)].min(earliest);
+        let earliest = differing.map(known).min().unwrap();
+        let bound = minutes[net.cell(r, u)].min(earliest - 1);
         minutes[net.cell(s, u)] = minutes[net.cell(s, u)].max(bound);
     }
 }
@@ -300,7 +348,7 @@ fn with_rounds(answer: u64, number: u64) -> u64 {
 
 // ---------------------------------------------------------------- Wrong judges
 
-fn with_judge(sheet: &[u8], table: &[u8], judge: fn(&Net, &[u16]) -> Verdict) -> u64 {
+fn with_judge(sheet: &[u8], table: &[u8], judge: impl Fn(&Net, &[u16]) -> Verdict) -> u64 {
     match model::read(sheet) {
         Ok(net) if table.len() == 2 * net.cells() => verdict(judge(&net, &minutes_of(table))),
         _ => own::judge(sheet, table),
@@ -353,7 +401,8 @@ fn breach_with(net: &Net, table: &[u16], s: usize, r: usize, u: usize, wrong: Wr
     let minute = table[net.cell(s, u)];
     let heard = |signal: usize| {
         let given = table[net.cell(if wrong.minute_in_r { r } else { s }, net.signals[signal].event)];
-        truth(s, signal) != truth(r, signal) && (given < minute || wrong.same_minute && given == minute)
+        let known = i64::from(given) + net.signals[signal].reaction - i64::from(wrong.same_minute);
+        truth(s, signal) != truth(r, signal) && known <= i64::from(minute)
     };
     !(0..net.signals.len()).any(heard) && minute != table[net.cell(r, u)]
 }
@@ -488,10 +537,10 @@ fn without_undefined(net: &Net, mut list: List) -> List {
     list
 }
 
-/// How a player goes about it: whether a signal that is given at some minute is heard at another, and an event due; whether what a case has
-/// heard fits a list; and which of the cases it answers for where one fits.
+/// How a player goes about it: whether a signal that counts from some minute on is heard at another, and an event
+/// due; whether what a case has heard fits a list; and which of the cases it answers for where one fits.
 struct Player {
-    heard: fn(given: u16, minute: u16) -> bool,
+    heard: fn(known: i64, minute: i64) -> bool,
     due: fn(at: u16, minute: u16) -> bool,
     fits: fn(history: &[(u8, bool)], list: &[(u8, bool)]) -> bool,
     answers: fn(case: usize, cases: usize) -> usize,
@@ -499,7 +548,7 @@ struct Player {
 
 /// The right one.
 const PLAYER: Player = Player {
-    heard: |given, minute| given < minute,
+    heard: |known, minute| known <= minute,
     due: |at, minute| at == minute,
     fits: |history, list| part_of(history, list) && part_of(list, history),
     answers: |case, _| case,
@@ -518,9 +567,11 @@ fn with_player(asked: Question, player: Player) -> u64 {
         if model::due(net, table, asked.minute, &list) == Err(15) {
             return Err(15);
         }
-        let given = |case: usize, signal: usize| table[net.cell(case, net.signals[signal].event)];
+        let given = |case: usize, signal: usize| i64::from(table[net.cell(case, net.signals[signal].event)]);
+        let known = |case: usize, signal: usize| given(case, signal) + net.signals[signal].reaction;
         let history = |case: usize| -> List {
-            let heard = (0..net.signals.len()).filter(|&signal| (player.heard)(given(case, signal), asked.minute));
+            let at = i64::from(asked.minute);
+            let heard = (0..net.signals.len()).filter(|&signal| (player.heard)(known(case, signal), at));
             heard.map(|signal| (net.signals[signal].letter, truth(case, signal))).collect()
         };
         let fitting = (0..net.cases()).find(|&case| (player.fits)(&history(case), &list)).ok_or(16)?;
@@ -627,4 +678,237 @@ fn written_where_17(sheet: &[u8], out: &mut [u8]) -> u64 {
         out.iter_mut().zip(sheet).for_each(|(byte, typed)| *byte = *typed);
     }
     answer
+}
+
+// ---------------------------------------------------------------- Wrong readers of reactions
+
+/// What is wrong with a reader of reactions.
+#[derive(Clone, Copy, PartialEq)]
+enum Slip {
+    None,
+    ZeroAccepted,
+    SixtyRefused,
+    SixtyOneAccepted,
+    MinutesOfAByte,
+    FirstLineCounts,
+    LastLineCounts,
+    SevenForEight,
+    SixBeforeFive,
+    SevenBeforeFive,
+    FirstByteIsLetter,
+    UndefinedIgnored,
+    ThirdFieldIgnored,
+    FiveLines,
+    AsManyAsSignals,
+    NoLinesRefused,
+    TenBehindRules,
+    LoneFeedAccepted,
+    LoneFeedIsTen,
+    EndNotAsked,
+    FeedBehindAccepted,
+    TwoBehind,
+    TenALineBefore,
+    TwiceAccepted,
+}
+
+/// The right judge, with another reader.
+fn read_by(sheet: &[u8], table: &[u8], slip: Slip) -> u64 {
+    match read_with(sheet, slip) {
+        Err(refusal) => refused(refusal),
+        Ok(net) if table.len() == 2 * net.cells() => verdict(model::judge(&net, &minutes_of(table))),
+        Ok(_) => refused_call(11),
+    }
+}
+
+/// A sheet read the other way without a slip, so that it is the slip that is noticed.
+pub fn read_again(sheet: &[u8]) -> Result<Net, Refusal> {
+    read_with(sheet, Slip::None)
+}
+
+/// Where the rules of a sheet end, and what it says up to there; nothing where a line before that is at fault.
+fn up_to_reactions(sheet: &[u8]) -> Option<(usize, Net)> {
+    let ends = (1..=sheet.len()).filter(|&end| sheet[end - 1] == b'\n' && sheet.len() <= model::SHEET_MOST);
+    ends.filter_map(|end| model::read(&sheet[..end]).ok().map(|net| (end, net))).next()
+}
+
+/// The section of reactions read another way than the model's, with one slip or none: by lines that are cut before.
+fn read_with(sheet: &[u8], slip: Slip) -> Result<Net, Refusal> {
+    let Some((end, mut net)) = up_to_reactions(sheet) else { return model::read(sheet) };
+    let lines: Vec<&[u8]> = sheet[end..].split_inclusive(|&byte| byte == b'\n').collect();
+    let lines_before = sheet[..end].iter().filter(|&&byte| byte == b'\n').count();
+    let refuse = |number: u8, place: usize| Err(Refusal { number, line: lines_before + 1 + place });
+    match (&lines[..], slip) {
+        ([], _) | ([b"\n"], Slip::LoneFeedAccepted) => return Ok(net),
+        (_, Slip::TenBehindRules) | ([b"\n"], Slip::LoneFeedIsTen) => return refuse(10, 0),
+        _ => {}
+    }
+    let count = match count_line(lines[0], &net, slip) {
+        Err(number) => return refuse(number, 0),
+        Ok(count) => count as usize,
+    };
+    let mut seen: Vec<u8> = vec![];
+    for place in 1..=count {
+        match reaction_line(lines.get(place).copied().unwrap_or(b""), &net, &seen, slip) {
+            Err(number) => return refuse(number, place),
+            Ok((letter, minutes)) => {
+                let counts = slip != Slip::FirstLineCounts || !seen.contains(&letter);
+                let signals = net.signals.iter_mut().filter(|signal| counts && signal.letter == letter);
+                signals.for_each(|signal| signal.reaction = minutes);
+                seen.push(letter);
+            }
+        }
+    }
+    match (&lines[(count + 1).min(lines.len())..], slip) {
+        ([], _) | (_, Slip::EndNotAsked) | ([b"\n"], Slip::FeedBehindAccepted) => Ok(net),
+        ([next, ..], Slip::TwiceAccepted) if next.starts_with(b"reactions,") => Ok(net),
+        ([next, ..], Slip::TwoBehind) if !next.ends_with(b"\n") => refuse(2, count + 1),
+        (_, Slip::TenALineBefore) => refuse(10, count),
+        _ => refuse(10, count + 1),
+    }
+}
+
+/// A line without its line feed, cut at its commas; or 2.
+fn cut(line: &[u8]) -> Result<Vec<&[u8]>, u8> {
+    line.strip_suffix(b"\n").map(|line| line.split(|&byte| byte == b',').collect()).ok_or(2)
+}
+
+/// 4 for what is no number, 5 for one beyond its range.
+fn small_number(field: &[u8], range: RangeInclusive<i64>) -> Result<i64, u8> {
+    let text = String::from_utf8_lossy(field);
+    let digits = text.strip_prefix('-').unwrap_or(&text);
+    let whole = !digits.is_empty() && !digits.starts_with('0') && digits.bytes().all(|byte| byte.is_ascii_digit());
+    if whole || text == "0" { text.parse().ok().filter(|number| range.contains(number)).ok_or(5) } else { Err(4) }
+}
+
+fn count_line(line: &[u8], net: &Net, slip: Slip) -> Result<i64, u8> {
+    let most = match slip {
+        Slip::FiveLines => 5,
+        Slip::AsManyAsSignals => net.signals.len() as i64,
+        _ => 4,
+    };
+    match cut(line)?[..] {
+        [b"reactions", count] => small_number(count, i64::from(slip == Slip::NoLinesRefused)..=most),
+        _ => Err(3),
+    }
+}
+
+/// The letter and its minutes; these letters have a line already.
+fn reaction_line(line: &[u8], net: &Net, seen: &[u8], slip: Slip) -> Result<(u8, i64), u8> {
+    let fields = cut(line)?;
+    if fields.len() != 2 && (slip != Slip::ThirdFieldIgnored || fields.len() != 3) {
+        return Err(3);
+    }
+    let minutes = match slip {
+        Slip::ZeroAccepted => small_number(fields[1], 0..=60),
+        Slip::SixtyRefused => small_number(fields[1], 1..=59),
+        Slip::SixtyOneAccepted => small_number(fields[1], 1..=61),
+        Slip::MinutesOfAByte => match small_number(fields[1], 1..=65_535).map(|minutes| minutes % 256) {
+            Ok(0 | 61..) => Err(5),
+            minutes => minutes,
+        },
+        _ => small_number(fields[1], 1..=60),
+    };
+    let letter = match fields[0] {
+        [letter @ b'a'..=b'z'] => Ok(*letter),
+        [letter @ b'a'..=b'z', ..] if slip == Slip::FirstByteIsLetter => Ok(*letter),
+        _ => Err(6),
+    };
+    let twice = letter.is_ok_and(|letter| seen.contains(&letter));
+    match (minutes, letter) {
+        (Err(5), Err(6)) if slip == Slip::SixBeforeFive => Err(6),
+        (Err(5), _) if twice && slip == Slip::SevenBeforeFive => Err(7),
+        (Err(number), _) | (_, Err(number)) => Err(number),
+        (Ok(minutes), Ok(letter)) if twice => match slip {
+            Slip::FirstLineCounts | Slip::LastLineCounts => Ok((letter, minutes)),
+            slip => Err(if slip == Slip::SevenForEight { 8 } else { 7 }),
+        },
+        (Ok(minutes), Ok(letter)) => match net.signals.iter().any(|signal| signal.letter == letter) {
+            false if slip == Slip::SevenForEight => Err(7),
+            false if slip != Slip::UndefinedIgnored => Err(8),
+            _ => Ok((letter, minutes)),
+        },
+    }
+}
+
+/// A sheet whose reactions stand before its rules, with them behind the rules, if it is then accepted.
+fn section_moved(sheet: &[u8]) -> Vec<u8> {
+    let lines: Vec<&[u8]> = sheet.split_inclusive(|&byte| byte == b'\n').collect();
+    let place = |word: &[u8]| lines.iter().position(|line| line.starts_with(word)).unwrap_or(lines.len());
+    let (section, rules) = (place(b"reactions,"), place(b"rules,"));
+    if section > rules {
+        return sheet.to_vec();
+    }
+    let moved = [&lines[..section], &lines[rules..], &lines[section..rules]].concat().concat();
+    if model::read(&moved).is_ok() { moved } else { sheet.to_vec() }
+}
+
+// ---------------------------------------------------------------- Reactions mistaken
+
+/// The reaction that is taken for that of the signal at a place.
+type Mistake = fn(&Net, usize) -> i64;
+
+const IGNORED: Mistake = |_, _| 1;
+/// A reaction of 1 is left alone, as other faults are about it.
+const LATE: Mistake = |net, place| net.signals[place].reaction + i64::from(net.signals[place].reaction > 1);
+const EARLY: Mistake = |net, place| net.signals[place].reaction - i64::from(net.signals[place].reaction > 1);
+const NEXT: Mistake = |net, place| net.signals[(place + 1) % net.signals.len()].reaction;
+const LONGEST_OF_ALL: Mistake = |net, _| net.signals.iter().map(|signal| signal.reaction).max().unwrap();
+
+fn mistaken(net: &Net, mistake: Mistake) -> Net {
+    let mut mistaken = net.clone();
+    mistaken.signals.iter_mut().enumerate().for_each(|(place, signal)| signal.reaction = mistake(net, place));
+    mistaken
+}
+
+/// The right solver, told other reactions.
+fn solved_with(sheet: &[u8], table: &mut [u8], mistake: Mistake) -> u64 {
+    with_solver(sheet, table, |net| model::solve(&mistaken(net, mistake)))
+}
+
+/// The right judge, told other reactions.
+fn judged_with(sheet: &[u8], table: &[u8], mistake: Mistake) -> u64 {
+    with_judge(sheet, table, |net, table| model::judge(&mistaken(net, mistake), table))
+}
+
+/// The right judge and a player with other reactions.
+fn with_reactions(asked: Question, mistake: Mistake) -> u64 {
+    played_by(asked, |net, table, list| model::due(&mistaken(net, mistake), table, asked.minute, &list))
+}
+
+/// An accepted sheet whose first line of reactions is taken for the first signal's, and so on.
+fn by_place(sheet: &[u8]) -> Vec<u8> {
+    let (Some((end, _)), Ok(net)) = (up_to_reactions(sheet), model::read(sheet)) else { return sheet.to_vec() };
+    let mut text = sheet[..end].to_vec();
+    for (place, line) in sheet[end..].split_inclusive(|&byte| byte == b'\n').enumerate() {
+        match place.checked_sub(1) {
+            None => text.extend(line),
+            Some(place) => text.extend([&[net.signals[place].letter], &line[1..]].concat()),
+        }
+    }
+    text
+}
+
+fn judged_without_reactions(asked: Question) -> u64 {
+    match handed(asked.sheet, asked.table) {
+        Ok((net, table)) if model::judge(&mistaken(&net, IGNORED), &table) == Verdict::Pass => own::play(asked),
+        _ => own::due(asked),
+    }
+}
+
+/// A form as far as its rules.
+fn without_reactions(mut form: Vec<u8>) -> Vec<u8> {
+    form.truncate(up_to_reactions(&form).map_or(form.len(), |(end, _)| end));
+    form
+}
+
+/// A writer that asks for as much room as the rules and what stands before them take.
+fn room_without_reactions(sheet: &[u8], out: &mut [u8]) -> u64 {
+    match model::house(sheet) {
+        Ok(form) if (without_reactions(form.clone()).len()..form.len()).contains(&out.len()) => {
+            let length = out.len();
+            out.copy_from_slice(&form[..length]);
+            two_bytes(form.len() as u16)
+        }
+        _ => own::house(sheet, out),
+    }
 }

@@ -1,9 +1,10 @@
 //! Sheets, tables and questions to try, made from a seed and nothing else.
 //!
-//! `sheet` makes valid and damaged sheets of all sizes, `tiny_sheet` those that the search of `model.rs` can finish, and `table`
-//! the bytes of a table for a sheet that was accepted. `table_sheet` has the longest listings among its sheets; `house_sheet` makes
-//! sheets whose house forms are worth a look, and `retyped` types the procedure of an accepted sheet another way. `minute` and `heard` make
-//! questions to the player of a table.
+//! `sheet` makes valid and damaged sheets of all sizes, `tiny_sheet` those that the search of `model.rs` can finish,
+//! and `table` the bytes of a table for a sheet that was accepted. `table_sheet` has the longest listings among its
+//! sheets; `house_sheet` makes sheets whose house forms are worth a look, `retyped` types the procedure of an
+//! accepted sheet another way, and `slowed` makes a procedure of it that differs in one reaction only. `minute` and
+//! `heard` make questions to the player of a table.
 
 use crate::model::{self, Kind, Net, Verdict};
 use std::collections::BTreeSet;
@@ -77,6 +78,8 @@ pub struct Draft {
     pub events: Vec<String>,
     pub signals: Vec<(u8, usize)>,
     pub rules: Vec<DraftRule>,
+    /// The lines of the last section, each a signal and its minutes, in any order; or no section.
+    pub reactions: Option<Vec<(usize, i64)>>,
 }
 
 /// What a line is for.
@@ -86,6 +89,7 @@ enum Place {
     Name,
     Signal,
     Rule,
+    Reaction,
 }
 
 /// A sheet cut into lines and fields, so that it can be damaged with aim.
@@ -122,15 +126,31 @@ impl Draft {
             paper.put(Place::Name, &[name]);
         }
         paper.put(Place::Section, &["signals", &self.signals.len().to_string()]);
-        for &(letter, event) in &self.signals {
-            paper.put(Place::Signal, &[&char::from(letter).to_string(), &self.events[event]]);
+        for (signal, &(_, event)) in self.signals.iter().enumerate() {
+            paper.put(Place::Signal, &[&self.letter_text(signal), &self.events[event]]);
         }
         paper.put(Place::Section, &["rules", &self.rules.len().to_string()]);
         for rule in &self.rules {
             let (from, to) = (&self.events[rule.from], &self.events[rule.to]);
             paper.put(Place::Rule, &[rule.kind, from, to, &rule.limit.to_string(), &self.label_text(&rule.label)]);
         }
+        if let Some(lines) = &self.reactions {
+            paper.put(Place::Section, &["reactions", &lines.len().to_string()]);
+            for &(signal, minutes) in lines {
+                paper.put(Place::Reaction, &[&self.letter_text(signal), &minutes.to_string()]);
+            }
+        }
         paper
+    }
+
+    fn letter_text(&self, signal: usize) -> String {
+        char::from(self.signals[signal].0).to_string()
+    }
+
+    /// "A signal without a line keeps 1."
+    pub fn reaction(&self, signal: usize) -> i64 {
+        let lines = self.reactions.iter().flatten();
+        lines.copied().find(|line| line.0 == signal).map_or(1, |line| line.1)
     }
 
     fn label_text(&self, label: &[(usize, bool)]) -> String {
@@ -177,8 +197,9 @@ fn horizon(rng: &mut Rng) -> i64 {
 }
 
 /// Names that a careless reader might mistake for something else.
-const TRAPS: [&str; 16] = [
-    "horizon", "events", "signals", "rules", "max", "min", "fix", "p", "q", "a", "aa", "a0", "a00", "start", "zzzzzzzz", "z9999999",
+const TRAPS: [&str; 17] = [
+    "horizon", "events", "signals", "rules", "reaction", "max", "min", "fix", "p", "q", "a", "aa", "a0", "a00",
+    "start", "zzzzzzzz", "z9999999",
 ];
 
 fn name(rng: &mut Rng, length: usize) -> String {
@@ -215,7 +236,30 @@ pub fn bare(rng: &mut Rng, size: &Size, horizon: i64) -> Draft {
     let letters = rng.different(size.signals, 26);
     let givers = rng.different(size.signals, size.events);
     let signals = letters.into_iter().zip(givers).map(|(letter, event)| (b'a' + letter as u8, event)).collect();
-    Draft { horizon, events: names(rng, size.events), signals, rules: vec![] }
+    let reactions = reactions(rng, size.signals, horizon);
+    Draft { horizon, events: names(rng, size.events), signals, rules: vec![], reactions }
+}
+
+/// No section, or one with lines for some of the signals, in any order.
+fn reactions(rng: &mut Rng, signals: usize, horizon: i64) -> Option<Vec<(usize, i64)>> {
+    if rng.chance(50) {
+        return None;
+    }
+    let lines = if rng.chance(60) { signals } else { rng.below(signals + 1) };
+    Some(rng.different(lines, signals).into_iter().map(|signal| (signal, reaction(rng, horizon))).collect())
+}
+
+/// Minutes from 1 to 60: most often few, or few enough to be felt before the horizon; both ends and their neighbours.
+fn reaction(rng: &mut Rng, horizon: i64) -> i64 {
+    match rng.below(12) {
+        0..=1 => 1,
+        2..=4 => 2,
+        5..=7 => rng.between(2, (horizon / 3).clamp(2, 8)),
+        8 => rng.between(1, (horizon / 3).clamp(1, 60)),
+        9 => 60,
+        10 => rng.pick(&[59, 60]),
+        _ => rng.between(1, 60),
+    }
 }
 
 /// A draft of the given size. The first rules push events to later minutes; the others are laid close to the table that the
@@ -327,7 +371,11 @@ fn valid(rng: &mut Rng) -> Paper {
 /// A valid or a damaged sheet.
 pub fn sheet(rng: &mut Rng) -> Vec<u8> {
     let paper = valid(rng);
-    if rng.chance(55) { paper.bytes() } else { damaged(rng, paper) }
+    match rng.below(100) {
+        0..=54 => paper.bytes(),
+        55..=65 => damaged_at_its_end(rng, paper),
+        _ => damaged(rng, paper),
+    }
 }
 
 /// The same, or at times a sheet with the longest listing that there is.
@@ -498,6 +546,28 @@ pub fn turned(rule: &DraftRule) -> DraftRule {
 
 /// Another typing of the same procedure, for a sheet that was accepted.
 pub fn retyped(rng: &mut Rng, sheet: &[u8], net: &Net) -> Vec<u8> {
+    let mut draft = drafted_from(sheet, net);
+    type_anew(rng, &mut draft);
+    draft.bytes()
+}
+
+/// The same with another reaction of one signal, for an accepted sheet that has one: another procedure, with another
+/// house form.
+pub fn slowed(rng: &mut Rng, sheet: &[u8], net: &Net) -> Vec<u8> {
+    let mut draft = drafted_from(sheet, net);
+    let signal = rng.below(draft.signals.len());
+    let lines = draft.reactions.as_mut().expect("a line for each signal");
+    let old = lines[signal].1;
+    while lines[signal].1 == old {
+        let near = rng.pick(&[1, 2, 60, old - 1, old + 1]).clamp(1, 60);
+        lines[signal].1 = if rng.chance(50) { near } else { rng.between(1, 60) };
+    }
+    type_anew(rng, &mut draft);
+    draft.bytes()
+}
+
+/// What an accepted sheet says, with a line for the reaction of each signal.
+fn drafted_from(sheet: &[u8], net: &Net) -> Draft {
     let name = |event: &std::ops::Range<usize>| String::from_utf8(sheet[event.clone()].to_vec()).expect("a name");
     let word = |kind: Kind| match kind {
         Kind::Max => "max",
@@ -507,18 +577,18 @@ pub fn retyped(rng: &mut Rng, sheet: &[u8], net: &Net) -> Vec<u8> {
     let rule = |rule: &model::Rule| {
         DraftRule { kind: word(rule.kind), from: rule.from, to: rule.to, limit: rule.limit, label: rule.label.clone() }
     };
-    let mut draft = Draft {
+    Draft {
         horizon: net.horizon,
         events: net.events.iter().map(name).collect(),
         signals: net.signals.iter().map(|signal| (signal.letter, signal.event)).collect(),
         rules: net.rules.iter().map(rule).collect(),
-    };
-    type_anew(rng, &mut draft);
-    draft.paper().bytes()
+        reactions: Some(net.signals.iter().map(|signal| signal.reaction).enumerate().collect()),
+    }
 }
 
-/// Types the rules of a draft another way; what they ask stays the same.
+/// Types the rules and the reactions of a draft another way; what they ask stays the same.
 fn type_anew(rng: &mut Rng, draft: &mut Draft) {
+    draft.reactions = reactions_anew(rng, draft);
     let rules = &mut draft.rules;
     split_some(rng, rules);
     join_some(rng, rules);
@@ -530,6 +600,14 @@ fn type_anew(rng: &mut Rng, draft: &mut Draft) {
         rule.label = rng.shuffled(&rule.label);
     }
     *rules = rng.shuffled(rules);
+}
+
+/// The reactions in any order, those of 1 with a line or without; where no line is left, an empty section or none.
+fn reactions_anew(rng: &mut Rng, draft: &Draft) -> Option<Vec<(usize, i64)>> {
+    let percent = rng.pick(&[0, 50, 100]);
+    let all = (0..draft.signals.len()).map(|signal| (signal, draft.reaction(signal)));
+    let lines: Vec<(usize, i64)> = all.filter(|line| line.1 != 1 || rng.chance(percent)).collect();
+    if lines.is_empty() && rng.chance(50) { None } else { Some(rng.shuffled(&lines)) }
 }
 
 /// `max` and `min` for some of the `fix` rules, as long as there is room.
@@ -601,8 +679,22 @@ fn damaged(rng: &mut Rng, mut paper: Paper) -> Vec<u8> {
     bytes
 }
 
+/// A sheet with something done to its reactions, or behind its last line, and nothing else.
+fn damaged_at_its_end(rng: &mut Rng, mut paper: Paper) -> Vec<u8> {
+    if rng.chance(75) {
+        damage_reactions(rng, &mut paper);
+        return paper.bytes();
+    }
+    let mut bytes = paper.bytes();
+    match rng.below(5) {
+        0 => bytes.truncate(bytes.len() - 1),
+        _ => append_bytes(rng, &mut bytes),
+    }
+    bytes
+}
+
 fn damage_fields(rng: &mut Rng, paper: &mut Paper) {
-    match rng.below(16) {
+    match rng.below(18) {
         0..=1 => put_number(rng, paper),
         2 => shift_count(rng, paper),
         3..=4 => put_name(rng, paper),
@@ -612,7 +704,8 @@ fn damage_fields(rng: &mut Rng, paper: &mut Paper) {
         11..=12 => define_twice(rng, paper),
         13 => move_lines(rng, paper),
         14 => if rng.chance(50) { change_field_count(rng, paper) } else { empty_field(rng, paper) },
-        _ => damage_one_rule_twice(rng, paper),
+        15 => damage_one_rule_twice(rng, paper),
+        _ => damage_reactions(rng, paper),
     }
 }
 
@@ -655,12 +748,18 @@ fn put_number(rng: &mut Rng, paper: &mut Paper) {
 /// A count that is one too high or too low for the lines behind it.
 fn shift_count(rng: &mut Rng, paper: &mut Paper) {
     let place = rng.pick(&[Place::Name, Place::Signal, Place::Rule]);
+    let count = paper.of(place).len() as i64 + rng.pick(&[-1, 1]);
+    put_count(paper, place, count);
+}
+
+/// Writes the count of the section that has the lines for `place`.
+fn put_count(paper: &mut Paper, place: Place, count: i64) {
     let word: &[u8] = match place {
         Place::Name => b"events",
         Place::Signal => b"signals",
+        Place::Reaction => b"reactions",
         _ => b"rules",
     };
-    let count = paper.of(place).len() as i64 + rng.pick(&[-1, 1]);
     for (_, fields) in paper.lines.iter_mut().filter(|line| line.1.first().is_some_and(|first| first == word)) {
         *fields = vec![word.to_vec(), count.to_string().into_bytes()];
     }
@@ -709,15 +808,18 @@ fn odd_label(rng: &mut Rng, own: &[u8]) -> Vec<u8> {
 }
 
 fn put_label(rng: &mut Rng, paper: &mut Paper) {
-    let letters = paper.of(Place::Signal).into_iter().filter_map(|line| paper.lines[line].1.first());
-    let own: Vec<u8> = letters.filter_map(|letter| letter.first().copied()).collect();
-    let text = odd_label(rng, &own);
+    let text = odd_label(rng, &letters_of(paper));
     put(rng, paper, Place::Rule, 4, text);
 }
 
-fn put_letter(rng: &mut Rng, paper: &mut Paper) {
+fn odd_letter(rng: &mut Rng) -> Vec<u8> {
     let text = rng.pick(&["", "pq", "P", "1", "-", "!", "!p", " ", "p ", "p\r", "\u{e9}", "z", "a", "p"]);
-    put(rng, paper, Place::Signal, 0, text.as_bytes().to_vec());
+    text.as_bytes().to_vec()
+}
+
+fn put_letter(rng: &mut Rng, paper: &mut Paper) {
+    let text = odd_letter(rng);
+    put(rng, paper, Place::Signal, 0, text);
 }
 
 fn put_word(rng: &mut Rng, paper: &mut Paper) {
@@ -725,7 +827,10 @@ fn put_word(rng: &mut Rng, paper: &mut Paper) {
         let word = rng.pick(&["", "max", "min", "fix", "Max", "MIN", "max ", "mix", "fixx", "ma", " fix", "max\0"]);
         put(rng, paper, Place::Rule, 0, word.as_bytes().to_vec());
     } else {
-        let word = rng.pick(&["horizon", "events", "signals", "rules", "rule", "Events", "signals ", "", "event", "eventss", "rul\u{e9}s"]);
+        let word = rng.pick(&[
+            "horizon", "events", "signals", "rules", "reactions", "rule", "Events", "signals ", "", "event", "eventss",
+            "rul\u{e9}s", "reaction", "reactionss",
+        ]);
         put(rng, paper, Place::Section, 0, word.as_bytes().to_vec());
     }
 }
@@ -786,6 +891,111 @@ fn damage_one_rule_twice(rng: &mut Rng, paper: &mut Paper) {
     }
 }
 
+/// Something done to the section of reactions, which is put behind the rules first if there is none.
+fn damage_reactions(rng: &mut Rng, paper: &mut Paper) {
+    if !paper.lines.iter().any(|line| line.1.first().is_some_and(|word| word == b"reactions")) {
+        paper.put(Place::Section, &["reactions", "0"]);
+    }
+    if paper.of(Place::Reaction).is_empty() && rng.chance(80) {
+        let letters = letters_of(paper);
+        letters.iter().for_each(|&letter| put_reaction(rng, paper, letter));
+        put_count(paper, Place::Reaction, letters.len() as i64);
+    }
+    match rng.below(20) {
+        0..=4 => {
+            let text = if rng.chance(70) { odd_reaction(rng) } else { odd_number(rng) };
+            put(rng, paper, Place::Reaction, 1, text);
+        }
+        5..=7 => {
+            let text = odd_letter(rng);
+            put(rng, paper, Place::Reaction, 0, text);
+        }
+        8..=10 => add_reactions(rng, paper),
+        11 => {
+            let count = paper.of(Place::Reaction).len() as i64 + rng.pick(&[-1, 1]);
+            put_count(paper, Place::Reaction, count);
+        }
+        12 => put_count(paper, Place::Reaction, rng.pick(&[-1, 4, 5, 5, 6])),
+        13..=14 => damage_one_reaction_twice(rng, paper),
+        15 => change_reaction_fields(rng, paper),
+        16 => paper.lines.extend(reaction_section(paper)),
+        17 => move_section(paper),
+        _ => drop(paper.lines.pop()),
+    }
+}
+
+fn put_reaction(rng: &mut Rng, paper: &mut Paper, letter: u8) {
+    paper.put(Place::Reaction, &[&char::from(letter).to_string(), &reaction(rng, 60).to_string()]);
+}
+
+/// The letters of the signals' lines, as far as there are any.
+fn letters_of(paper: &Paper) -> Vec<u8> {
+    let letters = paper.of(Place::Signal).into_iter().filter_map(|line| paper.lines[line].1.first());
+    letters.filter_map(|letter| letter.first().copied()).collect()
+}
+
+/// The ends of the range and what is beyond them, or no number; also what a byte or 16 bits would make of a larger
+/// one.
+fn odd_reaction(rng: &mut Rng) -> Vec<u8> {
+    const MINUTES: [&str; 18] = [
+        "0", "0", "61", "61", "60", "59", "1", "-1", "-60", "", "01", "-0", "+2", "2 ", "2\r", "257", "65538", "62",
+    ];
+    rng.pick(&MINUTES).as_bytes().to_vec()
+}
+
+/// Lines for letters that have one, for undefined ones, or for any others, with their count: more than there are
+/// signals, or more than four.
+fn add_reactions(rng: &mut Rng, paper: &mut Paper) {
+    let own = letters_of(paper);
+    let goal = if rng.chance(50) { paper.of(Place::Reaction).len() + 1 } else { rng.pick(&[4, 4, 5]) };
+    while paper.of(Place::Reaction).len() < goal {
+        let letter = if own.is_empty() || rng.chance(30) { rng.pick(b"abpqz") } else { rng.pick(&own) };
+        put_reaction(rng, paper, letter);
+    }
+    put_count(paper, Place::Reaction, goal as i64);
+}
+
+/// Two faults on one line, or a fault and a letter that has a line already.
+fn damage_one_reaction_twice(rng: &mut Rng, paper: &mut Paper) {
+    let lines = paper.of(Place::Reaction);
+    let Some(&line) = lines.last() else { return };
+    let letter = match paper.lines[lines[0]].1.first() {
+        Some(first) if rng.chance(50) => first.clone(),
+        _ => odd_letter(rng),
+    };
+    let mut fields = vec![letter, odd_reaction(rng)];
+    if rng.chance(15) {
+        fields.push(vec![]);
+    }
+    paper.lines[line].1 = fields;
+}
+
+fn change_reaction_fields(rng: &mut Rng, paper: &mut Paper) {
+    let line = paper.lines.len() - 1 - rng.below(reaction_section(paper).len());
+    let fields = &mut paper.lines[line].1;
+    match rng.below(4) {
+        0 => fields.push(b"1".to_vec()),
+        1 => fields.insert(0, vec![]),
+        2 => drop(fields.pop()),
+        _ => fields.clear(),
+    }
+}
+
+/// The lines of the section, its heading first.
+fn reaction_section(paper: &Paper) -> Vec<(Place, Vec<Vec<u8>>)> {
+    let heading = |line: &(Place, Vec<Vec<u8>>)| line.1.first().is_some_and(|word| word == b"reactions");
+    paper.lines.iter().skip_while(|line| !heading(line)).cloned().collect()
+}
+
+/// The section before that of the rules.
+fn move_section(paper: &mut Paper) {
+    let section = reaction_section(paper);
+    paper.lines.truncate(paper.lines.len() - section.len());
+    let rules = paper.lines.iter().position(|line| line.1.first().is_some_and(|word| word == b"rules"));
+    let place = rules.unwrap_or(paper.lines.len());
+    paper.lines.splice(place..place, section);
+}
+
 fn damage_bytes(rng: &mut Rng, bytes: &mut Vec<u8>) {
     match rng.below(12) {
         0..=2 => change_byte(rng, bytes),
@@ -818,9 +1028,14 @@ fn change_byte(rng: &mut Rng, bytes: &mut Vec<u8>) {
     }
 }
 
+/// Bytes behind the end: behind the rules they begin the section of reactions, behind it there is nothing.
 fn append_bytes(rng: &mut Rng, bytes: &mut Vec<u8>) {
-    let text = rng.pick(&["\n", "\n\n", " ", "x", "\r\n", "\0", "max,start,start,0,-\n", "rules,0\n"]);
-    bytes.extend_from_slice(text.as_bytes());
+    const TEXTS: [&str; 16] = [
+        "\n", "\n", "\n\n", " ", "x", "\r\n", "\0", "max,start,start,0,-\n", "rules,0\n", "reactions,0\n",
+        "reactions,0", "reactions,0\n\n", "reactions,0\nx", "reactions,0\nreactions,0\n", "reactions,00\n",
+        "reactions\n",
+    ];
+    bytes.extend_from_slice(rng.pick(&TEXTS).as_bytes());
 }
 
 fn all_lines_end_in_crlf(bytes: &mut Vec<u8>) {
@@ -853,11 +1068,16 @@ pub fn bytes_of(table: &[u16]) -> Vec<u8> {
 
 /// The bytes of a table for an accepted sheet; `solved` is its least good table, if it has one.
 pub fn table(rng: &mut Rng, net: &Net, solved: Option<&[u16]>) -> Vec<u8> {
-    let mut table = match solved {
-        Some(solved) if rng.chance(65) => solved.to_vec(),
+    let hasty = if net.is_slow() && rng.chance(20) { model::solve(&hastened(net)) } else { None };
+    let mut table = match (hasty, solved) {
+        (Some(hasty), _) => hasty,
+        (_, Some(solved)) if rng.chance(65) => solved.to_vec(),
         _ if rng.chance(70) => heard_table(rng, net),
         _ => random_table(rng, net),
     };
+    if net.is_slow() && rng.chance(30) {
+        act_about_when_known(rng, net, &mut table);
+    }
     match rng.below(16) {
         0..=2 => {}
         3..=5 => nudge_cell(rng, &mut table),
@@ -873,6 +1093,30 @@ pub fn table(rng: &mut Rng, net: &Net, solved: Option<&[u16]>) -> Vec<u8> {
         make_odd(rng, &mut bytes);
     }
     bytes
+}
+
+/// The same procedure, with each signal trusted after a minute: its tables may be too quick for the sheet's reactions.
+fn hastened(net: &Net) -> Net {
+    let mut hastened = net.clone();
+    hastened.signals.iter_mut().for_each(|signal| signal.reaction = 1);
+    hastened
+}
+
+/// Moves an event, where a signal is true, to the minute at which the signal counts there, or to one of its
+/// neighbours, and leaves it or moves it to a later minute where the signal is false.
+fn act_about_when_known(rng: &mut Rng, net: &Net, table: &mut [u16]) {
+    let (signal, event) = (rng.below(net.signals.len()), rng.below(net.events.len()));
+    let (off, wait) = (rng.pick(&[-1, -1, 0, 0, 1]), rng.pick(&[0, 0, 1, 5]));
+    let (truth, given) = (rng.chance(50), net.signals[signal].event);
+    for case in 0..net.cases() {
+        let known = i64::from(table[net.cell(case, given)]) + net.signals[signal].reaction;
+        let cell = &mut table[net.cell(case, event)];
+        match model::truth(case, signal) == truth {
+            true => *cell = (known + off).clamp(0, 65_535) as u16,
+            false if wait > 0 => *cell = (known + wait).clamp(0, 65_535) as u16,
+            false => {}
+        }
+    }
 }
 
 /// A table whose minutes mostly have five digits, whatever the sheet says.
@@ -919,7 +1163,8 @@ fn heard_table(rng: &mut Rng, net: &Net) -> Vec<u16> {
 /// Moves an event to later minutes in cases that earlier signals tell apart.
 fn put_off(rng: &mut Rng, net: &Net, table: &mut [u16], event: usize) {
     let minute = table[event];
-    let heard = |signal: usize| table[net.signals[signal].event] < minute;
+    let known = |signal: usize| i64::from(table[net.signals[signal].event]) + net.signals[signal].reaction;
+    let heard = |signal: usize| known(signal) <= i64::from(minute);
     let mask: usize = (0..net.signals.len()).filter(|&signal| heard(signal)).map(|signal| 1 << signal).sum();
     let room = net.horizon - i64::from(minute);
     let waits: Vec<i64> = (0..net.cases()).map(|_| rng.between(0, room.min(3))).collect();
@@ -985,9 +1230,14 @@ fn make_odd(rng: &mut Rng, bytes: &mut Vec<u8>) {
 
 // ---------------------------------------------------------------- Questions to the player
 
-/// A minute to ask about: one that the table has, one next to it or with another high byte; an edge; or any.
-pub fn minute(rng: &mut Rng, table: &[u16]) -> u16 {
-    let near = if table.is_empty() { 0 } else { rng.pick(table) };
+/// A minute to ask about: one that the table has, or at which a signal counts in it; one next to it or with another
+/// high byte; an edge; or any.
+pub fn minute(rng: &mut Rng, net: Option<&Net>, table: &[u16]) -> u16 {
+    let near = match net {
+        _ if table.is_empty() => 0,
+        Some(net) if !net.signals.is_empty() && rng.chance(35) => minute_known(rng, net, table),
+        _ => rng.pick(table),
+    };
     match rng.below(20) {
         0..=8 => near,
         9..=13 => near.saturating_add(1),
@@ -996,6 +1246,13 @@ pub fn minute(rng: &mut Rng, table: &[u16]) -> u16 {
         17..=18 => rng.pick(&[0, 1, 10_080, 10_081, 65_535]),
         _ => rng.next() as u16,
     }
+}
+
+/// The minute at which a signal counts in some case. A table of another length has minute 0 for what it lacks.
+fn minute_known(rng: &mut Rng, net: &Net, table: &[u16]) -> u16 {
+    let (case, signal) = (rng.below(net.cases()), &net.signals[rng.below(net.signals.len())]);
+    let given = table.get(net.cell(case, signal.event)).copied().unwrap_or(0);
+    given.saturating_add(signal.reaction as u16)
 }
 
 /// A text of signals heard: what some case has heard before the minute, in any order; or that with something done to the list or to the text.
@@ -1016,17 +1273,15 @@ pub fn heard(rng: &mut Rng, net: Option<&Net>, table: &[u16], minute: u16) -> Ve
     text
 }
 
-/// What some case has heard before the minute, or at times before the one after it or the one before it. A table of another length has
-/// minute 0 for what it lacks.
+/// What some case has heard before the minute, or at times before the one after it or the one before it, or what one
+/// would have heard that trusts each signal after a minute. A table of another length has minute 0 for what it lacks.
 fn history(rng: &mut Rng, net: &Net, table: &[u16], minute: u16) -> Vec<(u8, bool)> {
     let case = rng.below(net.cases());
-    let before = match rng.below(20) {
-        0..=1 => minute.saturating_add(1),
-        2 => minute.saturating_sub(1),
-        _ => minute,
-    };
-    let given = |event: usize| table.get(net.cell(case, event)).copied().unwrap_or(0);
-    let all = net.signals.iter().enumerate().filter(|(_, signal)| given(signal.event) < before);
+    let at = i64::from(minute) + rng.pick(&[1, 1, -1, 0, 0, 0, 0, 0, 0, 0, 0, 0, 0, 0, 0, 0, 0, 0, 0, 0]);
+    let hasty = rng.chance(10);
+    let given = |event: usize| i64::from(table.get(net.cell(case, event)).copied().unwrap_or(0));
+    let known = |signal: &model::Signal| given(signal.event) + if hasty { 1 } else { signal.reaction };
+    let all = net.signals.iter().enumerate().filter(|(_, signal)| known(signal) <= at);
     all.map(|(place, signal)| (signal.letter, model::truth(case, place))).collect()
 }
 

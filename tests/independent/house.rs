@@ -1,15 +1,17 @@
-//! The mode `house`: a program that reads a sheet on standard input and prints its house form (02, point 2), against the model.
+//! The mode `house`: a program that reads a sheet on standard input and prints its house form (02, points 2 and 3),
+//! against the model.
 
 use crate::gen::{self, Rng};
 use crate::model;
 use crate::program::{check, printed, Mode, Program};
 use crate::{count, text_of, Counts};
 
-const KINDS: [&str; 3] = ["forms", "refused 17", "refused otherwise"];
+const KINDS: [&str; 4] = ["forms", "slow forms", "refused 17", "refused otherwise"];
 
 pub const HOUSE: Mode = Mode { word: "house", compare_one, kinds: &KINDS, tally };
 
-/// The sheet of one seed; where it has a form, also the form itself and another typing of the same procedure.
+/// The sheet of one seed; where it has a form, also the form itself and another typing of the same procedure, and for
+/// some a procedure that differs in one reaction.
 fn compare_one(program: Program, seed: u64, counts: &mut Counts) -> Result<(), String> {
     let mut rng = Rng::new(seed);
     let (kind, sheet) = gen::house_sheet(&mut rng);
@@ -22,7 +24,15 @@ fn compare_one(program: Program, seed: u64, counts: &mut Counts) -> Result<(), S
             check(program, "a form", &form, &form)?;
             let net = model::read(&sheet).expect("a sheet that has a form");
             let retyped = gen::retyped(&mut rng, &sheet, &net);
-            check(program, &format!("a sheet retyped, which was\n{}and is", text_of(&sheet)), &retyped, &form)
+            check(program, &format!("a sheet retyped, which was\n{}and is", text_of(&sheet)), &retyped, &form)?;
+            if net.is_slow() {
+                count(counts, "slow forms".to_string());
+            }
+            if net.signals.is_empty() || rng.chance(75) {
+                return Ok(());
+            }
+            let slowed = gen::slowed(&mut rng, &sheet, &net);
+            check(program, "a sheet with another reaction", &slowed, &printed(model::house(&slowed)))
         }
         Err(refusal) => {
             count(counts, if refusal.number == 17 { "refused 17" } else { "refused otherwise" }.to_string());
@@ -36,5 +46,6 @@ fn tally(counts: &Counts) -> String {
     let of = |kind: &str| counts.get(kind).copied().unwrap_or(0);
     let kinds = ["drafted", "crowded", "brimming", "damaged"].map(|kind| format!("{} {kind}", of(kind)));
     let ends = ["refused 17", "refused otherwise"].map(|kind| format!("{} {kind}", of(kind)));
-    format!("{}; {} forms, each also for itself and retyped, {}", kinds.join(", "), of("forms"), ends.join(", "))
+    let forms = format!("{} forms, {} of them with reactions", of("forms"), of("slow forms"));
+    format!("{}; {forms}, each also for itself and retyped, {}", kinds.join(", "), ends.join(", "))
 }

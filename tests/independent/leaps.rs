@@ -44,9 +44,16 @@ enum Slip {
     SameMinute,
     OneSignalCases,
     RaisedInPlace,
+    ReactionOfOne,
+    ReactionOfSixty,
+    ReactionAMinuteMore,
+    ReactionOfTheNext,
+    LongestForAll,
+    ShortestForAll,
+    LeaptAsSixty,
 }
 
-pub const COUNT_FAULTS: [(&str, Tally); 20] = [
+pub const COUNT_FAULTS: [(&str, Tally); 26] = [
     ("last-round-not-counted", wrong(|sheet| answer(sheet, Slip::LastNotCounted))),
     ("idle-round-not-counted", wrong(|sheet| answer(sheet, Slip::IdleNotCounted))),
     ("passing-round-not-counted", wrong(|sheet| answer(sheet, Slip::PassingNotCounted))),
@@ -64,6 +71,12 @@ pub const COUNT_FAULTS: [(&str, Tally); 20] = [
     ("signal-in-its-own-minute", wrong(|sheet| answer(sheet, Slip::SameMinute))),
     ("one-signal-cases-only", wrong(|sheet| answer(sheet, Slip::OneSignalCases))),
     ("raised-in-place", wrong(|sheet| answer(sheet, Slip::RaisedInPlace))),
+    ("reaction-of-one", wrong(|sheet| answer(sheet, Slip::ReactionOfOne))),
+    ("reaction-a-minute-more", wrong(|sheet| answer(sheet, Slip::ReactionAMinuteMore))),
+    ("reaction-of-the-next-signal", wrong(|sheet| answer(sheet, Slip::ReactionOfTheNext))),
+    ("longest-reaction-for-all", wrong(|sheet| answer(sheet, Slip::LongestForAll))),
+    ("shortest-reaction-for-all", wrong(|sheet| answer(sheet, Slip::ShortestForAll))),
+    ("reaction-taken-for-60-in-leaps", wrong(|sheet| answer(sheet, Slip::LeaptAsSixty))),
     ("refused-sheet-counts-one", wrong(|sheet| leaping(sheet).max(1))),
     ("plain-rounds-wrong", Tally { plain: |sheet| answer(sheet, Slip::LastNotCounted), ..own::TALLY }),
     ("never-leaps", Tally { leaping: own::plain, plain: own::plain, turns: |sheet| own::plain(sheet) & 0xffff_ffff }),
@@ -90,6 +103,8 @@ fn answer(sheet: &[u8], slip: Slip) -> u64 {
 struct Leaper {
     /// The bounds of each cell; the first is its own value.
     bounds: Vec<Vec<Bound>>,
+    /// The same as a leap is tested by: a wrong solver may take others there.
+    leap_bounds: Vec<Vec<Bound>>,
     limits: Table,
     events: usize,
     slip: Slip,
@@ -107,9 +122,10 @@ impl Leaper {
         let events = net.events.len();
         let horizon = if slip == Slip::HorizonExcluded { net.horizon - 1 } else { net.horizon };
         let limit = |cell: usize| if cell % events == 0 && slip != Slip::StartNotLimited { 0 } else { horizon };
-        let bounds = |cell: usize| bounds(net, cell / events, cell % events, slip);
-        let cells = 0..net.cells();
-        Leaper { bounds: cells.clone().map(bounds).collect(), limits: cells.map(limit).collect(), events, slip }
+        let all = |slip: Slip| (0..net.cells()).map(|cell| bounds(net, cell / events, cell % events, slip)).collect();
+        let leap_slip = if slip == Slip::LeaptAsSixty { Slip::ReactionOfSixty } else { slip };
+        let limits = (0..net.cells()).map(limit).collect();
+        Leaper { bounds: all(slip), leap_bounds: all(leap_slip), limits, events, slip }
     }
 
     /// The run, and how many rounds were made one by one.
@@ -206,7 +222,7 @@ impl Leaper {
     /// The same for one cell in one round; `after` is what the round made of it.
     fn periods_of_cell(&self, cell: usize, before: &Table, after: i64, rises: &Table) -> i64 {
         let (mut above, mut kept) = (MANY, 0);
-        for bound in &self.bounds[cell] {
+        for bound in &self.leap_bounds[cell] {
             let parts = bound.iter().map(|&(other, wait)| (before[other] + wait - after, rises[other] - rises[cell]));
             above = above.min(first_above(parts.clone()));
             kept = kept.max(times_kept(parts));
@@ -233,17 +249,32 @@ fn bounds(net: &Net, s: usize, u: usize, slip: Slip) -> Vec<Bound> {
             bounds.push(vec![(net.cell(s, rule.to), -rule.limit)]);
         }
     }
-    let reaction = if slip == Slip::SameMinute { 0 } else { 1 };
     for r in (0..net.cases()).filter(|&r| r != s && (slip != Slip::OneSignalCases || (r ^ s).is_power_of_two())) {
         let mut bound = vec![(net.cell(r, u), 0)];
         for (signal, given) in net.signals.iter().enumerate() {
             if truth(s, signal) != truth(r, signal) {
-                bound.push((net.cell(s, given.event), reaction));
+                bound.push((net.cell(s, given.event), reaction(net, signal, slip)));
             }
         }
         bounds.push(bound);
     }
     bounds
+}
+
+/// The minutes after which a signal counts.
+fn reaction(net: &Net, signal: usize, slip: Slip) -> i64 {
+    let of = |signal: usize| net.signals[signal].reaction;
+    let all = (0..net.signals.len()).map(of);
+    match slip {
+        Slip::SameMinute => of(signal) - 1,
+        Slip::ReactionOfOne => 1,
+        Slip::ReactionOfSixty => 60,
+        Slip::ReactionAMinuteMore => of(signal) + i64::from(of(signal) > 1),
+        Slip::ReactionOfTheNext => of((signal + 1) % net.signals.len()),
+        Slip::LongestForAll => all.max().unwrap(),
+        Slip::ShortestForAll => all.min().unwrap(),
+        _ => of(signal),
+    }
 }
 
 /// The least number of rounds whose rises, up to the last table, are those of as many rounds before them.

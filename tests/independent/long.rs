@@ -51,7 +51,8 @@ fn long_sheet(rng: &mut Rng, make: Maker, mut horizon: i64) -> Vec<u8> {
 pub fn request_8(events: usize, horizon: i64) -> Vec<u8> {
     let names = (0..events).map(|event| char::from(b'a' + event as u8).to_string()).collect();
     let places: Vec<usize> = (1..events).collect();
-    Draft { horizon, events: names, signals: vec![], rules: ring_rows(&places, 1, |_| vec![]) }.bytes()
+    let rules = ring_rows(&places, 1, |_| vec![]);
+    Draft { horizon, events: names, signals: vec![], rules, reactions: None }.bytes()
 }
 
 /// A sheet of the other generator, valid or damaged, whose run is not too long.
@@ -120,7 +121,7 @@ fn tighten(rng: &mut Rng, draft: &mut Draft) {
     }
 }
 
-/// A draft without rules whose signals are not given by the start.
+/// A draft without rules whose signals are not given by the start. About half of those with signals have reactions.
 fn giving(rng: &mut Rng, events: usize, signals: usize, horizon: i64) -> Draft {
     let mut draft = gen::bare(rng, &Size { events, signals, rules: 0 }, horizon);
     let givers = rng.different(signals, events - 1);
@@ -336,19 +337,20 @@ fn whole_label(rng: &mut Rng, signals: usize) -> Label {
     (0..signals).map(|signal| (signal, rng.chance(50))).collect()
 }
 
-/// A table in which the signals are given at the minutes that the rules ask, and each other event comes soon after one of them, at a
-/// minute that depends only on those given by then.
+/// A table in which the signals are given at the minutes that the rules ask, and each other event comes soon after
+/// one of them counts, at a minute that depends only on those that count by then.
 fn hidden_table(rng: &mut Rng, net: &Net) -> Vec<i64> {
     let given: Vec<i64> = net.signals.iter().map(|signal| net.rules.iter().find(|rule| rule.to == signal.event).unwrap().limit).collect();
+    let known: Vec<i64> = given.iter().zip(&net.signals).map(|(minute, signal)| minute + signal.reaction).collect();
     let mut hidden = vec![0; net.cells()];
     for event in 1..net.events.len() {
-        let after = given[rng.below(given.len())];
-        let heard: usize = (0..given.len()).filter(|&signal| given[signal] <= after).map(|signal| 1 << signal).sum();
-        let next = given.iter().copied().filter(|&minute| minute > after).min().unwrap_or(net.horizon);
-        let waits: Vec<i64> = (0..net.cases()).map(|_| rng.between(1, 4)).collect();
+        let from = known[rng.below(known.len())];
+        let heard: usize = (0..known.len()).filter(|&signal| known[signal] <= from).map(|signal| 1 << signal).sum();
+        let last = known.iter().filter(|&&minute| minute > from).map(|minute| minute - 1).fold(net.horizon, i64::min);
+        let waits: Vec<i64> = (0..net.cases()).map(|_| rng.between(0, 3)).collect();
         let own = net.signals.iter().position(|signal| signal.event == event);
         for case in 0..net.cases() {
-            hidden[net.cell(case, event)] = own.map_or((after + waits[case & heard]).min(next), |signal| given[signal]);
+            hidden[net.cell(case, event)] = own.map_or((from + waits[case & heard]).min(last), |signal| given[signal]);
         }
     }
     hidden

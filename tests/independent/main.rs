@@ -132,10 +132,15 @@ fn alike(net: &Net, table: &[u16]) -> &'static str {
     if table.chunks(events).all(|row| *row == table[..events]) { "cases alike" } else { "cases differ" }
 }
 
+/// Whether some signal has a reaction other than 1.
+fn pace(net: &Net) -> &'static str {
+    if net.is_slow() { "slow" } else { "not slow" }
+}
+
 // ---------------------------------------------------------------- selftest and faults
 
 /// Raising, searching and rounds agree on tiny sheets, and so do a sheet and its house form, and its forms and those of another typing;
-/// raising and rounds agree on other sheets of few rounds.
+/// raising and rounds agree on other sheets of few rounds, and two readers of reactions on all of those.
 fn selftest(seed: u64, cases: u64) {
     let mut counts = Counts::new();
     for seed in seed..seed + cases {
@@ -146,13 +151,15 @@ fn selftest(seed: u64, cases: u64) {
             println!("raised {raised:?}\nfound {found:?}\n{}again: compare selftest {seed} 1", sheet.escape_ascii());
             exit(1);
         }
+        let other = gen::sheet(&mut Rng::new(seed));
         let alike_otherwise = selftest_house(&sheet, &net, seed).and_then(|_| selftest_rounds(&sheet));
-        if let Err(words) = alike_otherwise.and_then(|_| selftest_rounds(&gen::sheet(&mut Rng::new(seed)))) {
+        let others_alike = || selftest_rounds(&other).and_then(|_| selftest_reader(&other));
+        if let Err(words) = alike_otherwise.and_then(|_| others_alike()) {
             println!("{words}\n{}again: compare selftest {seed} 1", text_of(&sheet));
             exit(1);
         }
         let kind = raised.map_or("no table".to_string(), |table| format!("a table, {}", alike(&net, &table)));
-        count(&mut counts, format!("{} cases, {kind}", net.cases()));
+        count(&mut counts, format!("{} cases, {}, {kind}", net.cases(), pace(&net)));
     }
     for (kind, count) in &counts {
         println!("{count:>8}  {kind}");
@@ -173,7 +180,14 @@ fn selftest_rounds(sheet: &[u8]) -> Result<(), String> {
     if i64::from(run.count) > most { Err(format!("{} rounds, more than {most}\n{}", run.count, text_of(sheet))) } else { Ok(()) }
 }
 
-/// "The form reads back to the same good tables, and a second pass changes no byte"; points 1 and 2 have all that may differ.
+/// The model's reader, and that of `faults.rs` without a slip.
+fn selftest_reader(sheet: &[u8]) -> Result<(), String> {
+    let (one, other) = (model::read(sheet), faults::read_again(sheet));
+    if one == other { Ok(()) } else { Err(format!("read {one:?}\nagain {other:?}\n{}", text_of(sheet))) }
+}
+
+/// "The form reads back to the same good tables, and a second pass changes no byte"; points 1 and 2, and the
+/// reactions, have all that may differ. A procedure that differs in one reaction has another form.
 fn selftest_house(sheet: &[u8], net: &Net, seed: u64) -> Result<(), String> {
     let form = model::house(sheet).map_err(|refusal| format!("no form: {refusal:?}"))?;
     let back = model::read(&form).map_err(|refusal| format!("its form is not read: {refusal:?}"))?;
@@ -185,6 +199,12 @@ fn selftest_house(sheet: &[u8], net: &Net, seed: u64) -> Result<(), String> {
     let retyped = gen::retyped(&mut Rng::new(seed), sheet, net);
     if [&form, &retyped].iter().any(|other| model::house(other).as_ref() != Ok(&form)) {
         return Err("its form or another typing has another form".to_string());
+    }
+    if model::read(&retyped).map(|net| model::solve(&net)) != Ok(model::solve(net)) {
+        return Err("another typing has another table".to_string());
+    }
+    if !net.signals.is_empty() && model::house(&gen::slowed(&mut Rng::new(seed), sheet, net)) == Ok(form) {
+        return Err("another reaction has the same form".to_string());
     }
     Ok(())
 }

@@ -4,8 +4,9 @@
     make_small.py           writes the file
     make_small.py expected  prints the lines that `trials` is to print for it, behind those of the numbered sheets
 
-Which sheets have a good table is found here by trying every table, from document 01's three points and nothing else. The same seed gives
-the same file: only random() is used, whose values do not change between versions.
+Which sheets have a good table is found here by trying every table, from document 01's three points, with the reactions
+of document 02, point 3, and nothing else. The same seed gives the same file: only random() is used, whose values do
+not change between versions.
 """
 
 import itertools
@@ -57,15 +58,17 @@ def rule(events, signals):
     return one_of(["min", "min", "fix"]), one_of([0, pick(0, events - 1)]), pick(0, events - 1), pick(1, 3), label(signals)
 
 
-def draw():
-    """A network: horizon, count of events, the event of each signal, and the rules."""
+def draw(slow):
+    """A network: horizon, count of events, the event of each signal, the rules, and the reaction of each signal: 1, or
+    others too."""
     horizon, events = one_of([0, 1, 1, 2, 2, 3, 3, 4, 4]), one_of([1, 2, 2, 3, 3, 3, 4, 4])
     signals = distinct(min(events, one_of([0, 1, 1, 2, 2])), lambda: pick(0, events - 1))
-    return horizon, events, signals, [rule(events, len(signals)) for _ in range(pick(0, 6))]
+    rules = [rule(events, len(signals)) for _ in range(pick(0, 6))]
+    return horizon, events, signals, rules, [one_of([1, 2, 2, 2, 3, 4, 60]) if slow else 1 for _ in signals]
 
 
 def table_count(net):
-    horizon, events, signals, _ = net
+    horizon, events, signals, *_ = net
     return (horizon + 1) ** ((events - 1) * 2 ** len(signals))
 
 
@@ -86,8 +89,9 @@ def lawful(net, case, row):
 
 
 def told(net, table, s, r, u):
-    """Whether a signal on which s and r differ is given in s before u happens there."""
-    return any(truth(s, i) != truth(r, i) and table[s][event] < table[s][u] for i, event in enumerate(net[2]))
+    """Whether a signal on which s and r differ counts in s when u happens there."""
+    known = [table[s][event] + reaction for event, reaction in zip(net[2], net[4])]
+    return any(truth(s, i) != truth(r, i) and minute <= table[s][u] for i, minute in enumerate(known))
 
 
 def keeps_point_3(net, table):
@@ -123,7 +127,7 @@ def outcome(net):
 
 
 def text(net):
-    horizon, events, signals, rules = net
+    horizon, events, signals, rules, reactions = net
     names = distinct(events, name)
     letters = distinct(len(signals), lambda: one_of("abcdefghijklmnopqrstuvwxyz"))
     lines = [f"horizon,{horizon}", f"events,{events}", *names, f"signals,{len(signals)}"]
@@ -132,6 +136,10 @@ def text(net):
     for kind, start, end, limit, asked in rules:
         literals = "".join(("" if value else "!") + letters[signal] for signal, value in asked) or "-"
         lines.append(f"{kind},{names[start]},{names[end]},{limit},{literals}")
+    order = distinct(len(signals), lambda: pick(0, len(signals) - 1))
+    listed = [signal for signal in order if reactions[signal] > 1 or rng.random() < 0.2]
+    if listed or rng.random() < 0.1:
+        lines += [f"reactions,{len(listed)}"] + [f"{letters[signal]},{reactions[signal]}" for signal in listed]
     return "".join(line + "\n" for line in lines)
 
 
@@ -141,13 +149,14 @@ WANTED = ["differs", "unheard", "waits", "none", "table", "none"]
 
 
 def draw_sheet(place):
-    """Every 25th sheet is large."""
+    """Every 25th sheet is large. Of those that show one thing, every second has a reaction other than 1."""
     wanted = WANTED[place % len(WANTED)]
+    slow = place // len(WANTED) % 2 == 1
     large = place % (SHEETS // LARGE_SHEETS) == 0
     while True:
-        net = draw()
+        net = draw(slow)
         in_range = MANY_TABLES < table_count(net) <= MOST_TABLES if large else table_count(net) <= MANY_TABLES
-        if in_range and wanted in (shown := outcome(net)):
+        if in_range and any(reaction > 1 for reaction in net[4]) == slow and wanted in (shown := outcome(net)):
             return text(net), "table" in shown
 
 

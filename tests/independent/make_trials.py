@@ -1,14 +1,17 @@
 #!/usr/bin/env python3
-"""Writes the trial files of document 01 and of point 2 of document 02: crates/trials/data/NNN.csv, NNN.tab and titles.txt.
+"""Writes the trial files of document 01 and of points 2 and 3 of document 02: crates/trials/data/NNN.csv, NNN.tab and
+titles.txt.
 
     make_trials.py          writes the files
     make_trials.py titled   copies standard input, the output of `compare expected crates/trials/data`, with each trial's title beside its
                             number
     make_trials.py check    compares crates/trials/stdout (that, with the lines of make_small.py behind it) with what is written
-                            here by hand from the papers; a trailing `...` leaves the rest of an answer open, the lines `played` and
-                            `asked` are left out, and a house form is compared where one is written here
+                            here by hand from the papers; a trailing `...` leaves the rest of an answer open, the lines
+                            `played` are left out, and so are the lines `asked` and a house form where none is written
+                            here
 
-A trial is: what it shows, the sheet, the answer, for some a table, and for some a house form. Nothing here is computed by the model.
+A trial is: what it shows, the sheet, the answer, for some a table, for some a house form, and for some what is due at
+minutes that are asked about. Nothing here is computed by the model.
 """
 
 import pathlib
@@ -19,11 +22,14 @@ HOME = HERE.parent.parent / "crates" / "trials"
 TRIALS = []
 
 
-def trial(about, sheet, answer, table=None, tail=b"", house=None):
-    """`table` is a list of minutes; `tail` are bytes put behind them; `house` is the house form, its refusal, or `as before`."""
+def trial(about, sheet, answer, table=None, tail=b"", house=None, asked=()):
+    """`table` is a list of minutes; `tail` are bytes put behind them; `house` is the house form, its refusal, or `as
+    before`; `asked` are the beginnings of some of the lines `asked`: a minute, and what is due to those who have heard
+    nothing, p and !p."""
     sheet = sheet if isinstance(sheet, bytes) else sheet.encode("latin-1")
     table = None if table is None else b"".join(minute.to_bytes(2, "little") for minute in table) + tail
-    TRIALS.append((about, sheet, answer, table, answer if answer.startswith("refused") and house is None else house))
+    house = answer if answer.startswith("refused") and house is None else house
+    TRIALS.append((about, sheet, answer, table, house, asked))
 
 
 def sheet(events, signals=(), rules=(), horizon=60):
@@ -70,7 +76,7 @@ def document_01():
 
 
 def lengths():
-    trial("4,096 bytes: other refusals go on", EXAMPLE + "x" * (4096 - len(EXAMPLE)), "refused 10 line 12")
+    trial("4,096 bytes: other refusals go on", EXAMPLE + "x" * (4096 - len(EXAMPLE)), "refused 2 line 12")
     trial("4,097 bytes: longer than the reader takes", EXAMPLE + "x" * (4097 - len(EXAMPLE)), "refused 1 line 0")
     trial("4,096 bytes with a number of nearly 4,000 digits", line(1, "horizon," + "7" * (4096 - len(EXAMPLE) + 2)), "refused 5 line 1")
     trial("4,097 line feeds: refusal 1 before the first line's own", "\n" * 4097, "refused 1 line 0")
@@ -175,9 +181,9 @@ def definitions():
 
 
 def endings():
-    trial("a rule too many", EXAMPLE + "max,start,door,30,-\n", "refused 10 line 12")
-    trial("one lone line feed at the end", EXAMPLE + "\n", "refused 10 line 12")
-    trial("a byte without a line feed at the end: never 2", sheet("start") + "x", "refused 10 line 6")
+    trial("a rule too many: not the heading of the reactions", EXAMPLE + "max,start,door,30,-\n", "refused 3 line 12")
+    trial("one lone line feed behind the rules", EXAMPLE + "\n", "refused 3 line 12")
+    trial("a byte without a line feed behind the rules", sheet("start") + "x", "refused 2 line 6")
 
 
 def two_faults():
@@ -336,7 +342,7 @@ def about_64_rows():
     trial("32 `fix` rows: 64 rows left", sheet(nine, rules=fixes), "accepted 60 9 0 32" + count_up(9), house=sheet(nine, rules=[f"max,e{i},e{j},{j - i},-" for i, j in ends]))
     over = sheet(eight + " x", rules=full[:-1] + ["fix,e7,x,0,-"])
     trial("63 `max` rows and a `fix`: 65 rows would be left", over, "accepted 60 9 0 64" + zeros(eight + " x"), house="refused 17 line 0")
-    trial("65 rows would be left, and a byte follows: 10", over + "x", "refused 10 line 78")
+    trial("65 rows would be left, and a byte follows the rules: 2", over + "x", "refused 2 line 78")
     fixes = [f"fix,e{i},e{j},{j - i},-" for i in range(12) for j in range(i + 1, 12)]
     trial("64 `fix` rows: 128 rows would be left", sheet(twelve, rules=fixes[:64]), "accepted 60 12 0 64" + count_up(12), house="refused 17 line 0")
     merging = sheet("start door", ["p,start"], [f"fix,start,door,{limit},p" for limit in range(1, 65)])
@@ -385,9 +391,210 @@ def rows_and_labels():
     typed = [turned(rule).replace("!w!x!y!z", "!z!x!w!y") if place % 2 else rule for place, rule in enumerate(rows[::-1])]
     form = sheet(events, signals, rows, horizon=10080)
     assert len(form) == 2663
-    trial("the longest form there is, 2,663 bytes", sheet(events, signals, typed, horizon=10080), "accepted 10080 16 4 64" + NO_TABLE, house=form)
+    trial("the longest form without reactions, 2,663 bytes", sheet(events, signals, typed, horizon=10080),
+          "accepted 10080 16 4 64" + NO_TABLE, house=form)
     bare = sheet("start door", ["p,door"])
     trial("a sheet without rules is its own form", bare, "accepted 60 2 1 0" + zeros("start door", 1), house=bare)
+
+
+def reactions():
+    """The example has its reactions from line 12 on."""
+    felt_reactions()
+    ill_told_reactions()
+    their_lines()
+    around_their_end()
+    judged_reactions()
+    asked_reactions()
+    listed_reactions()
+
+
+def slow(of, *lines, count=None):
+    """A sheet with reactions behind it, and another count than that of their lines at times."""
+    return of + "".join(text + "\n" for text in [f"reactions,{len(lines) if count is None else count}", *lines])
+
+
+EXAMPLE_ROWS = ["max,start,door,30,-", "max,call,start,-5,-", "max,door,call,-15,p"]
+EXAMPLE_FORM = sheet("start call door", ["p,call"], EXAMPLE_ROWS)
+# the call at 5 gives p, the door waits until 100 where p is true
+LONG = sheet("start call door", ["p,call"], ["min,start,call,5,-", "min,start,door,100,p"], horizon=120)
+LONG_FORM = sheet("start call door", ["p,call"], ["max,call,start,-5,-", "max,door,start,-100,p"], horizon=120)
+# the start gives p, the call at 2 gives q
+PAIR_RULES = ["min,start,call,2,-", "min,start,door,20,p", "min,start,door,10,q"]
+PAIR = sheet("start call door", ["p,start", "q,call"], PAIR_RULES)
+PAIR_ROWS = ["max,call,start,-2,-", "max,door,start,-20,p", "max,door,start,-10,q"]
+PAIR_FORM = sheet("start call door", ["p,start", "q,call"], PAIR_ROWS)
+
+
+def felt_reactions():
+    trial("p counts after 1 minute: as without the line", slow(EXAMPLE, "p,1"), LISTING, house=EXAMPLE_FORM)
+    trial("no lines of reactions", slow(EXAMPLE), LISTING, house="as before")
+    trial("no section of reactions", EXAMPLE, LISTING, house="as before")
+    # where p is false, the door goes with that of the other case, at 20, until p counts
+    door = lambda minute: f"accepted 60 3 1 3\ncase,start,call,door\nF,0,5,{minute}\nT,0,5,20"
+    for minutes in (2, 14, 15, 16):
+        about = f"p counts after {minutes} minutes: the door at {min(5 + minutes, 20)} where it is false"
+        trial(about, slow(EXAMPLE, f"p,{minutes}"), door(min(5 + minutes, 20)),
+              house=slow(EXAMPLE_FORM, f"p,{minutes}"))
+    long = "accepted 120 3 1 2\ncase,start,call,door\nF,0,5,65\nT,0,5,100"
+    trial("p counts after 60 minutes: the door at 65 where it is false", slow(LONG, "p,60"), long,
+          house=slow(LONG_FORM, "p,60"))
+    late = sheet("start call door", ["p,call"], ["min,start,call,5,-", "min,start,door,50,p"], horizon=64)
+    form = sheet("start call door", ["p,call"], ["max,call,start,-5,-", "max,door,start,-50,p"], horizon=64)
+    never = "accepted 64 3 1 2\ncase,start,call,door\nF,0,5,50\nT,0,5,50"
+    trial("p counts a minute after the horizon: never", slow(late, "p,60"), never, house=slow(form, "p,60"))
+    pair = "accepted 60 3 2 3\ncase,start,call,door\nFF,0,2,5\nTF,0,2,20\nFT,0,2,10\nTT,0,2,20"
+    trial("p counts from 2 and q from 5, in another order than the signals", slow(PAIR, "q,3", "p,2"), pair,
+          house=slow(PAIR_FORM, "p,2", "q,3"))
+    trial("the same in the order of the signals", slow(PAIR, "p,2", "q,3"), pair, house="as before")
+    other = pair.replace("FF,0,2,5", "FF,0,2,4")
+    trial("p counts from 3 and q from 4", slow(PAIR, "p,3", "q,2"), other, house=slow(PAIR_FORM, "p,3", "q,2"))
+    of_call = lambda *rules: sheet("start call door", ["p,call"], rules)
+    eleven = lambda most: of_call("min,start,call,5,-", "min,start,door,10,p", f"max,start,door,{most},!p")
+    rows = lambda most: of_call(f"max,start,door,{most},!p", "max,call,start,-5,-", "max,door,start,-10,p")
+    two = "accepted 60 3 1 3\ncase,start,call,door\nF,0,5,{}\nT,0,5,10"
+    trial("01 trial 11, and p counts after 1 minute", slow(eleven(6), "p,1"), two.format(6), house=rows(6))
+    trial("01 trial 11, and p counts after 2 minutes: no table", slow(eleven(6), "p,2"),
+          "accepted 60 3 1 3" + NO_TABLE, house=slow(rows(6), "p,2"))
+    trial("01 trial 11, with 7 for 6, and p counts after 2 minutes", slow(eleven(7), "p,2"), two.format(7),
+          house=slow(rows(7), "p,2"))
+
+
+def ill_told_reactions():
+    for minutes in ("0", "61", "-1", "18446744073709551618"):
+        trial(f"the reaction {minutes}", slow(EXAMPLE, "p," + minutes), "refused 5 line 13")
+    for minutes in ("", "02", "-0", "+2", "2\r"):
+        trial(f"the reaction {minutes!a} is ill-formed", slow(EXAMPLE, "p," + minutes), "refused 4 line 13")
+    for letter in ("", "P", "pq", "!p", "call", "\xf0"):
+        trial(f"a reaction of {letter!a}", slow(EXAMPLE, letter + ",2"), "refused 6 line 13")
+    for text in ("p", "p,2,", ""):
+        trial(f"the line {text!a} of reactions", slow(EXAMPLE, text), "refused 3 line 13")
+    trial("a letter's second line", slow(EXAMPLE, "p,2", "p,2"), "refused 7 line 14")
+    trial("a letter's second line, the first of 1", slow(PAIR, "q,1", "p,2", "q,3"), "refused 7 line 16")
+    trial("a reaction of an undefined letter", slow(EXAMPLE, "q,2"), "refused 8 line 13")
+    trial("a reaction where there is no signal", slow(sheet("start"), "p,1"), "refused 8 line 7")
+    trial("one line, 61 and an ill-formed letter: 5", slow(EXAMPLE, "P,61"), "refused 5 line 13")
+    trial("one line, an ill-formed number and an ill-formed letter: 4", slow(EXAMPLE, "P,+2"), "refused 4 line 13")
+    trial("one line, a letter's second and 0: 5", slow(EXAMPLE, "p,2", "p,0"), "refused 5 line 14")
+    trial("one line, an undefined letter and 61: 5", slow(EXAMPLE, "q,61"), "refused 5 line 13")
+
+
+def their_lines():
+    trial("4 reactions for 2 signals, the third line a letter's second", slow(PAIR, "p,2", "q,3", "p,2", "q,3"),
+          "refused 7 line 16")
+    trial("4 reactions for 2 signals, the third line an undefined letter", slow(PAIR, "p,2", "q,3", "r,4", "s,5"),
+          "refused 8 line 16")
+    trial("5 reactions", slow(PAIR, "p,2", "q,3", "r,4", "s,5", "t,6"), "refused 5 line 13")
+    trial("-1 reactions", slow(EXAMPLE, count=-1), "refused 5 line 12")
+    trial("the count of reactions with a leading zero", slow(EXAMPLE, "p,2", count="01"), "refused 4 line 12")
+    trial("the reactions without a count", EXAMPLE + "reactions\n", "refused 3 line 12")
+    trial("the reactions with a comma too many", EXAMPLE + "reactions,0,\n", "refused 3 line 12")
+    trial("another word for the reactions", EXAMPLE + "reaction,0\n", "refused 3 line 12")
+    trial("the reactions before the rules", line(8, "reactions,1\np,2\nrules,3"), "refused 3 line 8")
+
+
+def around_their_end():
+    trial("a reaction too few, and the sheet ends", slow(EXAMPLE, "p,2", count=2), "refused 2 line 14")
+    trial("the last reaction has no line feed", slow(EXAMPLE, "p,2")[:-1], "refused 2 line 13")
+    trial("the heading of the reactions has no line feed", slow(EXAMPLE)[:-1], "refused 2 line 12")
+    trial("a reaction too many", slow(EXAMPLE, "p,2", "p,2", count=1), "refused 10 line 14")
+    trial("a reaction where 0 are announced", slow(EXAMPLE, "p,2", count=0), "refused 10 line 13")
+    trial("the reactions twice", slow(slow(EXAMPLE, "p,2"), "p,2"), "refused 10 line 14")
+    trial("one lone line feed behind the reactions", slow(EXAMPLE, "p,2") + "\n", "refused 10 line 14")
+    trial("a byte without a line feed behind the reactions: never 2", slow(EXAMPLE) + "x", "refused 10 line 13")
+    padded = slow(EXAMPLE, "p,2")
+    trial("4,096 bytes, most of them behind the reactions", padded + "x" * (4096 - len(padded)), "refused 10 line 14")
+    trial("4,097 bytes, most of them behind the reactions", padded + "x" * (4097 - len(padded)), "refused 1 line 0")
+    ends = [f"max,e{i},e{j},{100 * i + j},-" for i in range(8) for j in range(8)]
+    eight = " ".join(f"e{i}" for i in range(8)) + " x"
+    over = slow(sheet(eight, rules=ends[:-1] + ["fix,e7,x,0,-"]))
+    trial("65 rows would be left, no lines of reactions", over, "accepted 60 9 0 64" + zeros(eight),
+          house="refused 17 line 0")
+    trial("65 rows would be left, and a byte follows the reactions: 10", over + "x", "refused 10 line 79")
+
+
+def judged_reactions():
+    two = slow(EXAMPLE, "p,2")
+    answer = lambda verdict, door: f"accepted 60 3 1 3\njudged {verdict}\ncase,start,call,door\nF,0,5,{door}\nT,0,5,20"
+    trial("judged: the door at 6, good if p counts after 1 minute", slow(EXAMPLE, "p,1"), answer("pass", 6),
+          [0, 5, 6, 0, 5, 20], house=EXAMPLE_FORM)
+    trial("judged: the same table if p counts after 2", two, answer("unheard 0 1 2", 6), [0, 5, 6, 0, 5, 20],
+          house=slow(EXAMPLE_FORM, "p,2"))
+    trial("judged: the door at 7, and p counts after 2", two, answer("pass", 7), [0, 5, 7, 0, 5, 20],
+          house="as before")
+    listed = lambda door: f"case,start,call,door\nF,0,5,{door}\nT,0,5,100"
+    answer = lambda verdict, door: f"accepted 120 3 1 2\njudged {verdict}\n{listed(door)}"
+    trial("judged: the door at 64, and p counts after 60", slow(LONG, "p,60"), answer("unheard 0 1 2", 64),
+          [0, 5, 64, 0, 5, 100], house=slow(LONG_FORM, "p,60"))
+    trial("judged: the door at 65, and p counts after 60", slow(LONG, "p,60"), answer("pass", 65),
+          [0, 5, 65, 0, 5, 100], house="as before")
+    rows = lambda *doors: [minute for door in doors for minute in (0, 2, door)]
+    pair = slow(PAIR, "q,3", "p,2")
+    trial("judged: p counts from 2 and q from 5", pair, "accepted 60 3 2 3\njudged pass\n...", rows(5, 20, 10, 20),
+          house=slow(PAIR_FORM, "p,2", "q,3"))
+    trial("judged: p counts and q does not yet", pair, "accepted 60 3 2 3\njudged unheard 0 2 2\n...",
+          rows(4, 20, 10, 20), house="as before")
+    astray = slow(sheet("start door call", ["p,call"]), "p,3")
+    bare = sheet("start door call", ["p,call"]) + "reactions,1\np,3\n"
+    # in case 0 p counts from 5 on, in case 1 from 8 on
+    trial("judged: a slow signal's minute is the one in s", astray, "accepted 60 3 1 0\njudged unheard 0 1 2\n...",
+          [0, 5, 2, 0, 6, 5], house=bare)
+    trial("judged: a breach that shows from case 1 only, and p counts after 3", astray,
+          "accepted 60 3 1 0\njudged unheard 1 0 1\n...", [0, 8, 5, 0, 7, 5], house="as before")
+    trial("judged: 65535 where p counts after 3", astray, "accepted 60 3 1 0\njudged late 0 2\n...",
+          [0, 5, 65535, 0, 5, 65535], house="as before")
+
+
+def asked_reactions():
+    door = lambda call, door, last: f"accepted 60 3 1 3\ncase,start,call,door\nF,0,{call},{door}\nT,0,{call},{last}"
+    trial("asked at 6: the call at 5 counts after 2, not yet", slow(EXAMPLE, "p,2"), door(5, 7, 20),
+          house=slow(EXAMPLE_FORM, "p,2"), 
+          asked=["1 0 r16.0 r16.0", "6 0 r16.0 r16.0", "60 r16.0 0 0"])
+    four = line(9, "min,start,call,4,-")
+    form = sheet("start call door", ["p,call"], [EXAMPLE_ROWS[0], "max,call,start,-4,-", EXAMPLE_ROWS[2]])
+    trial("asked at 6: the call at 4 counts after 2, now", slow(four, "p,2"), door(4, 6, 19), house=slow(form, "p,2"),
+          asked=["6 r16.0 0 4"])
+    trial("asked at 6: the call at 4 counts after 3, not yet", slow(four, "p,3"), door(4, 7, 19),
+          house=slow(form, "p,3"), asked=["6 0 r16.0 r16.0"])
+    of_start = lambda horizon, rule: slow(sheet("start door", ["p,start"], [rule], horizon=horizon), "p,60")
+    start = lambda horizon: of_start(horizon, f"min,start,door,{horizon},p")
+    form = lambda horizon: of_start(horizon, f"max,door,start,-{horizon},p")
+    both = lambda horizon: f"accepted {horizon} 2 1 1\ncase,start,door\nF,0,{horizon}\nT,0,{horizon}"
+    trial("asked at 60: the start counts after 60, now", start(60), both(60), house=form(60),
+          asked=["0 1 r16.0 r16.0", "60 r16.0 2 2"])
+    trial("asked at 59: the start counts after 60, not yet", start(59), both(59), house=form(59),
+          asked=["59 2 r16.0 r16.0", "65535 r16.0 0 0"])
+
+
+def listed_reactions():
+    events, signals = "start call door", ["q,call", "p,start"]
+    rules = ["min,start,call,2,-", "min,call,door,3,q!p"]
+    form = sheet(events, signals, ["max,call,start,-2,-", "max,door,call,-3,q!p"])
+    # q has weight 1; where it is true and p false the door is at 5, and q counts from 4 on, p from 1 on
+    table = "accepted 60 3 2 2\ncase,start,call,door\nFF,0,2,4\nTF,0,2,5\nFT,0,2,1\nTT,0,2,1"
+    one = lambda about, text, house="as before": trial("slow procedure, " + about, text, table, house=house)
+    typed = sheet(events, signals, rules)
+    one("reactions of 2 and 1: only the 2 is listed", slow(typed, "q,2", "p,1"), slow(form, "q,2"))
+    one("the 1 before the 2", slow(typed, "p,1", "q,2"))
+    one("no line of 1", slow(typed, "q,2"))
+    turned_rules = [turned(rule) for rule in rules[::-1]]
+    one("its rules the other way round", slow(sheet(events, signals, turned_rules), "p,1", "q,2"))
+    one("as its house form", slow(form, "q,2"))
+    table = table.replace("FF,0,2,4", "FF,0,2,5")
+    one("another reaction: another form", slow(typed, "p,1", "q,3"), slow(form, "q,3"))
+    table = table.replace("FF,0,2,5", "FF,0,2,3").replace("T,0,2,1", "T,0,2,2")
+    one("the other signal's: another form", slow(typed, "p,2", "q,1"), slow(form, "p,2"))
+    table = table.replace("FF,0,2,3", "FF,0,2,4")
+    one("both, in another order than the signals", slow(typed, "p,2", "q,2"), slow(form, "q,2", "p,2"))
+    one("both, in signal order", slow(typed, "q,2", "p,2"))
+    events = " ".join(f"event{i:03}" for i in range(16))
+    signals = [f"{letter},event{i:03}" for i, letter in enumerate("wxyz")]
+    rows = [f"max,event{i:03},event{j:03},-10080,!w!x!y!z" for i in range(12, 16) for j in range(16)]
+    lines = [f"{letter},{minutes}" for letter, minutes in zip("wxyz", (60, 10, 59, 11))]
+    form = slow(sheet(events, signals, rows, horizon=10080), *lines)
+    assert len(form) == 2695
+    trial("the longest form there is, 2,695 bytes",
+          slow(sheet(events, signals, rows[::-1], horizon=10080), *lines[::-1]), "accepted 10080 16 4 64" + NO_TABLE,
+          house=form)
 
 
 def write():
@@ -395,12 +602,12 @@ def write():
     data.mkdir(parents=True, exist_ok=True)
     for old in data.glob("[0-9]*"):
         old.unlink()
-    for number, (_, text, _, table, _) in enumerate(TRIALS, 1):
+    for number, (_, text, _, table, *_) in enumerate(TRIALS, 1):
         (data / f"{number:03}.csv").write_bytes(text)
         if table is not None:
             (data / f"{number:03}.tab").write_bytes(table)
     (data / "titles.txt").write_text("".join(about + "\n" for about, *_ in TRIALS))
-    print(f"{len(TRIALS)} sheets, {sum(table is not None for *_, table, _ in TRIALS)} tables")
+    print(f"{len(TRIALS)} sheets, {sum(table is not None for _, _, _, table, *_ in TRIALS)} tables")
 
 
 def titled():
@@ -449,7 +656,11 @@ def house_lines(house):
 def check():
     found = answers()
     wrong = abs(len(found) - len(TRIALS))
-    for number, ((about, _, answer, _, house), text) in enumerate(zip(TRIALS, found), 1):
+    for number, ((about, _, answer, _, house, asked), text) in enumerate(zip(TRIALS, found), 1):
+        for begins in asked:
+            if not any(printed.startswith(f"asked {begins} ") for printed in text.split("\n")):
+                wrong += 1
+                print(f"{number:03} {about}\nby hand:\nasked {begins}\n")
         text, lines = without_house(text)
         right = text.startswith(answer[:-3]) if answer.endswith("...") else text == answer
         if not right:
@@ -458,7 +669,7 @@ def check():
         if house is not None and lines != house_lines(house):
             wrong += 1
             print(f"{number:03} {about}\nby hand:\n{house_lines(house)}\nprinted:\n{lines}\n")
-    formed = sum(house is not None for *_, house in TRIALS)
+    formed = sum(house is not None for *_, house, _ in TRIALS)
     print(f"{len(TRIALS)} trials, {formed} of them with the house form or its refusal, {wrong} differ from what is written by hand")
     sys.exit(1 if wrong else 0)
 
@@ -478,6 +689,7 @@ two_faults()
 full_sheets()
 tables()
 house_forms()
+reactions()
 
 if sys.argv[1:] == ["check"]:
     check()

@@ -1,7 +1,7 @@
-//! Document 01, and points 1, 2 and 8 of document 02, in plain Rust, written from the papers alone.
+//! Document 01, and points 1, 2, 3 and 8 of document 02, in plain Rust, written from the papers alone.
 //!
 //! Nothing here is fast or clever on purpose: each function renders one rule of the paper, and its comment says which.
-//! Quoted words are those of the papers. "Readings" are those of docs/DECISIONS.md, 8, 16 and 20.
+//! Quoted words are those of the papers. "Readings" are those of docs/DECISIONS.md.
 
 use std::collections::{BTreeMap, VecDeque};
 use std::ops::Range;
@@ -16,6 +16,10 @@ pub const EVENTS_MOST: i64 = 16;
 pub const SIGNALS_MOST: i64 = 4;
 /// "m from 0 to 64".
 pub const RULES_MOST: i64 = 64;
+/// "r from 0 to 4".
+pub const REACTIONS_MOST: i64 = 4;
+/// "minutes from 1 to 60".
+pub const REACTION_MOST: i64 = 60;
 /// An event name has "1 to 8 bytes".
 pub const NAME_MOST: usize = 8;
 
@@ -33,11 +37,12 @@ pub enum Kind {
     Fix,
 }
 
-/// A signal has a letter and the event that gives it.
+/// A signal has a letter, the event that gives it, and the minutes until it counts: "A signal without a line keeps 1."
 #[derive(Clone, Debug, PartialEq, Eq)]
 pub struct Signal {
     pub letter: u8,
     pub event: usize,
+    pub reaction: i64,
 }
 
 /// A rule line; the label is the list of its signals, each with the truth that it asks (none for `-`).
@@ -83,6 +88,11 @@ impl Net {
     pub fn cell(&self, case: usize, event: usize) -> usize {
         case * self.events.len() + event
     }
+
+    /// Whether some signal has a reaction "other than 1".
+    pub fn is_slow(&self) -> bool {
+        self.signals.iter().any(|signal| signal.reaction != 1)
+    }
 }
 
 /// "the signal is true where its weight is in the case number"; the first signal has weight 1, the next 2, and so on.
@@ -114,6 +124,9 @@ pub fn read(sheet: &[u8]) -> Result<Net, Refusal> {
         let line = lines.take()?;
         let rule = rule_line(sheet, line, &net).map_err(|number| lines.refuse(number))?;
         net.rules.push(rule);
+    }
+    if !lines.at_end() {
+        lines.reactions(&mut net)?;
     }
     lines.end()?;
     Ok(net)
@@ -155,10 +168,29 @@ impl Lines<'_> {
         number(fields[1], least, most).map_err(|number| self.refuse(number))
     }
 
-    /// Refusal 10: "Bytes follow the last rule; the line is the one that they begin." Readings: never 2, and one line feed is enough.
+    /// "A section `reactions,r` .. may follow the rules, with lines `letter,minutes`"; "Any byte after the last rule
+    /// begins this section".
+    fn reactions(&mut self, net: &mut Net) -> Result<(), Refusal> {
+        let mut seen = vec![];
+        for _ in 0..self.section(b"reactions", 0, REACTIONS_MOST)? {
+            let line = self.take()?;
+            let read = reaction_line(&self.sheet[line], net, &seen);
+            let (signal, minutes) = read.map_err(|number| self.refuse(number))?;
+            net.signals[signal].reaction = minutes;
+            seen.push(net.signals[signal].letter);
+        }
+        Ok(())
+    }
+
+    fn at_end(&self) -> bool {
+        self.at == self.sheet.len()
+    }
+
+    /// "A sheet that ends after its rules is still good", and "refusal 10 now means bytes after" the reactions; its
+    /// line is the one that they begin. Readings: never 2, and one line feed is enough.
     fn end(&mut self) -> Result<(), Refusal> {
         self.number += 1;
-        if self.at < self.sheet.len() { Err(self.refuse(10)) } else { Ok(()) }
+        if self.at_end() { Ok(()) } else { Err(self.refuse(10)) }
     }
 }
 
@@ -196,17 +228,44 @@ fn signal_line(sheet: &[u8], line: Range<usize>, net: &Net) -> Result<Signal, u8
     let letter = new_letter(net, fields[0]);
     let event = used_event(sheet, net, fields[1]).and_then(|event| gives_no_signal_yet(net, event));
     match (letter, event) {
-        (Ok(letter), Ok(event)) => Ok(Signal { letter, event }),
+        (Ok(letter), Ok(event)) => Ok(Signal { letter, event, reaction: 1 }),
         (letter, event) => Err(lowest(&[letter.err(), event.err()]).unwrap()),
     }
 }
 
-/// "The letter is one of a to z" (6), and not "defined a second time" (7).
-fn new_letter(net: &Net, field: &[u8]) -> Result<u8, u8> {
-    if field.len() != 1 || !field[0].is_ascii_lowercase() {
-        return Err(6);
+/// "The letter is one of a to z" (6).
+fn one_letter(field: &[u8]) -> Result<u8, u8> {
+    match field {
+        [letter] if letter.is_ascii_lowercase() => Ok(*letter),
+        _ => Err(6),
     }
-    if find_signal(net, field[0]).is_some() { Err(7) } else { Ok(field[0]) }
+}
+
+/// A letter that is not "defined a second time" (7).
+fn new_letter(net: &Net, field: &[u8]) -> Result<u8, u8> {
+    let letter = one_letter(field)?;
+    if find_signal(net, letter).is_some() { Err(7) } else { Ok(letter) }
+}
+
+/// `letter,minutes`, where these letters have a line already: the signal and its reaction. Refusals 3, 4, 5, 6, 7 and
+/// 8.
+fn reaction_line(line: &[u8], net: &Net, seen: &[u8]) -> Result<(usize, i64), u8> {
+    let fields = fields(line);
+    if fields.len() != 2 {
+        return Err(3);
+    }
+    let signal = slow_letter(net, fields[0], seen);
+    let minutes = number(fields[1], 1, REACTION_MOST);
+    match (signal, minutes) {
+        (Ok(signal), Ok(minutes)) => Ok((signal, minutes)),
+        (signal, minutes) => Err(lowest(&[signal.err(), minutes.err()]).unwrap()),
+    }
+}
+
+/// "a letter's second line is refused with 7"; a letter that gives no signal is "not defined" (8).
+fn slow_letter(net: &Net, field: &[u8], seen: &[u8]) -> Result<usize, u8> {
+    let letter = one_letter(field)?;
+    if seen.contains(&letter) { Err(7) } else { find_signal(net, letter).ok_or(8) }
 }
 
 /// "An event gives at most one signal" (7).
@@ -359,9 +418,14 @@ fn rule_kept(net: &Net, table: &[u16], case: usize, rule: &Rule) -> bool {
     !agrees(rule, case) || holds(rule, table[net.cell(case, rule.from)], table[net.cell(case, rule.to)])
 }
 
-/// Point 3's condition: "no signal on which s and r differ has its event, in s, at a minute less than the minute of u in s".
+/// "a signal now counts once its minute plus its reaction is at most the minute in question".
+fn counts(net: &Net, table: &[u16], case: usize, signal: &Signal, minute: u16) -> bool {
+    i64::from(table[net.cell(case, signal.event)]) + signal.reaction <= i64::from(minute)
+}
+
+/// Point 3's condition: "no signal on which s and r differ" counts, in s, at the minute of u in s.
 fn cannot_tell(net: &Net, table: &[u16], s: usize, r: usize, u: usize) -> bool {
-    let heard = |signal: usize| table[net.cell(s, net.signals[signal].event)] < table[net.cell(s, u)];
+    let heard = |signal: usize| counts(net, table, s, &net.signals[signal], table[net.cell(s, u)]);
     !(0..net.signals.len()).any(|signal| truth(s, signal) != truth(r, signal) && heard(signal))
 }
 
@@ -515,14 +579,15 @@ impl<'a> Raising<'a> {
         }
     }
 
-    /// Point 3 in the form of the hyperarcs: "a minute is at least the lesser of the other case's minute and one more than the
-    /// earliest differing signal in its own case". In any good table u in s either is later than a differing signal in s, or
-    /// has the same minute as in r.
+    /// Point 3 in the form of the hyperarcs: a minute is at least the lesser of the other case's minute and the first
+    /// at which a differing signal counts in its own case. In any good table u in s either is at or after a minute at
+    /// which one counts, or has the same minute as in r.
     fn force_by_case(&mut self, s: usize, r: usize, u: usize) {
         let signals = &self.net.signals;
         let differing = (0..signals.len()).filter(|&signal| truth(s, signal) != truth(r, signal));
-        if let Some(earliest) = differing.map(|signal| self.minute(s, signals[signal].event)).min() {
-            self.raise(s, u, self.minute(r, u).min(earliest + 1));
+        let known = |signal: usize| self.minute(s, signals[signal].event) + signals[signal].reaction;
+        if let Some(earliest) = differing.map(known).min() {
+            self.raise(s, u, self.minute(r, u).min(earliest));
         }
     }
 }
@@ -619,8 +684,8 @@ pub fn solve_by_rounds(net: &Net) -> (u32, Option<Vec<u16>>) {
     unreachable!()
 }
 
-/// "each cell takes the greatest of its own value and each bound that rules, signals (by the hyperarcs ..) .. set from the table before the
-/// round". There are no reactions and no label waits yet.
+/// "each cell takes the greatest of its own value and each bound that rules, signals (by the hyperarcs, with
+/// reactions) .. set from the table before the round". There are no label waits yet.
 fn round(net: &Net, before: &[i64]) -> Vec<i64> {
     let bounds = |case: usize, event: usize| [by_rules(net, before, case, event), by_signals(net, before, case, event)].concat();
     let raised = |cell: usize| bounds(cell / net.events.len(), cell % net.events.len()).into_iter().fold(before[cell], i64::max);
@@ -640,11 +705,12 @@ fn by_rules(net: &Net, before: &[i64], case: usize, event: usize) -> Vec<i64> {
     bounds
 }
 
-/// "the lesser of the other case's minute and one more than the earliest differing signal in its own case", for each other case.
+/// The lesser of the other case's minute and the first at which a differing signal counts in its own case, for each
+/// other case.
 fn by_signals(net: &Net, before: &[i64], s: usize, u: usize) -> Vec<i64> {
-    let given = |signal: usize| before[net.cell(s, net.signals[signal].event)];
+    let known = |signal: usize| before[net.cell(s, net.signals[signal].event)] + net.signals[signal].reaction;
     let differing = |r: usize| (0..net.signals.len()).filter(move |&signal| truth(s, signal) != truth(r, signal));
-    let bound = |r: usize| before[net.cell(r, u)].min(differing(r).map(given).min().unwrap() + 1);
+    let bound = |r: usize| before[net.cell(r, u)].min(differing(r).map(known).min().unwrap());
     (0..net.cases()).filter(|&r| r != s).map(bound).collect()
 }
 
@@ -697,8 +763,9 @@ pub fn heard(text: &[u8]) -> Option<Vec<(u8, bool)>> {
     if text.is_empty() { Some(vec![]) } else { letters(text) }
 }
 
-/// Document 02, point 1, for a table that passes: the events due at a minute, bit u for event u, for those who have heard exactly this list;
-/// or 15 where a letter is undefined or stands twice, or 16 where no case has heard exactly this list.
+/// Document 02, points 1 and 3, for a table that passes: the events due at a minute, bit u for event u, for those who
+/// have heard exactly this list; or 15 where a letter is undefined or stands twice, or 16 where no case has heard
+/// exactly this list.
 pub fn due(net: &Net, table: &[u16], minute: u16, heard: &[(u8, bool)]) -> Result<u16, u8> {
     let defined = |letter: u8| net.signals.iter().any(|signal| signal.letter == letter);
     let stands = |letter: u8| heard.iter().filter(|(l, _)| *l == letter).count();
@@ -710,7 +777,7 @@ pub fn due(net: &Net, table: &[u16], minute: u16, heard: &[(u8, bool)]) -> Resul
     for case in 0..net.cases() {
         let mut history = vec![];
         for (p, signal) in net.signals.iter().enumerate() {
-            if table[net.cell(case, signal.event)] < minute {
+            if counts(net, table, case, signal, minute) {
                 history.push((signal.letter, truth(case, p)));
             }
         }
@@ -737,7 +804,7 @@ pub struct Row {
 /// false ones'".
 pub type Key = (usize, usize, u32, u32);
 
-/// Document 02, point 2: the house form of a sheet, or its own refusal, or 17.
+/// Document 02, points 2 and 3: the house form of a sheet, or its own refusal, or 17.
 pub fn house(sheet: &[u8]) -> Result<Vec<u8>, Refusal> {
     let net = read(sheet)?;
     let rows = rows_left(&net);
@@ -752,7 +819,19 @@ pub fn house(sheet: &[u8]) -> Result<Vec<u8>, Refusal> {
         form.extend([&b"max"[..], from, to, &limit, &label].join(&b","[..]));
         form.push(b'\n');
     }
+    form.extend(reactions_text(&net).into_bytes());
     Ok(form)
+}
+
+/// "The house form lists only reactions other than 1, in signal order, with no section if there are none".
+fn reactions_text(net: &Net) -> String {
+    let slow: Vec<&Signal> = net.signals.iter().filter(|signal| signal.reaction != 1).collect();
+    if slow.is_empty() {
+        return String::new();
+    }
+    let line = |signal: &&Signal| format!("{},{}\n", char::from(signal.letter), signal.reaction);
+    let lines: String = slow.iter().map(line).collect();
+    format!("reactions,{}\n{lines}", slow.len())
 }
 
 /// "a `min` swaps its ends and negates its limit, and a `fix` becomes both".

@@ -1,4 +1,5 @@
-//! Wrong programs that print tables (01, The printed listing) or house forms (02, point 2), to see that the comparison notices them.
+//! Wrong programs that print tables (01, The printed listing) or house forms (02, points 2 and 3), to see that the
+//! comparison notices them.
 
 use crate::model::{self, Kind, Net, Refusal, Rule};
 
@@ -7,7 +8,7 @@ use crate::model::{self, Kind, Net, Refusal, Rule};
 /// A program that prints something of a sheet, or its refusal.
 pub type Printer = fn(&[u8]) -> Result<Vec<u8>, Refusal>;
 
-pub const TABLE_FAULTS: [(&str, Printer); 18] = [
+pub const TABLE_FAULTS: [(&str, Printer); 23] = [
     ("line-before", |sheet| refused_with(sheet, |refusal| refusal.line = refusal.line.saturating_sub(1))),
     ("line-lost", |sheet| refused_with(sheet, |refusal| refusal.line = 0)),
     ("12-for-13", |sheet| refused_with(sheet, |refusal| if refusal.number == 13 { refusal.number = 12 })),
@@ -29,6 +30,14 @@ pub const TABLE_FAULTS: [(&str, Printer); 18] = [
     ("two-digits-at-least", |sheet| listed_with(sheet, two_digits_at_least)),
     ("1700-bytes-at-most", |sheet| model::table(sheet).map(|text| text[..text.len().min(1700)].to_vec())),
     ("last-feed-lost", |sheet| model::table(sheet).map(|text| text[..text.len() - 1].to_vec())),
+    ("reactions-refused", |sheet| match typed_reactions(sheet) {
+        Some(lines) => Err(Refusal { number: 10, line: sheet.split(|&byte| byte == b'\n').count() - 1 - lines.len() }),
+        None => model::table(sheet),
+    }),
+    ("reactions-ignored", |sheet| table_with(sheet, |_| 1)),
+    ("reaction-a-minute-more", |sheet| table_with(sheet, |reaction| reaction + i64::from(reaction > 1))),
+    ("reaction-a-minute-less", |sheet| table_with(sheet, |reaction| (reaction - 1).max(1))),
+    ("reactions-of-one-digit", |sheet| table_with(sheet, |minutes| if minutes > 9 { minutes / 10 } else { minutes })),
 ];
 
 /// The same without a slip, so that it is the slip that is noticed.
@@ -53,6 +62,23 @@ fn refused_with(sheet: &[u8], change: fn(&mut Refusal)) -> Result<Vec<u8>, Refus
         change(&mut refusal);
         refusal
     })
+}
+
+/// The listing for other reactions than the sheet's.
+fn table_with(sheet: &[u8], change: fn(i64) -> i64) -> Result<Vec<u8>, Refusal> {
+    let mut net = model::read(sheet)?;
+    net.signals.iter_mut().for_each(|signal| signal.reaction = change(signal.reaction));
+    let least = model::solve(&net).ok_or(Refusal { number: 13, line: 0 })?;
+    Ok(model::listing(sheet, &net, &least))
+}
+
+/// The lines of reactions of an accepted sheet as they are typed, each without its line feed; nothing if there is no
+/// section.
+fn typed_reactions(sheet: &[u8]) -> Option<Vec<String>> {
+    let net = model::read(sheet).ok()?;
+    let text = String::from_utf8_lossy(sheet);
+    let mut lines = text.lines().skip(4 + net.events.len() + net.signals.len() + net.rules.len());
+    lines.next().map(|_| lines.map(String::from).collect())
 }
 
 fn without_feed(refusal: Refusal) -> Vec<u8> {
@@ -90,7 +116,7 @@ fn two_digits_at_least(rows: &mut Rows) {
 
 // ---------------------------------------------------------------- Wrong house forms
 
-pub const HOUSE_FAULTS: [(&str, Printer); 35] = [
+pub const HOUSE_FAULTS: [(&str, Printer); 46] = [
     ("greatest-limit-kept", |sheet| house_with(sheet, Slip::GreatestLimit)),
     ("first-limit-kept", |sheet| house_with(sheet, Slip::FirstLimit)),
     ("last-limit-kept", |sheet| house_with(sheet, Slip::LastLimit)),
@@ -126,6 +152,17 @@ pub const HOUSE_FAULTS: [(&str, Printer); 35] = [
     ("nothing-done", |sheet| model::read(sheet).map(|_| sheet.to_vec())),
     ("2048-bytes-at-most", |sheet| model::house(sheet).map(|form| form[..form.len().min(2048)].to_vec())),
     ("last-feed-lost", |sheet| model::house(sheet).map(|form| form[..form.len() - 1].to_vec())),
+    ("reactions-dropped", |sheet| house_with(sheet, Slip::ReactionsDropped)),
+    ("reactions-copied", |sheet| house_with(sheet, Slip::ReactionsCopied)),
+    ("reactions-of-1-listed", |sheet| house_with(sheet, Slip::ReactionsOf1Listed)),
+    ("reactions-0-written", |sheet| house_with(sheet, Slip::Reactions0Written)),
+    ("reactions-in-their-order", |sheet| house_with(sheet, Slip::ReactionsInTheirOrder)),
+    ("reactions-in-alphabet", |sheet| house_with(sheet, Slip::ReactionsInAlphabet)),
+    ("reactions-by-minutes", |sheet| house_with(sheet, Slip::ReactionsByMinutes)),
+    ("reactions-before-rules", |sheet| house_with(sheet, Slip::ReactionsBeforeRules)),
+    ("reactions-count-of-signals", |sheet| house_with(sheet, Slip::ReactionsCountOfSignals)),
+    ("reactions-count-as-typed", |sheet| house_with(sheet, Slip::ReactionsCountAsTyped)),
+    ("reactions-of-the-first-only", |sheet| house_with(sheet, Slip::ReactionsOfTheFirst)),
 ];
 
 /// The same without a slip, so that it is the slip that is noticed.
@@ -166,6 +203,17 @@ enum Slip {
     IdleSelfDropped,
     BeyondHorizonDropped,
     ImpliedDropped,
+    ReactionsDropped,
+    ReactionsCopied,
+    ReactionsOf1Listed,
+    Reactions0Written,
+    ReactionsInTheirOrder,
+    ReactionsInAlphabet,
+    ReactionsByMinutes,
+    ReactionsBeforeRules,
+    ReactionsCountOfSignals,
+    ReactionsCountAsTyped,
+    ReactionsOfTheFirst,
 }
 
 /// A row with its label as it was typed, its place among the rows, and whether its limit was negated.
@@ -204,15 +252,50 @@ fn house_with(sheet: &[u8], slip: Slip) -> Result<Vec<u8>, Refusal> {
     (0..net.events.len()).for_each(|event| form += &format!("{}\n", name(event)));
     form += &format!("signals,{}\n", net.signals.len());
     net.signals.iter().for_each(|signal| form += &format!("{},{}\n", char::from(signal.letter), name(signal.event)));
+    let section = reaction_section(sheet, &net, slip);
+    if slip == Slip::ReactionsBeforeRules {
+        form += &section;
+    }
     form += &format!("rules,{}\n", if slip == Slip::CountAsTyped { net.rules.len() } else { rows.len() });
     for row in &rows {
         let minus = if slip == Slip::MinusZero && row.limit == 0 && row.negated { "-" } else { "" };
         form += &format!("max,{},{},{minus}{},{}\n", name(row.from), name(row.to), row.limit, letters(&net, row, slip));
     }
+    if slip != Slip::ReactionsBeforeRules {
+        form += &section;
+    }
     Ok(form.into_bytes())
 }
 
-/// A sheet refused with 10 that would be refused with 17 without the bytes behind its last rule.
+/// The section of reactions with its heading, or nothing.
+fn reaction_section(sheet: &[u8], net: &Net, slip: Slip) -> String {
+    let typed = typed_reactions(sheet).unwrap_or_default();
+    let slow = |line: &String| !line.ends_with(",1");
+    let mut lines: Vec<String> = match slip {
+        Slip::ReactionsDropped => vec![],
+        Slip::ReactionsCopied => typed.clone(),
+        Slip::ReactionsInTheirOrder => typed.iter().filter(|line| slow(line)).cloned().collect(),
+        _ => {
+            let all = net.signals.iter().map(|signal| format!("{},{}", char::from(signal.letter), signal.reaction));
+            all.filter(|line| slip == Slip::ReactionsOf1Listed || slow(line)).collect()
+        }
+    };
+    match slip {
+        Slip::ReactionsInAlphabet => lines.sort(),
+        Slip::ReactionsByMinutes => lines.sort_by_key(|line| line[2..].parse::<i64>().expect("minutes")),
+        Slip::ReactionsOfTheFirst => lines.truncate(1),
+        _ => {}
+    }
+    let count = match slip {
+        Slip::ReactionsCountOfSignals => net.signals.len(),
+        Slip::ReactionsCountAsTyped => typed.len(),
+        _ => lines.len(),
+    };
+    let text: String = lines.iter().map(|line| format!("{line}\n")).collect();
+    if lines.is_empty() && slip != Slip::Reactions0Written { text } else { format!("reactions,{count}\n{text}") }
+}
+
+/// A sheet refused with 10 that would be refused with 17 without the bytes behind its reactions.
 fn seventeen_but_for_its_end(sheet: &[u8]) -> bool {
     let Err(Refusal { number: 10, line }) = model::read(sheet) else { return false };
     let lines: Vec<&[u8]> = sheet.split_inclusive(|&byte| byte == b'\n').take(line - 1).collect();

@@ -1,7 +1,7 @@
 //! Document 02, point 8: rounds, one after another, and their exact count, in arrays so that long runs can be counted too.
 //!
-//! "from all zeros, each cell takes the greatest of its own value and each bound that rules, signals (by the hyperarcs ..) .. set from the
-//! table before the round." There are no reactions and no event labels yet: a signal counts one minute after it is given, and every event
+//! "from all zeros, each cell takes the greatest of its own value and each bound that rules, signals (by the
+//! hyperarcs, with reactions) .. set from the table before the round." There are no event labels yet: every event
 //! happens in every case. The mode `selftest` compares this with `model.rs`.
 
 use crate::model::{agrees, truth, Kind, Net, Refusal, Rule};
@@ -27,8 +27,8 @@ struct Rounds {
     limits: Row,
     /// For each case the bounds of its rules: the event at the second place is at least so many minutes after the one at the first.
     bounds: Vec<Vec<(usize, usize, i16)>>,
-    /// The event of each signal.
-    givers: Vec<usize>,
+    /// The event of each signal, and its reaction.
+    givers: Vec<(usize, i16)>,
 }
 
 /// All rounds of a network.
@@ -63,7 +63,7 @@ impl Rounds {
             events: net.events.len(),
             limits,
             bounds: (0..net.cases()).map(of_case).collect(),
-            givers: net.signals.iter().map(|signal| signal.event).collect(),
+            givers: net.signals.iter().map(|signal| (signal.event, signal.reaction as i16)).collect(),
         }
     }
 
@@ -75,7 +75,7 @@ impl Rounds {
                 after[s][to] = after[s][to].max(before[s][from] + wait);
             }
             for r in (0..self.cases).filter(|&r| r != s) {
-                let told = self.earliest(&before[s], s, r) + 1;
+                let told = self.told(&before[s], s, r);
                 for u in 0..MOST {
                     after[s][u] = after[s][u].max(before[r][u].min(told));
                 }
@@ -84,15 +84,15 @@ impl Rounds {
         after
     }
 
-    /// The minute in this case of the earliest signal on which s and r differ.
-    fn earliest(&self, row: &Row, s: usize, r: usize) -> i16 {
-        let mut earliest = i16::MAX - 1;
-        for (signal, &giver) in self.givers.iter().enumerate() {
+    /// The first minute in this case at which a signal counts on which s and r differ.
+    fn told(&self, row: &Row, s: usize, r: usize) -> i16 {
+        let mut told = i16::MAX;
+        for (signal, &(giver, reaction)) in self.givers.iter().enumerate() {
             if truth(s, signal) != truth(r, signal) {
-                earliest = earliest.min(row[giver]);
+                told = told.min(row[giver] + reaction);
             }
         }
-        earliest
+        told
     }
 
     fn passed(&self, table: &[Row; MOST]) -> bool {

@@ -6,10 +6,11 @@ use crate::model;
 use crate::program::{check, printed, Mode, Program};
 use crate::{count, Counts};
 
-/// Sheets refused for each reason, sheets without a table, and sheets with one.
-const KINDS: [&str; 12] = [
+/// Sheets refused for each reason, sheets without a table, and sheets with one; of these two also some with reactions
+/// other than 1.
+const KINDS: [&str; 14] = [
     "refused 1", "refused 2", "refused 3", "refused 4", "refused 5", "refused 6", "refused 7", "refused 8", "refused 9",
-    "refused 10", "refused 13", "listed",
+    "refused 10", "refused 13", "slow and refused 13", "listed", "slow and listed",
 ];
 
 pub const TABLE: Mode = Mode { word: "table", compare_one, kinds: &KINDS, tally };
@@ -18,10 +19,14 @@ pub const TABLE: Mode = Mode { word: "table", compare_one, kinds: &KINDS, tally 
 fn compare_one(program: Program, seed: u64, counts: &mut Counts) -> Result<(), String> {
     let sheet = gen::table_sheet(&mut Rng::new(seed));
     let outcome = model::table(&sheet);
-    count(counts, match &outcome {
+    let kind = match &outcome {
         Ok(_) => "listed".to_string(),
         Err(refusal) => format!("refused {}", refusal.number),
-    });
+    };
+    if model::read(&sheet).is_ok_and(|net| net.is_slow()) {
+        count(counts, format!("slow and {kind}"));
+    }
+    count(counts, kind);
     check(program, "the sheet", &sheet, &printed(outcome))
 }
 

@@ -21,6 +21,8 @@ pub struct Seen {
     tables: u64,
     without: u64,
     refused: u64,
+    slow_tables: u64,
+    slow_without: u64,
 }
 
 /// What all three say of a sheet that is not refused.
@@ -28,6 +30,8 @@ struct Counted {
     count: u32,
     turns: u64,
     has_table: bool,
+    /// Whether some signal has a reaction other than 1.
+    slow: bool,
 }
 
 /// Compares on request 8's rings and on generated sheets.
@@ -51,7 +55,9 @@ pub fn compare_files(paths: &[&str]) {
         match check(&TALLY, &sheet) {
             Err(words) => differs(&format!("{path}\n{words}")),
             Ok(Err(refusal)) => println!("{path} refused {} line {}", refusal.number, refusal.line),
-            Ok(Ok(Counted { count, turns, has_table })) => println!("{path} {count} {turns} {}", if has_table { "table" } else { "13" }),
+            Ok(Ok(Counted { count, turns, has_table, .. })) => {
+                println!("{path} {count} {turns} {}", if has_table { "table" } else { "13" })
+            }
         }
     }
 }
@@ -86,6 +92,9 @@ pub fn compare_sheets(tally: &Tally, seed: u64, sheets: u64) -> Result<Seen, (u6
     if sheets >= ENOUGH && 4 * seen.leapt < sheets {
         return Err((sheets, format!("{}: fewer than a quarter leapt", seen.words())));
     }
+    if sheets >= ENOUGH && seen.slow_tables.min(seen.slow_without) == 0 {
+        return Err((sheets, format!("{}: no table, or no refusal 13, with reactions other than 1", seen.words())));
+    }
     Ok(seen)
 }
 
@@ -96,11 +105,15 @@ impl Seen {
         self.leapt_to_tables += u64::from(leapt && counted.has_table);
         self.tables += u64::from(counted.has_table);
         self.without += u64::from(!counted.has_table);
+        self.slow_tables += u64::from(counted.slow && counted.has_table);
+        self.slow_without += u64::from(counted.slow && !counted.has_table);
     }
 
     pub fn words(&self) -> String {
         let leapt = format!("{} leapt (at most half of the rounds made one by one), {} of them to a table", self.leapt, self.leapt_to_tables);
-        format!("{} sheets, {leapt}; {} tables, {} without, {} refused", self.sheets, self.tables, self.without, self.refused)
+        let slow = format!("with reactions {} tables, {} without", self.slow_tables, self.slow_without);
+        let ends = format!("{} tables, {} without; {slow}; {} refused", self.tables, self.without, self.refused);
+        format!("{} sheets, {leapt}; {ends}", self.sheets)
     }
 }
 
@@ -117,7 +130,10 @@ fn check(tally: &Tally, sheet: &[u8]) -> Result<Result<Counted, Refusal>, String
         (_, false) => format!("by plain rounds {}, and not {}", words_of(plain), words_of(right)),
         _ if (turns == 0) != (count == 0) || turns > u64::from(count) => format!("{turns} rounds one by one of {count}"),
         _ if lent.is(&kept).is_err() => "the sheet was altered".to_string(),
-        _ => return Ok(reading.map(|_| Counted { count, turns, has_table: (right >> 32) as u32 != NO_TABLE })),
+        _ => {
+            let has_table = (right >> 32) as u32 != NO_TABLE;
+            return Ok(reading.map(|net| Counted { count, turns, has_table, slow: net.is_slow() }));
+        }
     };
     Err(format!("{fault}\nsheet of {} bytes\n{}", sheet.len(), text_of(sheet)))
 }

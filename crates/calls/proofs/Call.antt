@@ -65,7 +65,31 @@ module _ {A : Type 0} (refuse : Refusal → A) (sheet : List ℕ) (tests : Netwo
       by-reading Accepted a = by-first a (firstFailing (tests (read sheet .network))) refl
       by-reading (Refused r) p = faulty r p (call-refused (read sheet) refl r p)
 
--- two calls that fail alike, and whose work is alike where no test fails
+-- calls of two accepted sheets that fail alike, and whose work is alike where no test fails
+pub calls-alike : {A : Type 0} (refuse : Refusal → A) (sheet other : List ℕ) (tests tests′ : Network → Tests)
+    (work work′ : Network → A) → read sheet .outcome ≡ Accepted → read other .outcome ≡ Accepted
+    → firstFailing (tests (read sheet .network)) ≡ firstFailing (tests′ (read other .network))
+    → (Hold (tests (read sheet .network)) → work (read sheet .network) ≡ work′ (read other .network))
+    → call refuse sheet tests work ≡ call refuse other tests′ work′
+calls-alike refuse sheet other tests tests′ work work′ a b e works = by-first (firstFailing (tests Γ)) refl
+  where
+    Γ : Network
+    Γ = read sheet .network
+
+    Δ : Network
+    Δ = read other .network
+
+    by-first : (o : Option Cause) → firstFailing (tests Γ) ≡ o
+        → call refuse sheet tests work ≡ call refuse other tests′ work′
+    by-first (some c) p =
+        sym (call-fails refuse sheet tests work (read sheet) refl a c (first-fails (tests Γ) c p))
+        ∙ call-fails refuse other tests′ work′ (read other) refl b c (first-fails (tests′ Δ) c (sym e ∙ p))
+    by-first none p =
+        sym (call-works refuse sheet tests work (read sheet) refl a (hold (tests Γ) p))
+        ∙ works (hold (tests Γ) p)
+        ∙ call-works refuse other tests′ work′ (read other) refl b (hold (tests′ Δ) (sym e ∙ p))
+
+-- two calls of one sheet
 pub call-alike : {A : Type 0} (refuse : Refusal → A) (sheet : List ℕ) (tests tests′ : Network → Tests)
     (work work′ : Network → A)
     → (read sheet .outcome ≡ Accepted
@@ -73,22 +97,14 @@ pub call-alike : {A : Type 0} (refuse : Refusal → A) (sheet : List ℕ) (tests
     → (read sheet .outcome ≡ Accepted → Hold (tests (read sheet .network))
     → work (read sheet .network) ≡ work′ (read sheet .network))
     → call refuse sheet tests work ≡ call refuse sheet tests′ work′
-call-alike refuse sheet tests tests′ work work′ same works = by-end (ends refuse sheet tests work)
+call-alike refuse sheet tests tests′ work work′ same works = by-reading (read sheet .outcome) refl
   where
-    net : Network
-    net = read sheet .network
-
-    by-end : Ends refuse sheet tests work → call refuse sheet tests work ≡ call refuse sheet tests′ work′
-    by-end (faulty r p e) = sym e ∙ call-refused refuse sheet tests′ work′ (read sheet) refl r p
-    by-end (failed a c f e) =
-        sym e
-        ∙ call-fails refuse sheet tests′ work′ (read sheet) refl a c
-        (first-fails (tests′ net) c (sym (same a) ∙ some-fails (tests net) c f))
-    by-end (worked a h e) =
-        sym e
-        ∙ works a h
-        ∙ call-works refuse sheet tests′ work′ (read sheet) refl a
-        (hold (tests′ net) (sym (same a) ∙ none-fails (tests net) h))
+    by-reading : (o : Outcome) → read sheet .outcome ≡ o
+        → call refuse sheet tests work ≡ call refuse sheet tests′ work′
+    by-reading Accepted a = calls-alike refuse sheet sheet tests tests′ work work′ a a (same a) (works a)
+    by-reading (Refused r) p =
+        sym (call-refused refuse sheet tests work (read sheet) refl r p)
+        ∙ call-refused refuse sheet tests′ work′ (read sheet) refl r p
 
 pub well-formed : (sheet : List ℕ) (g : Reading) → g ≡ read sheet → g .outcome ≡ Accepted
     → WellFormed (g .network) × Named sheet (g .network)

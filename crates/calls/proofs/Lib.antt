@@ -20,6 +20,12 @@ pub mod Counted
 pub mod Header
 pub mod Playing
 pub mod Housing
+pub mod Likewise
+pub mod LikeVerdicts
+pub mod LikePlays
+pub mod Former
+pub mod SameAnswers
+pub mod Reacting
 pub mod Printing
 pub mod Benched
 pub mod Demands

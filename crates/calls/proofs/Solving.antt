@@ -53,12 +53,15 @@ module _ (sheet : List ℕ) (m : Lent) where
     wf : WellFormed net
     wf = accepted-well-formed sheet a .0
 
-    -- the run does not rest exactly where no good table exists
-    unrested : (rests (solve net .end) ≡ false) ↔ L.Inconsistent net
+    -- the run does not rest exactly where no good table exists, and where it rests it has reached the least
+    pub unrested : (rests (solve net .end) ≡ false) ↔ L.Inconsistent net
     unrested = (
       λ e. solve-none net wf (rests-false (solve net .end) .0 e),
       λ i. rests-false (solve net .end) .1 (λ r. i .none (solve net .reached) (solve-least net wf r .solves)),
     )
+
+    pub rested : rests (solve net .end) ≡ true → Least net (solve net .reached)
+    rested e = solve-least net wf (rests-true (solve net .end) .0 e)
 
     module _ (room : cells net ≤ m .room) where
       has-room : leb (cells net) (m .room) ≡ true
@@ -73,7 +76,7 @@ module _ (sheet : List ℕ) (m : Lent) where
       reached : rests (solve net .end) ≡ true → Least net (solve net .reached)
           × (solvingInto sheet m ≡ writing m (solve net .reached))
       reached e = (
-        solve-least net wf (rests-true (solve net .end) .0 e),
+        rested e,
         sym (call-works (refusing m) sheet (solvingTests m) work (read sheet) refl a (has-room, (e, tt))),
       )
 

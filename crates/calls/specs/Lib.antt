@@ -15,4 +15,6 @@ pub mod Benched
 pub mod Demands
 pub mod Playing
 pub mod Housing
+pub mod Former
+pub mod Reacting
 pub mod Printing

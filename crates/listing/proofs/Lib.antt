@@ -3,3 +3,4 @@ pub mod Truths
 pub mod Listed
 pub mod Short
 pub mod Examples
+pub mod Same

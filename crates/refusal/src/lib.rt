@@ -14,13 +14,13 @@ pub enum Cause {
     OutOfRange,
     // A name, letter or label is ill-formed.
     IllFormedName,
-    // A name or letter is defined a second time, or its event already gives a signal.
+    // A name or letter is defined a second time, its event already gives a signal, or the letter already has a reaction.
     Duplicate,
     // An event or letter is used that is not defined.
     Undefined,
     // A label holds one letter twice.
     RepeatedLetter,
-    // Bytes follow the last rule.
+    // Bytes follow the last section.
     TrailingBytes,
     // A table handed in has not exactly the sheet's count of numbers.
     WrongTableLength,

@@ -169,10 +169,10 @@ pub(crate) fn read_optional(section: Section, sheet: &[u8], reached: Reached) ->
     match step {
         Step::Refused(_) => reached,
         Step::Next { at, .. } => {
-            if at < sheet.len() {
-                return read_after(section, sheet, reached);
+            if sheet.len() <= at {
+                return reached;
             }
-            reached
+            read_after(section, sheet, reached)
         }
     }
 }

@@ -51,17 +51,17 @@ module _ {Γ Δ : Network} (a : Agree Γ Δ) where
   covers-agree : (x y : Constraint) → keyOf x ≡ keyOf y → (s : ℕ) → covers Γ x s ≡ covers Δ y s
   covers-agree x y e s = covers-satisfies Γ x s ∙ ap (satisfies s) (key-label x y e) ∙ sym (covers-satisfies Δ y s)
 
-  scenarios-agree : scenarios Γ ≡ scenarios Δ
+  pub scenarios-agree : scenarios Γ ≡ scenarios Δ
   scenarios-agree = ap (λ (k : ℕ). 2 ^ k) (a .signals)
 
-  cells-agree : cells Γ ≡ cells Δ
+  pub cells-agree : cells Γ ≡ cells Δ
   cells-agree = rw (a .events, a .signals)
 
   module _ (σ : List ℕ) where
-    time-agree : (s u : ℕ) → time (Γ .events) σ s u ≡ time (Δ .events) σ s u
+    pub time-agree : (s u : ℕ) → time (Γ .events) σ s u ≡ time (Δ .events) σ s u
     time-agree s u = ap (λ (n : ℕ). time n σ s u) (a .events)
 
-    knownFrom-agree : (s p : ℕ) → p < Γ .signals → knownFrom Γ σ s p ≡ knownFrom Δ σ s p
+    pub knownFrom-agree : (s p : ℕ) → p < Γ .signals → knownFrom Γ σ s p ≡ knownFrom Δ σ s p
     knownFrom-agree s p h = rw (a .reactions p h, a .events, a .observations p h)
 
     on-time-agree : (s u : ℕ) → OnTime Γ σ s u → OnTime Δ σ s u

@@ -1,21 +1,24 @@
 // Request 1, what is due. A table is played: at each minute of each case it is asked what is due, with what that case
 // has heard so far, and when each event came is noted. And the same questions are asked of every table, most of them
 // with lists that no case has heard.
+ghost use mathlib.Core.Path.{_≡_};
 ghost use Prim.Native.Nat.{_≤_, _<_};
 ghost use lib.ListN.{length};
+ghost use Rattle.network.specs.Limits as L;
 ghost use Rattle.network.specs.WellFormed.{WellFormed};
 use crate::base;
 use calls::Due;
 use dispatch::Heard;
 use network::Network;
+use network::times;
 
 // What stands where an event has not come, and where it has come twice: minutes that no good table has.
 const NOT_YET: u16 = 65535;
 
 const TWICE: u16 = 65534;
 
-// Every event at once.
-const EVERY: u16 = 65535;
+// A minute at which all that was given at minute 0 has been heard.
+const LATE: u16 = 65535;
 
 // Whether the number has the bit.
 fn has(mask: usize, bit: usize) -> bool
@@ -29,21 +32,39 @@ fn with(said: u64, letter: u8, truth: bool) -> u64 {
     dispatch::add(said, Heard { letter, truth })
 }
 
-// What has been heard, with the signals that the events due give in the case s, the last of the sheet first.
-fn hear(network: Network, s: usize, due: u16, said: u64) -> u64
-    requires { ⌜ WellFormed network ⌝ }
+// Whether a signal that was given then counts at the minute.
+fn counts(given: u16, reaction: u16, minute: u16) -> bool {
+    given as u32 + reaction as u32 <= minute as u32
+}
+
+// What the case s has heard before the minute, where signal p was given at given[p]; the last of the sheet first.
+fn heard(network: Network, s: usize, given: &[u16; Network::SIGNALS], minute: u16) -> u64
+    requires { ⌜ WellFormed network × (length (now given) ≡ L.signals) ⌝ }
 {
     let signals = network.signals;
-    let mut more = said;
+    let mut said = 0;
     for i in 0..signals {
         let p = signals - 1 - i;
         let letter = network.letters[p];
-        let event = network.observations[p];
-        if has(due as usize, event) {
-            more = with(more, letter, has(s, p));
+        let reaction = times::reaction_of(network.reactions[p]);
+        if counts(given[p], reaction, minute) {
+            said = with(said, letter, has(s, p));
         }
     }
-    more
+    said
+}
+
+// Notes the minute for the signals that the events due give.
+fn give(network: Network, given: &mut [u16; Network::SIGNALS], due: u16, minute: u16)
+    requires { ⌜ WellFormed network × (length (now given) ≡ L.signals) ⌝ }
+    ensures { λ _. ⌜ length (now (given .exit)) ≡ L.signals ⌝ }
+{
+    for p in 0..network.signals {
+        let event = network.observations[p];
+        if has(due as usize, event) {
+            given[p] = minute;
+        }
+    }
 }
 
 // The minute of an event, with what is due now.
@@ -81,11 +102,12 @@ fn events_of(due: Due) -> u16 {
 fn play_case(sheet: &[u8], network: Network, table: &[u16], s: usize, row: &mut [u16])
     requires { ⌜ WellFormed network ⌝ }
 {
-    let mut said = 0;
+    let mut given = [NOT_YET; Network::SIGNALS];
     for minute in 0..=network.horizon {
+        let said = heard(network, s, &given, minute);
         let due = events_of(opening::events_due_on(sheet, table, minute, said));
         note(row, minute, due);
-        said = hear(network, s, due, said);
+        give(network, &mut given, due, minute);
     }
 }
 
@@ -146,14 +168,15 @@ fn mask(network: Network, i: usize) -> u64
     requires { ⌜ WellFormed network ⌝ }
 {
     let a = first_letter(network);
-    let all = hear(network, 15, EVERY, 0);
+    let first = [0; Network::SIGNALS];
+    let all = heard(network, 15, &first, LATE);
     match i {
         0 => 0,
         1 => with(0, a, true),
         2 => with(0, a, false),
         3 => all,
-        4 => hear(network, 0, EVERY, 0),
-        5 => hear(network, 10 >> (network.signals % 2), EVERY, 0),
+        4 => heard(network, 0, &first, LATE),
+        5 => heard(network, 10 >> (network.signals % 2), &first, LATE),
         6 => with(with(0, a, true), a, false),
         7 => with(with(0, a, true), a, true),
         8 => with(with(0, b'P', true), a, true),

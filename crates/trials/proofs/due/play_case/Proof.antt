@@ -8,14 +8,15 @@ use Rattle.trials.proofs.due.play_case.Statement.{statement}
 use Rattle.trials.proofs.due.play_case.Tie as tie
 
 abbrev Inv-loop : tie.InvT-loop
-Inv-loop sheet network table s row₀ said₀ minute₀ minute-end row said minute = length row ≡ length row₀
+Inv-loop sheet network table s row₀ given₀ minute₀ minute-end row given minute =
+    (length row ≡ length row₀) × (length given ≡ 4)
 
 abbrev μ-loop : tie.MeasureT-loop
-μ-loop sheet network table s row₀ said₀ minute₀ minute-end row said minute = network .horizon + 1 - minute
+μ-loop sheet network table s row₀ given₀ minute₀ minute-end row given minute = network .horizon + 1 - minute
 
 pub play-case-spec : {M : Type 1} → statement M
 play-case-spec =
     tie.close
     (tie.spec Inv-loop μ-loop (λ c. search needs) (λ c κs. search needs) (λ c κs. search needs) (λ c κs. search needs)
-    (λ c κs. search needs) (λ c. search needs) (λ c. search needs) (λ c. search needs) (λ c. search needs)
-    (λ c. search needs) (λ c. search needs) (λ c. search needs))
+    (λ c κs. search needs) (λ c κs. search needs) (λ c. search needs) (λ c. search needs) (λ c. search needs)
+    (λ c. search needs) (λ c. search needs) (λ c. search needs) (λ c. search needs))

@@ -1,0 +1,61 @@
+-- What holds of reactions (02, point 3), besides what the demands say of every network: "An accepted sheet without the
+-- section is answered as before, and lines that give 1 change no table, verdict or event due".
+use mathlib.Core.Path.{_≡_}
+use mathlib.Core.Logic.{_↔_}
+use mathlib.Core.Bool.{true}
+use mathlib.Core.List.{List}
+use Prim.Native.Nat.{ℕ, _+_, _≤_, _<_}
+use Rattle.prelude.specs.Lists.{Each}
+use Rattle.network.specs.Limits as L
+use Rattle.network.specs.Build.{observation}
+use Rattle.network.specs.Strategy.{time, reaction, known}
+use Rattle.network.specs.Solution.{Solution}
+use Rattle.network.specs.declared.Network.{Network}
+use Rattle.layout.specs.Layout.{Contents, Layout, noReaction, listedReactions}
+use Rattle.dispatch.specs.declared.Heard.{Heard}
+use Rattle.calls.specs.Answers.{Reads}
+use Rattle.calls.specs.Lent.{Handed, Lent}
+use Rattle.calls.specs.Calls.{judging, solvingInto, listingOf, housed}
+use Rattle.calls.specs.Play.{eventsDue, eventsDueOn}
+use Rattle.calls.specs.Bench.{benchDue}
+use Rattle.calls.specs.Former.{Former}
+
+-- each line of the section gives 1; so it is where the section is absent
+abbrev pub AllOne : Contents → Type 0
+AllOne c = Each (λ y. y .minutes ≡ L.fastest) (listedReactions c) noReaction
+
+-- every signal has the reaction 1
+abbrev pub Prompt : Network → Type 0
+Prompt Γ = (p : ℕ) → p < Γ .signals → reaction Γ p ≡ L.fastest
+
+-- two sheets have the same contents besides their reactions
+pub record Besides (c d : Contents) : Type 0 where
+  pub horizon : c .horizon ≡ d .horizon
+  pub names : c .names ≡ d .names
+  pub signals : c .signals ≡ d .signals
+  pub rules : c .rules ≡ d .rules
+
+-- they are answered the same, with tables of minutes and of bytes: the verdict, the table, what is due, the listing and
+-- the house form, and what is left in lent memory
+pub record SameAnswers (sheet other : List ℕ) : Type 0 where
+  pub verdicts : (t : Handed) → judging sheet t ≡ judging other t
+  pub tables : (m : Lent) → solvingInto sheet m ≡ solvingInto other m
+  pub due : (t : List ℕ) (m : ℕ) (hs : List Heard) → eventsDue sheet t m hs ≡ eventsDue other t m hs
+  pub due-on : (t : List ℕ) (m x : ℕ) → eventsDueOn sheet t m x ≡ eventsDueOn other t m x
+  pub bench-due : (b : List ℕ) (m : ℕ) (text : List ℕ) → benchDue sheet b m text ≡ benchDue other b m text
+  pub listings : (t : Handed) (m : List ℕ) → listingOf sheet t m ≡ listingOf other t m
+  pub forms : (m : List ℕ) → housed sheet m ≡ housed other m
+
+pub record Reacting : Type 0 where
+  -- a signal counts from its minute plus its reaction on, which is from 1 to 60
+  pub counts : (Γ : Network) (σ : List ℕ) (s p m : ℕ)
+      → (known Γ σ s p m ≡ true) ↔ (time (Γ .events) σ s (observation Γ p) + reaction Γ p ≤ m)
+  pub range : (sheet : List ℕ) (Γ : Network) (p : ℕ) → Reads sheet Γ
+      → (L.fastest ≤ reaction Γ p) × (reaction Γ p ≤ L.slowest)
+  -- without the section, and with lines that all give 1, each signal has the reaction 1
+  pub prompt : (sheet : List ℕ) (Γ : Network) → Reads sheet Γ → (l : Layout sheet) → AllOne (l .contents) → Prompt Γ
+  -- and the good tables are document 01's
+  pub former : (Γ : Network) → Prompt Γ → (σ : List ℕ) → Solution Γ σ ↔ Former Γ σ
+  -- a sheet with and one without such lines are answered the same
+  pub unchanged : (sheet other : List ℕ) (l : Layout sheet) (k : Layout other) → Besides (l .contents) (k .contents)
+      → AllOne (l .contents) → AllOne (k .contents) → SameAnswers sheet other
