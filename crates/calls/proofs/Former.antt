@@ -1,5 +1,5 @@
--- Where every signal has the reaction 1, it is known at a minute exactly where it was given before it; so the good tables
--- are document 01's. And a signal has the reaction 1 unless a line says otherwise. Assumes nothing.
+-- Where every signal has the reaction 1, it is known at a minute exactly where it was given before it; so the good
+-- tables are document 01's. And a signal has the reaction 1 unless a line says otherwise. Assumes nothing.
 use mathlib.Core.Path.{_≡_, sym, _∙_}
 use mathlib.Core.Logic.{_↔_, inl, inr}
 use mathlib.Core.List.{List}

@@ -3,7 +3,7 @@ use mathlib.Core.Path.{_≡_, refl, _∙_, ap, ap₂}
 use mathlib.Core.Bool.{Bool, true, false, _&&_, Bool·beq, cond}
 use mathlib.Core.Option.{Option, none, some}
 use mathlib.Core.List.{List, [], _∷_}
-use Prim.Native.Nat.{ℕ, zero, suc, _+_, _<_}
+use Prim.Native.Nat.{ℕ, zero, suc, _+_}
 use native.Mathlib.Omega.{arith}
 use lib.Dec.{eqb}
 use Rattle.prelude.specs.Bytes.{distinct}
@@ -12,9 +12,9 @@ use Rattle.network.specs.Build.{letter}
 use Rattle.network.specs.Scenario.{truth}
 use Rattle.network.specs.declared.Network.{Network}
 use Rattle.names.specs.Defined.{placeOf, allDefined}
-use Rattle.dispatch.specs.Heard.{lettersOf, isWellNamed, says, recordsFrom, recordsOf}
-use Rattle.dispatch.specs.Due.{hears, asHeard, hasHeard, hearer, dueIn, dueFor, dueBy, due}
-use Rattle.dispatch.specs.Said.{saidOn, standsOn, saidFrom, recordsOn, wellNamedOn, dueOn}
+use Rattle.dispatch.specs.Heard.{lettersOf, isWellNamed, says, recordsFrom}
+use Rattle.dispatch.specs.Due.{asHeard, hasHeard, hearer, dueIn, dueFor, dueBy, due}
+use Rattle.dispatch.specs.Said.{saidOn, standsOn, saidFrom, wellNamedOn, dueOn}
 use Rattle.dispatch.specs.declared.Heard.{Heard}
 use Rattle.dispatch.specs.declared.Dispatched.{Dispatched}
 use Rattle.dispatch.specs.declared.Dispatched.the-variants.{Events, Misnamed}

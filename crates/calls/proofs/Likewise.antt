@@ -1,5 +1,6 @@
--- Networks that say the same: they may differ in where their names stand, and in whether a reaction of 1 has a line. Two
--- sheets with the same contents besides reactions, and with the same reactions, have such networks. Assumes nothing.
+-- Networks that say the same: they may differ in where their names stand, and in whether a reaction of 1 has a line.
+-- Two sheets with the same contents besides reactions, and with the same reactions, have such networks. Assumes
+-- nothing.
 use mathlib.Core.Path.{_≡_, refl, sym, _∙_, ap, ap₂}
 use mathlib.Core.List.{List, [], _++_}
 use Prim.Native.Nat.{ℕ, zero, suc, _<_}
@@ -10,9 +11,9 @@ use Rattle.network.specs.Build.{letter, observation, constraint}
 use Rattle.network.specs.Strategy.{reaction}
 use Rattle.network.specs.declared.Constraint.{Constraint}
 use Rattle.network.specs.declared.Network.{Network}
-use Rattle.layout.specs.Layout.{Signal, Contents, noSignal, noRule, signalLetters}
+use Rattle.layout.specs.Layout.{Signal, Contents, noSignal, noRule}
 use Rattle.layout.specs.Contains.{Bears, Means, Contains}
-use Rattle.tighten.specs.Upper.{uppers, uppersBelow, uppersOf}
+use Rattle.tighten.specs.Upper.{uppers, uppersBelow}
 use Rattle.tighten.specs.Tightest.{remaining, remainingOf}
 use Rattle.tighten.proofs.Tables.{Agree}
 use Rattle.canonical.specs.Same.{Same}

@@ -1,12 +1,11 @@
--- What holds of reactions: lines that give 1 say what no line says, so sheets that differ in these alone are answered the
--- same. Assumes nothing.
+-- What holds of reactions: lines that give 1 say what no line says, so sheets that differ in these alone are answered
+-- the same. Assumes nothing.
 use mathlib.Core.Path.{_≡_, sym, _∙_, ap}
 use mathlib.Core.List.{List}
 use Prim.Native.Nat.{ℕ, _<_}
 use native.Mathlib.Omega.{arith}
 use lib.ListN.{length}
 use Rattle.network.specs.Strategy.{reaction}
-use Rattle.network.specs.declared.Network.{Network}
 use Rattle.network.proofs.Strategy.{reaction-some, from-known, is-known}
 use Rattle.sheet.specs.Reading.{read}
 use Rattle.layout.specs.Layout.{Layout}

@@ -4,10 +4,9 @@ use mathlib.Core.Logic.{_↔_}
 use mathlib.Core.Bool.{Bool, true, false, cond}
 use mathlib.Core.Option.{Option}
 use mathlib.Core.List.{List, [], _∷_}
-use Prim.Native.Nat.{ℕ, _<_}
-use lib.Dec.{leb}
+use Prim.Native.Nat.{ℕ}
 use lib.ListN.{length}
-use Rattle.prelude.specs.Checks.{firstFailing, Hold}
+use Rattle.prelude.specs.Checks.{firstFailing}
 use Rattle.prelude.proofs.Mapped.{tabulate-value}
 use Rattle.prelude.proofs.Tests.{clash}
 use Rattle.pairs.specs.Pairs.{minutesOf}
@@ -19,7 +18,6 @@ use Rattle.network.specs.Least as L
 use Rattle.network.specs.declared.Constraint.{Constraint}
 use Rattle.network.specs.declared.Network.{Network}
 use Rattle.network.proofs.Least.{least-unique, same-least, same-inconsistent}
-use Rattle.line.specs.Tests.{Tests}
 use Rattle.sheet.specs.Reading.{read}
 use Rattle.sheet.specs.declared.Outcome.the-variants.{Accepted}
 use Rattle.sheet.proofs.WellFormed.{accepted-well-formed}
@@ -33,7 +31,6 @@ use Rattle.dispatch.specs.declared.Dispatched.{Dispatched}
 use Rattle.dispatch.specs.declared.Dispatched.the-variants.{Misnamed}
 use Rattle.listing.specs.Listing.{listing}
 use Rattle.listing.proofs.Same.{listing-same}
-use Rattle.tighten.specs.Tightest.{remainingOf}
 use Rattle.tighten.proofs.Tables.{cells-agree, solutions-by-remaining}
 use Rattle.canonical.specs.House.{houseText}
 use Rattle.canonical.specs.Same.{Same}
@@ -68,7 +65,8 @@ module _ (sheet other : List ℕ) (a : read sheet .outcome ≡ Accepted) (b : re
   -- the same good tables, so the same least one or none
   tables-same : (σ : List ℕ) → Solution Γ σ ↔ Solution Δ σ
   tables-same =
-      solutions-by-remaining (accepted-well-formed sheet a .0) (accepted-well-formed other b .0) (w .agrees) (s .remaining)
+      solutions-by-remaining (accepted-well-formed sheet a .0) (accepted-well-formed other b .0) (w .agrees)
+      (s .remaining)
 
   verdicts : (t : Handed) → judging sheet t ≡ judging other t
   verdicts t =

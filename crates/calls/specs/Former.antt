@@ -1,6 +1,6 @@
--- A good table in document 01's words, in which every signal counts from the minute after it is given on. Beside
--- `Solution`, so that a reader sees what request 3 left as it was: of a network whose reactions are 1 the good tables are
--- these (`Reacting`).
+-- A good table in document 01's words, in which every signal counts from the minute after it is given on. It stands
+-- beside `Solution` so that a reader sees what request 3 left as it was: of a network whose reactions are 1 the good
+-- tables are these (`Reacting`).
 use mathlib.Core.Path.{_≡_}
 use mathlib.Core.Bool.{false}
 use mathlib.Core.List.{List}

@@ -1,6 +1,6 @@
 -- The form of an accepted sheet, where no more upper bounds remain than a sheet may have (02, point 2): it is accepted,
--- and its network has the horizon, the events, the signals and their reactions, and for rules those that remain. So "the
--- form reads back to the same good tables, and a second pass changes no byte". Assumes nothing.
+-- and its network has the horizon, the events, the signals and their reactions, and for rules those that remain. So
+-- "the form reads back to the same good tables, and a second pass changes no byte". Assumes nothing.
 use mathlib.Core.Path.{_≡_, refl, sym, _∙_, ap}
 use mathlib.Core.Logic.{_↔_}
 use mathlib.Core.List.{List}

@@ -23,8 +23,8 @@ pub record LettersAre (Γ : Network) (k : ℕ) (bs : List ℕ) : Type 0 where
   pub are : (p : ℕ) → p < k → letter Γ p ≡ getD bs p 0
   pub once : Distinct bs 0
 
-module _ {Γ : Network} {k : ℕ} {bs : List ℕ} (w : LettersAre Γ k bs) {A : Type 0} (f : ℕ → Option A) (d : A) (key : A → ℕ)
-    (keyed : (p : ℕ) (x : A) → f p ≡ some x → key x ≡ letter Γ p) where
+module _ {Γ : Network} {k : ℕ} {bs : List ℕ} (w : LettersAre Γ k bs) {A : Type 0} (f : ℕ → Option A) (d : A)
+    (key : A → ℕ) (keyed : (p : ℕ) (x : A) → f p ≡ some x → key x ≡ letter Γ p) where
   abbrev xs : List A
   xs = gather (Γ .signals) f
 

@@ -7,6 +7,7 @@ pub mod Signs
 pub mod Slow
 pub mod Faithful
 pub mod Keeping
+pub mod Lengths
 pub mod Short
 pub mod Back
 pub mod Likeness

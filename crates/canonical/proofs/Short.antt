@@ -5,8 +5,6 @@ use mathlib.Core.Bool.{Bool, true, false}
 use mathlib.Core.Option.{Option, none, some, Option·getD}
 use mathlib.Core.List.{List, [], _∷_, _++_, map}
 use Prim.Native.Nat.{ℕ, suc, _+_, _*_, _≤_}
-use Prim.Native.String.{String}
-use native.Mathlib.Nat.{mul-suc, mul-le-mul-left}
 use native.Mathlib.Omega.{arith}
 use lib.IntN.{ℤ, pos, negsuc}
 use lib.ListN.{length, getD, length-append, length-map}
@@ -14,7 +12,6 @@ use Rattle.prelude.specs.Bytes.{ascii}
 use Rattle.prelude.specs.Lists.{Each}
 use Rattle.prelude.proofs.Lists.{each-mono, each-in}
 use Rattle.prelude.proofs.Mapped.{each-map}
-use Rattle.text.specs.Lines.{comma, lineFeed}
 use Rattle.text.specs.Decimal.{decimal}
 use Rattle.text.proofs.Decimal.{length-decimal-16}
 use Rattle.network.specs.Limits as L
@@ -26,39 +23,10 @@ use Rattle.names.proofs.Tokens.{name-short}
 use Rattle.layout.specs.Layout.{Signal, Rule, Reaction, Contents, KeepsSignal, KeepsRule, KeepsReaction, Keeps}
 use Rattle.layout.specs.Layout.{noSignal, noRule, noReaction, signalLetters, signedText, signText, reactionLine}
 use Rattle.layout.specs.Layout.{reactionsText}
-use Rattle.layout.specs.Layout.{literalsText, labelText, kindText, line, lines, section, signalLine, ruleLine, textOf}
+use Rattle.layout.specs.Layout.{literalsText, labelText, kindText, line, section, signalLine, ruleLine, textOf}
 use Rattle.canonical.specs.Most.{mostCount, mostEvents, mostSignals, mostLabel, mostRule, mostRules}
 use Rattle.canonical.specs.Most.{mostReaction, mostReactions, mostForm}
-
--- a field and what is behind it
-length-line : (f : List ℕ) → length (line f []) ≡ length f + 1
-length-line f = length-append f (lineFeed ∷ [])
-
-length-field : (f g : List ℕ) (gs : List (List ℕ)) → length (line f (g ∷ gs)) ≡ length f + suc (length (line g gs))
-length-field f g gs = length-append f (comma ∷ line g gs)
-
-length-count : (word : List ℕ) (v : ℕ) → v ≤ 65535 → length (line word (decimal v ∷ [])) ≤ mostCount (length word)
-length-count word v h = omega (arith, length-field word (decimal v) [], length-line (decimal v), length-decimal-16 v h)
-
--- lines of at most m bytes
-length-lines : (m : ℕ) (ls : List (List ℕ)) → Each (λ l. length l ≤ m) ls [] → length (lines ls) ≤ m * length ls
-length-lines m [] e = omega arith
-length-lines m (l ∷ ls) e =
-    let rest = length-lines m ls (record { each = λ i h. e .each (suc i) (omega arith) }) in
-    omega (arith, length-append l (lines ls), mul-suc m (length ls), e .each 0 (omega arith), rest)
-
-length-section : (word : String) (m n : ℕ) (ls : List (List ℕ)) → length ls ≤ n → n ≤ 65535
-    → Each (λ l. length l ≤ m) ls []
-    → length (section word ls) ≤ mostCount (length (ascii word)) + m * n
-length-section word m n ls few h e =
-    let count = line (ascii word) (decimal (length ls) ∷ []) in
-    omega (
-      arith,
-      length-append count (lines ls),
-      length-count (ascii word) (length ls) (omega arith),
-      length-lines m ls e,
-      mul-le-mul-left m few,
-    )
+use Rattle.canonical.proofs.Lengths.{length-line, length-field, length-count, length-section}
 
 -- a limit, a label and a kind
 length-signed : (z : ℤ) → InLimits z → length (signedText z) ≤ 6
@@ -134,7 +102,8 @@ module _ (c : Contents) (k : Keeps c) where
         length-label (x .label) few,
       )
 
-  length-reaction : (y : Reaction) → KeepsReaction (signalLetters (c .signals)) y → length (reactionLine y) ≤ mostReaction
+  length-reaction : (y : Reaction) → KeepsReaction (signalLetters (c .signals)) y
+      → length (reactionLine y) ≤ mostReaction
   length-reaction y e =
       omega (arith, length-line (decimal (y .minutes)), length-decimal-16 (y .minutes) (omega (arith, e .most)))
 

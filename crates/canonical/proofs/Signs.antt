@@ -1,7 +1,7 @@
 -- A label of the form, letter by letter: its letters are letters of signals and are distinct, and the label that is
 -- read from them is the label that was written. The sum of the weights of the letters that stand with a truth is the
 -- sum of the weights of the signals that the label asks for with it, signal by signal. Assumes nothing.
-use mathlib.Core.Path.{_≡_, refl, sym, _∙_, ap}
+use mathlib.Core.Path.{_≡_, refl, _∙_, ap}
 use mathlib.Core.Bool.{Bool, true, false, cond}
 use mathlib.Core.Option.{some}
 use mathlib.Core.List.{List, []}

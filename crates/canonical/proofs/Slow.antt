@@ -1,5 +1,5 @@
--- The reactions that a form lists: one for each signal that reacts otherwise than after a minute, told by its letter; so
--- they keep the layout's rules, and what is read from them is what each signal had. Assumes nothing.
+-- The reactions that a form lists: one for each signal that reacts otherwise than after a minute, told by its letter;
+-- so they keep the layout's rules, and what is read from them is what each signal had. Assumes nothing.
 use mathlib.Core.Path.{_≡_, refl, sym, _∙_, ap}
 use mathlib.Core.Logic.{inl, inr}
 use mathlib.Core.Bool.{Bool, true, false}
@@ -111,7 +111,8 @@ module _ (sheet : List ℕ) {Γ : Network} {k : ℕ} {bs : List ℕ} (w : Letter
       let its = sym (getD-map (λ y. y .letter) noReaction 0 (slowOf Γ) (i .place) at) ∙ i .is ∙ same-letter in
       s .2 .slow (ap (reaction Γ) (of-signal (s .0) (s .1) (sym (s .2 .letter-is) ∙ its)) ∙ e)
 
-  listed : (reaction Γ p ≡ L.fastest → ⊥) → In (record { letter = letter Γ p; minutes = reaction Γ p }) (slowOf Γ) noReaction
+  listed : (reaction Γ p ≡ L.fastest → ⊥)
+      → In (record { letter = letter Γ p; minutes = reaction Γ p }) (slowOf Γ) noReaction
   listed n =
       in-gather (slowAt Γ) noReaction 0 (Γ .signals) _
       (record { number = p; from = omega arith; below = omega arith; is = rw (ne-eqb (reaction Γ p) L.fastest n) })

@@ -1,7 +1,6 @@
 -- Laws of the reactions as they are written: how many are listed, signal by signal; the line of each; and the section,
 -- where there are any. Assumes nothing.
 use mathlib.Core.Path.{_≡_, refl, sym, _∙_, ap}
-use mathlib.Core.Bool.{true, false}
 use mathlib.Core.Option.{Option, none, some}
 use mathlib.Core.List.{List, [], _∷_, _++_, append-nil, map}
 use Prim.Native.Nat.{ℕ, zero, suc, _+_, _≤_}
@@ -11,7 +10,7 @@ use borrow.Author.Tests.{eq-eqb, ne-eqb}
 use lib.ListN.{length, length-append, length-map}
 use Rattle.prelude.specs.Bytes.{ascii}
 use Rattle.prelude.specs.Gather.{ahead, gatherFrom, gather}
-use Rattle.prelude.proofs.Gather.{gather-more, length-gather}
+use Rattle.prelude.proofs.Gather.{gather-more}
 use Rattle.text.specs.Lines.{comma, lineFeed}
 use Rattle.text.specs.Decimal.{decimal}
 use Rattle.page.specs.Joined.{joinFrom}

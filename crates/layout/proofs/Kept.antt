@@ -1,5 +1,5 @@
--- Names, signals, rules and reactions that keep the layout's rules, so far as the lines behind them rely on it, and what may
--- follow them: none keep them, and with one that may follow they still do. Assumes nothing.
+-- Names, signals, rules and reactions that keep the layout's rules, so far as the lines behind them rely on it, and
+-- what may follow them: none keep them, and with one that may follow they still do. Assumes nothing.
 use mathlib.Core.Path.{_≡_, sym, _∙_, ap}
 use mathlib.Core.Bool.{true}
 use mathlib.Core.List.{List, [], _∷_, _++_, map-append}

@@ -17,6 +17,7 @@ pub mod RuleLine
 pub mod Rules
 pub mod Reactions
 pub mod Section
+pub mod Optional
 pub mod Text
 pub mod Written
 pub mod Read

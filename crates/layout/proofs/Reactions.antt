@@ -108,8 +108,8 @@ module _ (sheet : List ℕ) (h : ℕ) (names : List (List ℕ)) (xs : List Signa
     reads = λ c fs e. reaction-read c fs e;
     passes = λ c y m. reaction-passes c y m;
     plain = λ c y m.
-        and-both (plain (y .letter)) true (plain-letter (y .letter) (letter-is (c .signals) (y .letter) (m .keeps .signal)))
-        refl
+        and-both (plain (y .letter)) true
+        (plain-letter (y .letter) (letter-is (c .signals) (y .letter) (m .keeps .signal))) refl
         & plain-decimal (y .minutes)
         & tt;
     adds = λ c y m few at rest e. reaction-adds c y m at;

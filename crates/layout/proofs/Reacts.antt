@@ -65,7 +65,8 @@ module _ {sheet : List ℕ} {Γ : Network} {h : ℕ} {ns : List (List ℕ)} {xs 
       other q (λ s. new (rw (s, its) at listed)) ∙ c .reacts q i l m e)
       (λ q l e. rw (same-signal q l e) (getD-set-same (Γ .reactions) p (y .minutes) 0 room))
 
-  unsaid : (q : ℕ) → q < length xs → (In (letter Γ q) (reactionLetters (ys ++ y ∷ [])) 0 → ⊥) → reactionGiven grown q ≡ 0
+  unsaid : (q : ℕ) → q < length xs → (In (letter Γ q) (reactionLetters (ys ++ y ∷ [])) 0 → ⊥)
+      → reactionGiven grown q ≡ 0
   unsaid q l n =
       let out : In (letter Γ q) (reactionLetters ys ++ y .letter ∷ []) 0 → ⊥ = λ i. n (rw map-append i) in
       other q (λ s. out (rw (s, its) (in-last 0 (reactionLetters ys) (y .letter))))

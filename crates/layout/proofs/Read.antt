@@ -1,7 +1,7 @@
 -- A sheet that is the text of contents which keep the layout's rules is read to its end, and the network holds these
 -- contents. Assumes nothing.
 use mathlib.Core.Path.{_≡_, refl, _∙_, ap}
-use mathlib.Core.Option.{Option, none, some, Option·getD}
+use mathlib.Core.Option.{Option, Option·getD}
 use mathlib.Core.List.{List, [], _++_}
 use Prim.Native.Nat.{ℕ, _≤_, zero-le}
 use lib.ListN.{length, drop}
@@ -20,12 +20,12 @@ use Rattle.layout.proofs.Numbers.{magnitude-decimal}
 use Rattle.layout.specs.Contains.{Contains}
 use Rattle.layout.proofs.Kept.{KeptNames, KeptSignals, KeptRules, KeptReactions}
 use Rattle.layout.proofs.Extends.{contents, contentsWith}
-use Rattle.layout.proofs.Stands.{Stands, empty-stands, reactions-begin}
+use Rattle.layout.proofs.Stands.{Stands, empty-stands}
 use Rattle.layout.proofs.Entries.{Reads}
 use Rattle.layout.proofs.Events.{events-understood}
 use Rattle.layout.proofs.Signals.{signals-understood}
 use Rattle.layout.proofs.Rules.{rules-understood}
-use Rattle.layout.proofs.Reactions.{reactions-understood}
+use Rattle.layout.proofs.Optional.{reactions-reads}
 use Rattle.layout.proofs.Section.{count-line-reads, section-reads}
 use Rattle.layout.proofs.Text.{
   horizonText,
@@ -34,8 +34,6 @@ use Rattle.layout.proofs.Text.{
   rulesText,
   apart,
   end-reads,
-  optional-absent,
-  optional-stands,
   on,
 }
 
@@ -103,30 +101,12 @@ module _ (sheet : List ℕ) (h : ℕ) (ns : List (List ℕ)) (xs : List Signal) 
   abbrev AtReactions : Progress → Option (List Reaction) → List ℕ → Type 0
   AtReactions p o rest = Reads sheet (λ Γ o. Stands sheet Γ (contentsWith h ns xs rs o)) p o rest
 
-  -- the section is there where any byte stands, and absent where none does
   reactions-read : (o : Option (List Reaction)) → KeptReactions xs (Option·getD o [])
       → length (Option·getD o []) ≤ L.signals → length xs ≤ L.signals
       → AtRules (toRules sheet) rs (reactionsText o ++ []) → AtReactions (toReactions sheet) o []
-  reactions-read none kept few signals r =
-      andThen-reads sheet (toRules sheet) (readOptional sheet Reactions) r (record {
-        network = r .network;
-        at = r .at;
-        number = r .number;
-        goes = optional-absent sheet Reactions (r .network) (r .at) (r .number) (r .behind);
-        held = r .held;
-        behind = r .behind;
-      })
-  reactions-read (some ys) kept few signals r =
-      let t = section-reads (reactions-understood sheet h ns xs rs signals) (r .network) (r .at) (r .number)
-      (reactions-begin (r .held)) refl ys [] kept zero-le few (r .behind) in
-      andThen-reads sheet (toRules sheet) (readOptional sheet Reactions) r (record {
-        network = t .network;
-        at = t .at;
-        number = t .number;
-        goes = optional-stands sheet Reactions (r .network) (r .at) (r .number) (r .behind) ∙ t .goes;
-        held = t .held;
-        behind = t .behind;
-      })
+  reactions-read o kept few signals r =
+      andThen-reads sheet (toRules sheet) (readOptional sheet Reactions) r
+      (reactions-reads sheet (r .network) (r .at) (r .number) signals (r .held) o kept few (r .behind))
 
   end-read : (o : Option (List Reaction)) → AtReactions (toReactions sheet) o [] → AtReactions (toEnd sheet) o []
   end-read o r = record {
@@ -168,7 +148,8 @@ pub record IsRead (sheet : List ℕ) (c : Contents) : Type 0 where
 pub layout-read : (sheet : List ℕ) (l : Layout sheet) → IsRead sheet (l .contents)
 layout-read sheet l =
     let c = l .contents in
-    let r = sections-read sheet (c .horizon) (c .names) (c .signals) (c .rules) (c .reactions) (l .keeps) (l .written) in
+    let r =
+    sections-read sheet (c .horizon) (c .names) (c .signals) (c .rules) (c .reactions) (l .keeps) (l .written) in
     record {
       network = r .network;
       at = r .at;

@@ -2,9 +2,9 @@
 use mathlib.Core.Path.{_≡_, _∙_, ap}
 use mathlib.Core.Logic.{inl, inr}
 use mathlib.Core.List.{List, [], _∷_, _++_, append-nil, append-assoc, map}
-use Prim.Native.Nat.{ℕ, _≤_, _<_}
+use Prim.Native.Nat.{ℕ, _≤_}
 use native.Mathlib.Omega.{arith}
-use borrow.Author.Tests.{ltb-false, lt-ltb, le-ltb}
+use borrow.Author.Tests.{ltb-false, le-ltb}
 use lib.Dec.{ltb}
 use lib.ListN.{length, drop, length-drop, drop-of-length-le}
 use Rattle.prelude.specs.Bytes.{ascii}
@@ -13,8 +13,7 @@ use Rattle.text.specs.Decimal.{decimal}
 use Rattle.refusal.specs.Refusal.{refusal}
 use Rattle.refusal.specs.declared.Cause.the-variants.{TrailingBytes}
 use Rattle.network.specs.declared.Network.{Network}
-use Rattle.line.specs.declared.Section.{Section}
-use Rattle.sheet.specs.Reading.{Progress, Go, andThen, readSection, readOptional, readEnd}
+use Rattle.sheet.specs.Reading.{Progress, Go, andThen, readEnd}
 use Rattle.sheet.proofs.ReadLine.{stop-not-go}
 use Rattle.layout.specs.Layout.{Signal, Rule, line, section, signalLine, ruleLine}
 use Rattle.layout.proofs.Entries.{joins}
@@ -66,19 +65,6 @@ module _ (sheet : List ℕ) where
     end-reads e =
         let h : length sheet ≤ at = omega (arith, ap length e, length-drop at sheet) in
         rw (le-ltb at (length sheet) h)
-
--- a section that may be absent is, where nothing is left, and where something stands it is read
-module _ (sheet : List ℕ) (s : Section) (Γ : Network) (at k : ℕ) where
-  pub optional-absent : drop at sheet ≡ [] → readOptional sheet s Γ at k ≡ Go Γ at k
-  optional-absent e =
-      let h : length sheet ≤ at = omega (arith, ap length e, length-drop at sheet) in
-      rw (le-ltb at (length sheet) h)
-
-  pub optional-stands : {b : ℕ} {rest : List ℕ} → drop at sheet ≡ b ∷ rest
-      → readOptional sheet s Γ at k ≡ readSection sheet s Γ at k
-  optional-stands e =
-      let h : at < length sheet = omega (arith, ap length e, length-drop at sheet) in
-      rw (lt-ltb at (length sheet) h)
 
 -- a step behind another
 pub on : (p : Progress) (next : Network → ℕ → ℕ → Progress) (Γ : Network) (at k : ℕ) (q : Progress) → p ≡ Go Γ at k

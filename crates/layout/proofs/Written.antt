@@ -1,11 +1,8 @@
 -- A sheet that is read to its end is the text of what was read: a horizon, names, signals, rules and, where they stand,
 -- reactions that keep the layout's rules. Assumes nothing.
 use mathlib.Core.Path.{_≡_, _∙_, ap}
-use mathlib.Core.Bool.{Bool, true, false, cond}
-use mathlib.Core.Option.{Option, none, some, Option·getD}
 use mathlib.Core.List.{List, [], _++_}
 use Prim.Native.Nat.{ℕ, _≤_}
-use native.Mathlib.Omega.{arith}
 use lib.ListN.{length, drop}
 use Rattle.text.specs.Lines.{afterLine}
 use Rattle.network.specs.Limits as L
@@ -14,17 +11,17 @@ use Rattle.network.specs.declared.Network.{Network}
 use Rattle.line.specs.Tests.{sectionCount}
 use Rattle.line.specs.Sections.{headingOf, horizonHeading}
 use Rattle.line.specs.declared.Section.the-variants.{Events, Signals, Rules, Reactions}
-use Rattle.sheet.specs.Reading.{longest, Go, readHorizon, readSection, follows, readOptional, readEnd, progress}
+use Rattle.sheet.specs.Reading.{longest, Go, readHorizon, readSection, readOptional, readEnd, progress}
 use Rattle.sheet.proofs.ReadLine.{Came, came}
 use Rattle.sheet.proofs.Whole.{toEvents, toSignals, toRules, toReactions, toEnd, within-length}
-use Rattle.layout.specs.Layout.{Signal, Rule, Reaction, Contents, Keeps, Layout, line, signalLine, ruleLine}
+use Rattle.layout.specs.Layout.{Signal, Contents, Keeps, Layout, line, signalLine, ruleLine}
 use Rattle.layout.specs.Layout.{listedReactions, reactionsText}
 use Rattle.layout.proofs.Extends.{contents, contentsWith}
-use Rattle.layout.proofs.Stands.{Stands, empty-stands, reactions-begin}
+use Rattle.layout.proofs.Stands.{Stands, empty-stands}
 use Rattle.layout.proofs.Events.{events-understood}
 use Rattle.layout.proofs.Signals.{signals-understood}
 use Rattle.layout.proofs.Rules.{rules-understood}
-use Rattle.layout.proofs.Reactions.{reactions-understood}
+use Rattle.layout.proofs.Optional.{ReactionsRead, reactions-read}
 use Rattle.layout.proofs.Section.{count-line-read, SectionRead, section-read}
 use Rattle.layout.proofs.Text.{
   horizonText,
@@ -91,39 +88,11 @@ module _ (sheet : List ℕ) where
         held = rw same-network at (empty-stands sheet h);
       }
 
-  -- the reactions that were read: their section, or nothing
-  record ReactionsRead (h : ℕ) (ns : List (List ℕ)) (xs : List Signal) (rs : List Rule) (at : ℕ) (Γ : Network) (end : ℕ)
-      : Type 0 where
-    items : Option (List Reaction)
-    few : length (Option·getD items []) ≤ L.signals
-    written : drop at sheet ≡ reactionsText items ++ drop end sheet
-    held : Stands sheet Γ (contentsWith h ns xs rs items)
-
-  reactions-read : {h : ℕ} {ns : List (List ℕ)} {xs : List Signal} {rs : List Rule} (Γ : Network) (at k : ℕ)
-      → length xs ≤ L.signals → Stands sheet Γ (contents h ns xs rs)
-      → (Δ : Network) (end m : ℕ) → readOptional sheet Reactions Γ at k ≡ Go Δ end m → ReactionsRead h ns xs rs at Δ end
-  reactions-read {h} {ns} {xs} {rs} Γ at k few held Δ end m e = by-bytes (follows sheet at) e
-    where
-      by-bytes : (more : Bool) → cond more (readSection sheet Reactions Γ at k) (Go Γ at k) ≡ Go Δ end m
-          → ReactionsRead h ns xs rs at Δ end
-      by-bytes true e =
-          let r = section-read (reactions-understood sheet h ns xs rs few) Γ at k (reactions-begin held) Δ end m e in
-          record { items = some (r .items); few = r .high; written = r .written; held = r .held }
-      by-bytes false e =
-          let same-network : Γ ≡ Δ = cc in
-          let same-place : at ≡ end = cc in
-          record {
-            items = none;
-            few = omega arith;
-            written = ap (λ (i : ℕ). drop i sheet) same-place;
-            held = rw same-network at held;
-          }
-
   -- from one section to the next, and at last all five
   module _ {Γ₁ Γ₂ Γ₃ Γ₄ Γ₅ : Network} {a b c d i : ℕ} (short : length sheet ≤ longest) (end : drop i sheet ≡ []) where
     from-reactions : (h : HorizonRead Γ₁ a) (es : EventsRead (h .horizon) a Γ₂ b)
         (ss : SignalsRead (h .horizon) (es .items) b Γ₃ c) (rs : RulesRead (h .horizon) (es .items) (ss .items) c Γ₄ d)
-        → ReactionsRead (h .horizon) (es .items) (ss .items) (rs .items) d Γ₅ i → Layout sheet
+        → ReactionsRead sheet (h .horizon) (es .items) (ss .items) (rs .items) d Γ₅ i → Layout sheet
     from-reactions h es ss rs ys = record {
       contents = contentsWith (h .horizon) (es .items) (ss .items) (rs .items) (ys .items);
       keeps = keeps (ys .held) (h .high) (es .low) (es .high) (ss .high) (rs .high) (ys .few);
@@ -137,7 +106,7 @@ module _ (sheet : List ℕ) where
     from-rules : (h : HorizonRead Γ₁ a) (es : EventsRead (h .horizon) a Γ₂ b)
         (ss : SignalsRead (h .horizon) (es .items) b Γ₃ c) → RulesRead (h .horizon) (es .items) (ss .items) c Γ₄ d
         → (m n : ℕ) → readOptional sheet Reactions Γ₄ d m ≡ Go Γ₅ i n → Layout sheet
-    from-rules h es ss rs m n u = from-reactions h es ss rs (reactions-read Γ₄ d m (ss .high) (rs .held) Γ₅ i n u)
+    from-rules h es ss rs m n u = from-reactions h es ss rs (reactions-read sheet Γ₄ d m (ss .high) (rs .held) Γ₅ i n u)
 
     from-signals : (h : HorizonRead Γ₁ a) (es : EventsRead (h .horizon) a Γ₂ b)
         → SignalsRead (h .horizon) (es .items) b Γ₃ c

@@ -11,7 +11,7 @@ use Rattle.page.specs.Joined.{joinFrom}
 use Rattle.network.specs.Build.{nameOf}
 use Rattle.network.specs.Strategy.{time}
 use Rattle.network.specs.declared.Network.{Network}
-use Rattle.listing.specs.Listing.{fieldsOf, scenarioText, header, scenarioLine, listing}
+use Rattle.listing.specs.Listing.{fieldsOf, scenarioText, header, listing}
 
 join-same : (f g : ℕ → List ℕ) (i n : ℕ) → ((k : ℕ) → k < i + n → f k ≡ g k) → joinFrom i n f ≡ joinFrom i n g
 join-same f g i zero e = refl

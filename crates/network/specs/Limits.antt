@@ -1,5 +1,5 @@
--- The limits of a sheet (01, The sheet; of reactions 02, point 3), and what follows of bounds, cases and cells. The code
--- has the limits as constants of `Network`, whose contract `limits` pins them to these.
+-- The limits of a sheet (01, The sheet; of reactions 02, point 3), and what follows of bounds, cases and cells. The
+-- code has the limits as constants of `Network`, whose contract `limits` pins them to these.
 use Prim.Native.Nat.{ℕ, _*_, _^_}
 
 -- "H from 0 to 10,080", and the size of a rule's limit

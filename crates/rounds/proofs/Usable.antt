@@ -12,9 +12,9 @@ use Rattle.network.specs.Build.{scenarios}
 use Rattle.network.specs.Strategy.{knownFrom}
 use Rattle.rows.specs.declared.Frame.{Frame}
 use Rattle.rows.specs.Known.{firstOf}
-use Rattle.rows.specs.Framed.{Prompt}
+use Rattle.rows.specs.Framed.{WithinHour}
 use Rattle.rows.specs.Rows.{Few, Row, Times, rowOf}
-use Rattle.rows.proofs.FirstKnown.{prompt}
+use Rattle.rows.proofs.FirstKnown.{within-hour}
 use Rattle.rows.proofs.Gapless.{sixteen, row-at}
 use Rattle.bounds.specs.Listed.{Lists, NoLonger}
 use Rattle.bounds.proofs.Listed.{lists-wider}
@@ -30,8 +30,8 @@ module _ {frame : Frame} {counts lists : List ℕ} (U : Usable frame counts list
   pub signals-in : frame .signals ≤ 4
   signals-in = omega (arith, U .compiled .framed .signals, U .compiled .formed .signals)
 
-  pub prompt-in : Prompt frame
-  prompt-in = prompt (U .compiled .formed) (U .compiled .framed)
+  pub hour-in : WithinHour frame
+  hour-in = within-hour (U .compiled .formed) (U .compiled .framed)
 
   pub scenarios-in : frame .scenarios ≤ 16
   scenarios-in = rw powers (sixteen (frame .signals) signals-in)

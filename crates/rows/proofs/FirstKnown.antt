@@ -18,7 +18,7 @@ use Rattle.network.specs.Strategy.{knownFrom}
 use Rattle.network.specs.WellFormed.{WellFormed}
 use Rattle.network.specs.declared.Network.{Network}
 use Rattle.rows.specs.declared.Frame.{Frame}
-use Rattle.rows.specs.Framed.{Prompt, Framed}
+use Rattle.rows.specs.Framed.{WithinHour, Framed}
 use Rattle.rows.specs.Rows.{RowIn}
 use Rattle.rows.specs.Known.{firstOf, FirstKnown, Doubled}
 
@@ -124,8 +124,9 @@ known-in-row Γ σ s {frame} {row} W F R p l =
     let inside : u < Γ .events = W .observed p (omega (arith, F .signals)) in
     let seen : getD (frame .observations) p 0 ≡ u = ap (λ (xs : List ℕ). getD xs p 0) (F .observations) in
     let place : getD (frame .observations) p 0 % 16 ≡ u = omega (arith, W .events) in
-    ap₂ _+_ (ap (λ (v : ℕ). getD row v 0) place ∙ R .at u inside) (F .reactions p (omega (arith, F .signals, W .signals)))
+    ap₂ _+_ (ap (λ (v : ℕ). getD row v 0) place ∙ R .at u inside)
+    (F .reactions p (omega (arith, F .signals, W .signals)))
 
 -- a frame's reactions are within their limit
-pub prompt : {Γ : Network} {frame : Frame} → WellFormed Γ → Framed Γ frame → Prompt frame
-prompt W F p l = omega (arith, F .reactions p l, W .reacts p)
+pub within-hour : {Γ : Network} {frame : Frame} → WellFormed Γ → Framed Γ frame → WithinHour frame
+within-hour W F p l = omega (arith, F .reactions p l, W .reacts p)

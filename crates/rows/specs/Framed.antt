@@ -8,9 +8,9 @@ use Rattle.network.specs.Strategy.{reaction}
 use Rattle.network.specs.declared.Network.{Network}
 use Rattle.rows.specs.declared.Frame.{Frame}
 
--- each reaction is within its limit, so that a known time fits where a time does
-abbrev pub Prompt : Frame → Type 0
-Prompt frame = (p : ℕ) → p < L.signals → getD (frame .reactions) p 0 ≤ L.slowest
+-- each reaction is at most an hour, so that a known time fits where a time does
+abbrev pub WithinHour : Frame → Type 0
+WithinHour frame = (p : ℕ) → p < L.signals → getD (frame .reactions) p 0 ≤ L.slowest
 
 pub record Framed (Γ : Network) (frame : Frame) : Type 0 where
   pub horizon : frame .horizon ≡ Γ .horizon

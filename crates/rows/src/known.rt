@@ -7,7 +7,7 @@ ghost use Rattle.network.specs.Limits as L;
 ghost use Rattle.network.specs.Strategy.{knownFrom};
 ghost use Rattle.network.specs.WellFormed.{WellFormed};
 ghost use Rattle.network.specs.declared.Network.{Network};
-ghost use Rattle.rows.specs.Framed.{Prompt, Framed};
+ghost use Rattle.rows.specs.Framed.{WithinHour, Framed};
 ghost use Rattle.rows.specs.Rows.{Few, RowIn};
 ghost use Rattle.rows.specs.Known.{Doubled, FirstKnown};
 use crate::Frame;
@@ -29,7 +29,7 @@ fn double(first: &mut [u16; Network::CASES], p: usize, v: u16)
 // From when on proposition p is known in a scenario whose times are row. Behind the last signal the observation is any
 // number, and the remainder keeps the index in the row.
 fn known_from(row: &[u16; Network::EVENTS], frame: Frame, p: usize) -> u16
-    requires { ⌜ (p < L.signals) × Few L.horizon (now row) × Prompt frame ⌝ }
+    requires { ⌜ (p < L.signals) × Few L.horizon (now row) × WithinHour frame ⌝ }
     ensures { λ r. ⌜ r ≡ getD (now (row .entry)) (getD (frame .observations) p 0 % L.events) 0
         + getD (frame .reactions) p 0 ⌝ }
 {
@@ -41,7 +41,7 @@ fn known_from(row: &[u16; Network::EVENTS], frame: Frame, p: usize) -> u16
 // for cost less than a loop over the signals.
 pub fn first_known(row: &[u16; Network::EVENTS], frame: Frame, first: &mut [u16; Network::CASES])
     requires { ⌜ (frame .signals ≤ L.signals) × Few L.horizon (now row) × (length (now first) ≡ L.cases)
-        × Prompt frame ⌝ }
+        × WithinHour frame ⌝ }
     ensures { λ _. ⌜ ((Γ : Network) (σ : List ℕ) (s : ℕ) → WellFormed Γ → Framed Γ frame
         → RowIn Γ σ s (now (row .entry)) → FirstKnown (frame .signals) (knownFrom Γ σ s) (now (first .exit))) ⌝ }
 {

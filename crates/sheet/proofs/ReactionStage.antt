@@ -1,6 +1,5 @@
 -- A reaction's line that passes keeps the stage of the sheet: it is said of a signal, and within its limit. Assumes
 -- nothing.
-use mathlib.Core.Path.{_≡_}
 use mathlib.Core.Logic.{inl, inr}
 use mathlib.Core.Option.{Option·getD}
 use mathlib.Core.List.{List}
@@ -30,20 +29,23 @@ cells sheet at = fields (lineAt sheet at)
 
 module _ (sheet : List ℕ) (Γ : Network) (at k : ℕ) where
   -- the signal that a line names which passes
-  pub reacting-signal : Passes sheet at k (reactionTests Γ) → Option·getD (signalOf Γ (field 0 (cells sheet at))) 0 < Γ .signals
+  pub reacting-signal : Passes sheet at k (reactionTests Γ)
+      → Option·getD (signalOf Γ (field 0 (cells sheet at))) 0 < Γ .signals
   unfolding letterTests reactionTests
   reacting-signal p =
-      finds-answer (λ q. eqb (getD (Γ .letters) q 0) (getD (field 0 (cells sheet at)) 0 0)) (Γ .signals) 0
-      (all-hold (reactionTests Γ (cells sheet at)) (p .accepted) 5) .index-lt
+      let fs = cells sheet at in
+      finds-answer (λ q. eqb (getD (Γ .letters) q 0) (getD (field 0 fs) 0 0)) (Γ .signals) 0
+      (all-hold (reactionTests Γ fs) (p .accepted) 5) .index-lt
 
   pub stage-reaction : (m : ℕ) → Stage sheet (toCome Reactions (suc m)) Γ at k → Passes sheet at k (reactionTests Γ)
       → Stage sheet (toCome Reactions m) (withLine sheet Reactions Γ at (cells sheet at)) (afterLine sheet at) (suc k)
   unfolding letterTests reactionTests
   stage-reaction m g p =
       let w = g .forming in
-      let q = Option·getD (signalOf Γ (field 0 (cells sheet at))) 0 in
-      let minutes = sectionCount (cells sheet at) in
-      let most = within L.fastest L.slowest (field 1 (cells sheet at)) (all-hold (reactionTests Γ (cells sheet at)) (p .accepted) 2) .most in
+      let fs = cells sheet at in
+      let q = Option·getD (signalOf Γ (field 0 fs)) 0 in
+      let minutes = sectionCount fs in
+      let most = within L.fastest L.slowest (field 1 fs) (all-hold (reactionTests Γ fs) (p .accepted) 2) .most in
       let signal = reacting-signal p in
       record {
         forming = record {

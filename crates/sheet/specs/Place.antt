@@ -1,5 +1,5 @@
--- What is expected on each line of a sheet, and the tests of that place (01, The sheet and Refused sheets and calls; 02,
--- point 3).
+-- What is expected on each line of a sheet, and the tests of that place (01, The sheet and Refused sheets and calls;
+-- 02, point 3).
 use mathlib.Core.Bool.{Bool, true, false}
 use mathlib.Core.List.{List}
 use Prim.Native.Nat.{ℕ, zero, suc}
@@ -22,7 +22,8 @@ pub data Expected : Type 0 where
   NoMore : Expected
 
 -- "Sections stand in this order, each after its count" (01, The sheet). What is expected behind a section is told
--- whether bytes follow: the reactions may be absent, and "Any byte after the last rule begins this section" (02, point 3)
+-- whether bytes follow: the reactions may be absent, and "Any byte after the last rule begins this section" (02,
+-- point 3)
 abbrev pub behind : Section → Bool → Expected
 behind Events more = Heading Signals
 behind Signals more = Heading Rules

@@ -4,13 +4,12 @@
 use mathlib.Core.Path.{_≡_, refl, sym, _∙_, ap}
 use Prim.Native.Nat.{ℕ, _-_, _≤_}
 use native.Mathlib.Omega.{arith}
-use lib.ListN.{length}
 use denote.Ref.{now}
 use borrow.Author.Needs.{needs}
 use Rattle.page.proofs.Append.{append-nothing, append-as}
 use Rattle.page.proofs.Join.{Joining, join-none, join-next, join-all}
 use Rattle.network.specs.Build.{letter}
-use Rattle.canonical.specs.House.{slowBy, slowAt, slowOf}
+use Rattle.canonical.specs.House.{slowBy, slowAt}
 use Rattle.canonical.specs.Most.{mostReaction}
 use Rattle.canonical.proofs.Slow.{slow-few}
 use Rattle.canonical.proofs.SlowLines.{slowText, none-slow, slow-appended}

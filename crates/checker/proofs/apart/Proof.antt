@@ -85,5 +85,5 @@ returns c =
 pub apart-spec : {M : Type 1} → statement M
 apart-spec =
     tie.close
-    (tie.spec Inv-loop μ-loop loop-holds agree-requires mul-observation element-copy-out-observation
-    mul-given element-copy-out-given known-after-requires (λ c κs. search needs) add-p (λ c. search needs) loop-again returns)
+    (tie.spec Inv-loop μ-loop loop-holds agree-requires mul-observation element-copy-out-observation mul-given
+    element-copy-out-given known-after-requires (λ c κs. search needs) add-p (λ c. search needs) loop-again returns)

@@ -60,8 +60,9 @@ compared : (c : tie.After-time-of Inv-loop2 μ-loop2 Inv-loop μ-loop Inv-unhear
     Compared (a .network) (now (a .table)) (outer at-other .before .unheard .s) (at-other .before .loop .r)
     (at-event .before .loop2 .u) (at-event .before .before .apart .result) (c .time-of .result)
 compared c =
+    let Γ = start (outer (inner (c .before))) .args .network in
     record {
-      told-is = c .before .before .before .apart .ensures (start (outer (inner (c .before))) .args .network) refl refl refl;
+      told-is = c .before .before .before .apart .ensures Γ refl refl refl;
       mine-is = c .time-of .ensures;
       small = omega arith;
     }

@@ -76,5 +76,5 @@ pub has-heard-spec : {M : Type 1} → statement M
 has-heard-spec =
     tie.close
     (tie.spec Inv-loop μ-loop loop-holds (λ c. search needs) (λ c. search needs) (λ c. search needs)
-    (λ c. search needs) (λ c. search needs) known-after-requires (λ c. search needs) (λ c κs. search needs) as-said-requires returns (λ c. search needs)
-    (λ c. search needs) loop-again returns-2)
+    (λ c. search needs) (λ c. search needs) known-after-requires (λ c. search needs) (λ c κs. search needs)
+    as-said-requires returns (λ c. search needs) (λ c. search needs) loop-again returns-2)

@@ -19,7 +19,7 @@ use Rattle.rounds.specs.Rounds.{held, raisedAt}
 use Rattle.rounds.proofs.Raise.{across, ruled, ruled-is, across-start, across-next, rises, raised-row}
 use Rattle.rounds.proofs.Raise.{stored-ext}
 use Rattle.rounds.proofs.Raised.{row-in}
-use Rattle.rounds.proofs.Usable.{powers, signals-in, prompt-in, scenarios-in, lists-in, short-in}
+use Rattle.rounds.proofs.Usable.{powers, signals-in, hour-in, scenarios-in, lists-in, short-in}
 use Rattle.rounds.proofs.Usable.{other-in, row-few, raising-few}
 use Rattle.rounds.proofs.raise_row.Statement.{statement}
 use Rattle.rounds.proofs.raise_row.Tie as tie
@@ -93,7 +93,7 @@ read-row-requires c κs = (s-in (c .before), refl)
 first-known-requires : tie.Need-first-known-requires Inv-loop μ-loop
 first-known-requires c κs =
     let U = c .before .before .before .before .pre .1 in
-    (signals-in U, read-few (c .before .before), refl, prompt-in U)
+    (signals-in U, read-few (c .before .before), refl, hour-in U)
 
 lift-requires : tie.Need-lift-requires Inv-loop μ-loop
 lift-requires c κs = (read-few (c .before .before .before .before .before), refl)

@@ -1,6 +1,6 @@
 -- The three tests are `letterTests`', in its order. Assumes nothing.
 use borrow.Author.Needs.{needs}
-use mathlib.Core.Path.{_≡_, refl, sym, _∙_, ap}
+use mathlib.Core.Path.{_≡_, sym, _∙_, ap}
 use mathlib.Core.Bool.{not}
 use mathlib.Core.Option.{Option, Option·getD}
 use mathlib.Core.List.{[]}

@@ -1,7 +1,5 @@
 -- A signal that was found has its place among the four; 0 stands there where no line was. Assumes nothing.
 use borrow.Author.Needs.{needs}
-use mathlib.Core.Path.{_∙_, ap}
-use mathlib.Core.Bool.{not}
 use native.Mathlib.Omega.{arith}
 use lib.ListN.{getD}
 use Rattle.line.proofs.ReactionRefusals.{unsaid-is}

@@ -52,8 +52,8 @@ three c =
     first-next _ 4 (omega arith) (two l) refl (c .before .known-from3 .ensures) (c .double3 .ensures)
 
 -- what a doubling asks
-fit : (z : tie.Start) (k : ℕ) {v : ℕ} {first : List ℕ} → k < 4 → 2 ^ k ≤ 8 → FirstKnown k (known z) first → v ≡ known z k
-    → (2 ^ k ≤ 8) × (length first ≡ 16) × (v ≤ 32767) × ((d : ℕ) → d < 2 ^ k → getD first d 0 ≤ 32767)
+fit : (z : tie.Start) (k : ℕ) {v : ℕ} {first : List ℕ} → k < 4 → 2 ^ k ≤ 8 → FirstKnown k (known z) first
+    → v ≡ known z k → (2 ^ k ≤ 8) × (length first ≡ 16) × (v ≤ 32767) × ((d : ℕ) → d < 2 ^ k → getD first d 0 ≤ 32767)
 fit z k m l F e =
     let low = z .pre .1 (getD (z .args .frame .observations) k 0 % 16) (omega arith) in
     (l, F .sized, omega (arith, low, z .pre .3 k m), first-few _ F)

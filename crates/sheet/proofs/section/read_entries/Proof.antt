@@ -108,7 +108,8 @@ element-write-w-5 c = let room = rw (c .before .entry3 .given .1) at (turn (c .b
     in omega arith
 
 -- the sheet is short, so that places and lines are small
-short : (d : tie.After-known-told2 Inv-loop μ-loop) → length (in-turn d .before .before .before .args .sheet .now) ≤ 4096
+short : (d : tie.After-known-told2 Inv-loop μ-loop)
+    → length (in-turn d .before .before .before .args .sheet .now) ≤ 4096
 short d = in-turn d .before .before .before .pre .0
 
 add-place : tie.Need-add-place Inv-loop μ-loop

@@ -1,11 +1,8 @@
 -- A refusal stays; where bytes follow the section is read, and otherwise it is absent. Assumes nothing.
 use borrow.Author.Needs.{needs}
-use mathlib.Core.Path.{_≡_, sym, _∙_, ap}
+use mathlib.Core.Path.{sym, _∙_}
 use borrow.Author.Tests.{lt-ltb, le-ltb}
 use lib.ListN.{length}
-use Rattle.sheet.specs.Reading.{andThen, readOptional}
-use Rattle.sheet.specs.Reached.{stepOf, progressOf}
-use Rattle.sheet.specs.declared.Step.{Step}
 use Rattle.sheet.proofs.section.read_optional.Statement.{statement}
 use Rattle.sheet.proofs.section.read_optional.Tie as tie
 

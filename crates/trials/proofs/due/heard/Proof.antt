@@ -1,5 +1,5 @@
--- `heard` ends and is safe: i stays at most the number of signals, so signals - 1 - i is one of them. The measure is what
--- is left of the signals. Assumes nothing.
+-- `heard` ends and is safe: i stays at most the number of signals, so signals - 1 - i is one of them. The measure is
+-- what is left of the signals. Assumes nothing.
 use Prim.Native.Nat.{_-_, _≤_}
 use native.Mathlib.Omega.{arith}
 use borrow.Author.Needs.{needs}
