@@ -139,7 +139,7 @@ for sheet in "${ordinary[@]}"; do
     seen=$((seen + 1))
     [ $((seen % 50)) != 0 ] || echo "leap.sh: $seen of ${#ordinary[@]} ordinary sheets" >&2
 done
-echo "Ordinary sheets: the five of bench/sheets and 210 generated"
+echo "Ordinary sheets: five of bench/sheets and 210 generated"
 printf '%-20s %9s %9s %7s %13s %13s %14s\n' '' rounds turns '' plain leaping leaping/plain
 printf '%-20s %9d %9d %7s %13d %13d %14s\n' "all ${#ordinary[@]}" $all_rounds $all_turns '' $all_plain $all_leaping \
     "$(ratio $all_leaping $all_plain)"

@@ -30,8 +30,8 @@
  *
  * A table is good if, first, no minute is over the horizon and the start is at 0 in each case; second, each rule holds in each
  * case of its label; and third, each event has the same minute in any two cases s and r, unless the minute in s of a signal
- * that tells them apart, plus the signal's reaction, is at most the event's: what is given at minute 5 may change what happens
- * from minute 6 on, and with a reaction of 8 from minute 13 on.
+ * that tells them apart, plus the signal's reaction, is at most the event's minute in s: what is given at minute 5 may change
+ * what happens from minute 6 on, and with a reaction of 8 from minute 13 on.
  *
  * Signals heard are handed in as text: their letters, each with `!` before it if the signal said false (`p!q`), in any order;
  * nothing, or `-`, for none; no line feed and no NUL.
@@ -73,7 +73,7 @@
  *      5  a well-formed number beyond its range, however many digits it has
  *      6  an ill-formed name, letter or label; an empty line where a name is due
  *      7  a name or letter defined a second time, an event that already gives a signal, or a letter that already has a
- *         reaction
+ *         line among the reactions
  *      8  an event or letter that is not defined
  *      9  a label with one letter twice, with either sign
  *     10  bytes behind the last line of the reactions, a lone line feed or a NUL too: the line that they begin; bytes
@@ -159,7 +159,8 @@ uint64_t opening_solve(const uint8_t *sheet, size_t sheet_len, uint8_t *table, s
  *     OPENING_LATE     in case opening_first, event opening_second is over the horizon, or is the start and not at 0
  *     OPENING_RULE     in case opening_first, rule opening_second of the sheet (the first is 0) is broken
  *     OPENING_UNHEARD  in case opening_first, event opening_third has another minute than in case opening_second, although no
- *                      signal that tells the two cases apart has come in case opening_first, its reaction ago or earlier
+ *                      signal that tells the two cases apart has in case opening_first come at least its reaction before
+ *                      that event's minute there
  *
  * All cells are tried for Late first, by case and then event; then all rules, by case and then rule; then the pairs of cases,
  * by the first, the second and then the event. Numbers that a word does not use are 0. */

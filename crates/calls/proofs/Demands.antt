@@ -29,7 +29,7 @@ demands = record {
   lowest = fault-lowest;
   judged = λ sheet σ Γ r l. judged Γ σ l;
   breach-first = λ sheet σ Γ b r. breach-iff Γ σ b;
-  agree = λ sheet σ Γ r. hyperarcs-agree Γ σ (reads-well-formed r);
+  agree = λ sheet σ Γ r. hyperarcs-agree Γ σ (reads-well-formed r .observed);
   least = λ sheet Γ r e. solve-least Γ (reads-well-formed r) e;
   none = λ sheet Γ r. (
     λ n. solve-none Γ (reads-well-formed r) n,

@@ -2,6 +2,7 @@
 -- tables are document 01's. And a signal has the reaction 1 unless a line says otherwise. Assumes nothing.
 use mathlib.Core.Path.{_≡_, sym, _∙_}
 use mathlib.Core.Logic.{_↔_, inl, inr}
+use mathlib.Core.Bool.{true}
 use mathlib.Core.List.{List}
 use Prim.Native.Nat.{ℕ, _<_}
 use native.Mathlib.Omega.{arith}
@@ -10,12 +11,12 @@ use Rattle.prelude.specs.Lists.{In}
 use Rattle.prelude.proofs.Mapped.{getD-map}
 use Rattle.prelude.proofs.Tests.{lt-or-ge}
 use Rattle.network.specs.Limits as L
-use Rattle.network.specs.Build.{letter, observation, reactionGiven}
-use Rattle.network.specs.Strategy.{time}
+use Rattle.network.specs.Build.{letter, observation, reactionStated}
+use Rattle.network.specs.Strategy.{time, known}
 use Rattle.network.specs.Solution.{Indistinct, Solution}
 use Rattle.network.specs.declared.Network.{Network}
-use Rattle.network.proofs.Strategy.{reactionOf-least, from-unknown, is-unknown}
-use Rattle.layout.specs.Layout.{Contents, noReaction, reactionLetters, listedReactions}
+use Rattle.network.proofs.Strategy.{reactionOf-least, from-known, from-unknown, is-known, is-unknown}
+use Rattle.layout.specs.Contents.{Contents, noReaction, reactionLetters, listedReactions}
 use Rattle.layout.specs.Contains.{Contains}
 use Rattle.calls.specs.Former.{NoneBefore, Former}
 use Rattle.calls.specs.Reacting.{AllOne, Prompt}
@@ -23,15 +24,15 @@ use Rattle.calls.specs.Reacting.{AllOne, Prompt}
 -- lines that give 1 leave each signal its reaction of 1
 pub prompt-by-ones : {sheet : List ℕ} {Γ : Network} {c : Contents} → Contains sheet Γ c → AllOne c → Prompt Γ
 prompt-by-ones {sheet} {Γ} {c} h ones p l =
-    elim (lt-or-ge L.fastest (reactionGiven Γ p)) [
-      | inr few ↦ reactionOf-least (reactionGiven Γ p) few
+    elim (lt-or-ge L.fastest (reactionStated Γ p)) [
+      | inr few ↦ reactionOf-least (reactionStated Γ p) few
       | inl slow ↦ absurd (omega (arith, h .unsaid p inside (λ i. omega (arith, said i))))
     ]
   where
     inside : p < length (c .signals)
     inside = omega (arith, h .signals)
 
-    said : In (letter Γ p) (reactionLetters (listedReactions c)) 0 → reactionGiven Γ p ≡ L.fastest
+    said : In (letter Γ p) (reactionLetters (listedReactions c)) 0 → reactionStated Γ p ≡ L.fastest
     said i =
         let ys = listedReactions c in
         let at : i .place < length ys = omega (arith, i .place-lt, length-map ys (λ y. y .letter)) in
@@ -50,6 +51,13 @@ module _ (Γ : Network) (σ : List ℕ) (prompt : Prompt Γ) where
 
   none-before : (s r m : ℕ) → Indistinct Γ σ s r m → NoneBefore Γ σ s r m
   none-before s r m i p l e b = omega (arith, from-unknown Γ σ s p m (i .unknown p l e), prompt p l)
+
+  pub heard-before : (s p m : ℕ) → p < Γ .signals
+      → (known Γ σ s p m ≡ true) ↔ (time (Γ .events) σ s (observation Γ p) < m)
+  heard-before s p m l = (
+    λ e. omega (arith, from-known Γ σ s p m e, prompt p l),
+    λ h. is-known Γ σ s p m (omega (arith, prompt p l)),
+  )
 
   pub former-iff : Solution Γ σ ↔ Former Γ σ
   former-iff = (

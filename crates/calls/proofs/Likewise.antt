@@ -11,7 +11,7 @@ use Rattle.network.specs.Build.{letter, observation, constraint}
 use Rattle.network.specs.Strategy.{reaction}
 use Rattle.network.specs.declared.Constraint.{Constraint}
 use Rattle.network.specs.declared.Network.{Network}
-use Rattle.layout.specs.Layout.{Signal, Contents, noSignal, noRule}
+use Rattle.layout.specs.Contents.{Signal, Contents, noSignal, noRule}
 use Rattle.layout.specs.Contains.{Bears, Means, Contains}
 use Rattle.tighten.specs.Upper.{uppers, uppersBelow}
 use Rattle.tighten.specs.Tightest.{remaining, remainingOf}

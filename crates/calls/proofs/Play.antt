@@ -7,7 +7,7 @@ use native.Mathlib.Omega.{arith}
 use lib.ListN.{length, length-map}
 use Rattle.sheet.specs.Reading.{read}
 use Rattle.sheet.specs.declared.Outcome.the-variants.{Accepted}
-use Rattle.layout.specs.Layout.{signalLetters}
+use Rattle.layout.specs.Contents.{signalLetters}
 use Rattle.layout.proofs.Finds.{letter-is}
 use Rattle.layout.proofs.Accepted.{accepted-iff, network-contains}
 use Rattle.dispatch.specs.Heard.{Lettered}

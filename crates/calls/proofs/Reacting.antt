@@ -13,27 +13,36 @@ use Rattle.layout.proofs.Accepted.{accepted-iff, network-contains}
 use Rattle.calls.specs.Reacting.{AllOne, Besides, SameAnswers, Reacting}
 use Rattle.calls.proofs.Call.{reads-well-formed}
 use Rattle.calls.proofs.Likewise.{likewise, same}
-use Rattle.calls.proofs.Former.{prompt-by-ones, former-iff}
+use Rattle.calls.proofs.Former.{prompt-by-ones, heard-before, former-iff}
 use Rattle.calls.proofs.SameAnswers.{same-answers}
+
+-- sheets whose reactions are the same
+alike : (sheet other : List ℕ) (l : Layout sheet) (k : Layout other) → Besides (l .contents) (k .contents)
+    → ((p : ℕ) → p < read sheet .network .signals → reaction (read sheet .network) p ≡ reaction (read other .network) p)
+    → SameAnswers sheet other
+alike sheet other l k b reacts =
+    let h = network-contains sheet l in
+    let g = network-contains other k in
+    same-answers sheet other (accepted-iff sheet .1 l) (accepted-iff other .1 k)
+    (likewise h g b (l .keeps .names-once) reacts) (same h g b (l .keeps .names-once) reacts)
 
 unchanged : (sheet other : List ℕ) (l : Layout sheet) (k : Layout other) → Besides (l .contents) (k .contents)
     → AllOne (l .contents) → AllOne (k .contents) → SameAnswers sheet other
 unchanged sheet other l k b ones also =
     let h = network-contains sheet l in
     let g = network-contains other k in
-    let Γ = read sheet .network in
-    let Δ = read other .network in
-    let count : Γ .signals ≡ Δ .signals = h .signals ∙ ap length (b .signals) ∙ sym (g .signals) in
-    let reacts : (p : ℕ) → p < Γ .signals → reaction Γ p ≡ reaction Δ p =
-    λ p m. prompt-by-ones h ones p m ∙ sym (prompt-by-ones g also p (omega arith)) in
-    same-answers sheet other (accepted-iff sheet .1 l) (accepted-iff other .1 k)
-    (likewise h g b (l .keeps .names-once) reacts) (same h g b (l .keeps .names-once) reacts)
+    let count : read sheet .network .signals ≡ read other .network .signals =
+    h .signals ∙ ap length (b .signals) ∙ sym (g .signals) in
+    alike sheet other l k b (λ p m. prompt-by-ones h ones p m ∙ sym (prompt-by-ones g also p (omega arith)))
 
 pub reacting : Reacting
 reacting = record {
   counts = λ Γ σ s p m. (from-known Γ σ s p m, is-known Γ σ s p m);
-  range = λ sheet Γ p reads. (reaction-some Γ p, reads-well-formed reads .reacts p);
+  range = λ sheet Γ p reads. (reaction-some Γ p, reads-well-formed reads .in-range p);
   prompt = λ sheet Γ reads l ones. prompt-by-ones (rw (reads .network) at (network-contains sheet l)) ones;
+  before = λ Γ prompt σ. heard-before Γ σ prompt;
   former = λ Γ prompt σ. former-iff Γ σ prompt;
+  alike = λ sheet other Γ Δ reads reads′ l k b same.
+      alike sheet other l k b (rw (← reads .network, ← reads′ .network) at same);
   unchanged = unchanged;
 }

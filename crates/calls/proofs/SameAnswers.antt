@@ -37,11 +37,12 @@ use Rattle.canonical.specs.Same.{Same}
 use Rattle.canonical.proofs.Faithful.{faithful}
 use Rattle.canonical.proofs.Likeness.{text-same}
 use Rattle.calls.specs.Lent.{Handed, Lent, asMinutes, asBytes, inPlace}
-use Rattle.calls.specs.Calls.{judgingTests, judging, enough, writing, refusing, rests, solvingTests, solvingInto}
+use Rattle.calls.specs.Calls.{countsOf, summary, judgingTests, judging, enough, writing, refusing, rests, solvingTests, solvingInto}
 use Rattle.calls.specs.Calls.{listingTests, listingOf, fit, houseTests, housed}
 use Rattle.calls.specs.Play.{named, everHeard, eventsOf, isPass, playingTests, playing, eventsDue, eventsDueOn}
 use Rattle.calls.specs.Bench.{benchDue}
 use Rattle.calls.specs.Reacting.{SameAnswers}
+use Rattle.calls.specs.declared.Summary.the-variants as S
 use Rattle.calls.specs.declared.Judgement.the-variants as J
 use Rattle.calls.specs.declared.Due.the-variants as D
 use Rattle.calls.proofs.Call.{calls-alike}
@@ -67,6 +68,12 @@ module _ (sheet other : List ℕ) (a : read sheet .outcome ≡ Accepted) (b : re
   tables-same =
       solutions-by-remaining (accepted-well-formed sheet a .0) (accepted-well-formed other b .0) (w .agrees)
       (s .remaining)
+
+  summaries : summary sheet ≡ summary other
+  summaries =
+      calls-alike S.Refused sheet other (λ _. []) (λ _. []) (λ Γ. S.Accepted (countsOf Γ)) (λ Γ. S.Accepted (countsOf Γ))
+      a b refl (λ _. let w′ = w .agrees in
+      rw (w′ .horizon, w′ .events, w′ .signals, w .rules) refl)
 
   verdicts : (t : Handed) → judging sheet t ≡ judging other t
   verdicts t =
@@ -135,6 +142,7 @@ module _ (sheet other : List ℕ) (a : read sheet .outcome ≡ Accepted) (b : re
   pub same-answers : SameAnswers sheet other
   unfolding eventsDue eventsDueOn benchDue dueText
   same-answers = record {
+    summaries = summaries;
     verdicts = verdicts;
     tables = tables;
     due = λ t m hs. plays (asMinutes t) (λ Γ. due Γ t m hs) (due-same w t m hs);

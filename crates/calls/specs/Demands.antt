@@ -43,7 +43,7 @@ pub record Demands : Type 0 where
   pub counted : (sheet : List ℕ) (Γ : Network) → Reads sheet Γ → summaryValues (summary sheet) ≡ done (countsOf Γ)
   -- demand 2: "A sheet is accepted when it keeps every rule of its layout, otherwise refused"
   pub accepted : (sheet : List ℕ) → (read sheet .outcome ≡ Accepted) ↔ Layout sheet
-  -- its network holds what it contains: ends, limits and labels of the rules as they are written
+  -- its network holds what it contains: ends, limits and labels of the rules as they are written, and the reactions
   pub contains : (sheet : List ℕ) (Γ : Network) → Reads sheet Γ → (l : Layout sheet) → Contains sheet Γ (l .contents)
   -- and it is refused with its first line at fault, on which the first test that fails decides
   pub at-fault : (sheet : List ℕ) (r : Refusal) → (read sheet .outcome ≡ Refused r) ↔ Fault sheet r

@@ -20,6 +20,7 @@ module _ (Γ : Network) (σ : List ℕ) where
   abbrev pub NoneBefore : ℕ → ℕ → ℕ → Type 0
   NoneBefore s r m = (p : ℕ) → p < Γ .signals → agree s r p ≡ false → at s (observation Γ p) < m → ⊥
 
+  -- a good table, point by point
   pub record Former : Type 0 where
     pub sized : length σ ≡ cells Γ
     pub on-time : (s u : ℕ) → s < scenarios Γ → u < Γ .events → OnTime Γ σ s u

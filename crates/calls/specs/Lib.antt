@@ -1,6 +1,6 @@
 -- The values of an answer; what a call is; how tables are handed in and memory is lent; what the public calls answer,
 -- the player's and those of the bench; what the programs print; what each call can answer, by its number and line; the
--- demands; and what holds of playing a table, of the house form and of what is printed.
+-- demands; and what holds of playing a table, of the house form, of reactions and of what is printed.
 pub mod Values
 pub mod Call
 pub mod Lent

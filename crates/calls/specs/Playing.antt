@@ -1,4 +1,4 @@
--- What holds of the call that plays a table (02, point 1), for every sheet, table, minute and list.
+-- What holds of the call that plays a table (02, points 1 and 3), for every sheet, table, minute and list.
 use mathlib.Core.Path.{_≡_}
 use mathlib.Core.Logic.{_↔_}
 use mathlib.Core.Bool.{true}

@@ -11,11 +11,12 @@ use Rattle.network.specs.Build.{observation}
 use Rattle.network.specs.Strategy.{time, reaction, known}
 use Rattle.network.specs.Solution.{Solution}
 use Rattle.network.specs.declared.Network.{Network}
-use Rattle.layout.specs.Layout.{Contents, Layout, noReaction, listedReactions}
+use Rattle.layout.specs.Contents.{Contents, noReaction, listedReactions}
+use Rattle.layout.specs.Layout.{Layout}
 use Rattle.dispatch.specs.declared.Heard.{Heard}
 use Rattle.calls.specs.Answers.{Reads}
 use Rattle.calls.specs.Lent.{Handed, Lent}
-use Rattle.calls.specs.Calls.{judging, solvingInto, listingOf, housed}
+use Rattle.calls.specs.Calls.{summary, judging, solvingInto, listingOf, housed}
 use Rattle.calls.specs.Play.{eventsDue, eventsDueOn}
 use Rattle.calls.specs.Bench.{benchDue}
 use Rattle.calls.specs.Former.{Former}
@@ -35,9 +36,10 @@ pub record Besides (c d : Contents) : Type 0 where
   pub signals : c .signals ≡ d .signals
   pub rules : c .rules ≡ d .rules
 
--- they are answered the same, with tables of minutes and of bytes: the verdict, the table, what is due, the listing and
--- the house form, and what is left in lent memory
+-- they are answered the same, with tables of minutes and of bytes: the counts, the verdict, the table, what is due, the
+-- listing and the house form, and what is left in lent memory
 pub record SameAnswers (sheet other : List ℕ) : Type 0 where
+  pub summaries : summary sheet ≡ summary other
   pub verdicts : (t : Handed) → judging sheet t ≡ judging other t
   pub tables : (m : Lent) → solvingInto sheet m ≡ solvingInto other m
   pub due : (t : List ℕ) (m : ℕ) (hs : List Heard) → eventsDue sheet t m hs ≡ eventsDue other t m hs
@@ -54,8 +56,17 @@ pub record Reacting : Type 0 where
       → (L.fastest ≤ reaction Γ p) × (reaction Γ p ≤ L.slowest)
   -- without the section, and with lines that all give 1, each signal has the reaction 1
   pub prompt : (sheet : List ℕ) (Γ : Network) → Reads sheet Γ → (l : Layout sheet) → AllOne (l .contents) → Prompt Γ
+  -- then a signal counts at a minute exactly where it was given before it, as document 01 has it for the judge, the
+  -- hyperarcs and the player
+  pub before : (Γ : Network) → Prompt Γ → (σ : List ℕ) (s p m : ℕ) → p < Γ .signals
+      → (known Γ σ s p m ≡ true) ↔ (time (Γ .events) σ s (observation Γ p) < m)
   -- and the good tables are document 01's
   pub former : (Γ : Network) → Prompt Γ → (σ : List ℕ) → Solution Γ σ ↔ Former Γ σ
-  -- a sheet with and one without such lines are answered the same
+  -- sheets with the same contents besides reactions, and with the same reactions, are answered the same: a line that
+  -- gives 1 changes nothing, whatever the others give
+  pub alike : (sheet other : List ℕ) (Γ Δ : Network) → Reads sheet Γ → Reads other Δ
+      → (l : Layout sheet) (k : Layout other) → Besides (l .contents) (k .contents)
+      → ((p : ℕ) → p < Γ .signals → reaction Γ p ≡ reaction Δ p) → SameAnswers sheet other
+  -- so are a sheet with lines that all give 1 and one without the section
   pub unchanged : (sheet other : List ℕ) (l : Layout sheet) (k : Layout other) → Besides (l .contents) (k .contents)
       → AllOne (l .contents) → AllOne (k .contents) → SameAnswers sheet other

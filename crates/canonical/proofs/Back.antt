@@ -13,7 +13,7 @@ use Rattle.prelude.proofs.Mapped.{getD-map}
 use Rattle.network.specs.Build.{nameOf, observation, constraint, noConstraint}
 use Rattle.network.specs.declared.Constraint.{Constraint}
 use Rattle.network.specs.declared.Network.{Network}
-use Rattle.layout.specs.Layout.{noSignal, noRule, signalLetters}
+use Rattle.layout.specs.Contents.{noSignal, noRule, signalLetters}
 use Rattle.layout.specs.Contains.{Bears, Means, Contains}
 use Rattle.tighten.specs.Upper.{uppersOf}
 use Rattle.tighten.specs.Tightest.{remainingOf}

@@ -1,4 +1,5 @@
--- Upper bounds as a form writes them: one table, which one theorem covers by computation. Assumes nothing.
+-- Upper bounds and reactions as a form writes them: one table each, which one theorem each covers by computation. Assumes
+-- nothing.
 use mathlib.Core.Path.{_≡_, refl}
 use mathlib.Core.Bool.{Bool, true, _&&_}
 use mathlib.Core.List.{List, [], _∷_, _++_}
@@ -8,14 +9,15 @@ use Prim.Native.String.{String}
 use lib.IntN.{ℤ, pos, negsuc}
 use Rattle.prelude.specs.Bytes.{ascii, same}
 use Rattle.text.specs.Lines.{lineFeed}
-use Rattle.network.specs.Build.{empty, withEvent, withSignal}
+use Rattle.network.specs.Build.{empty, withEvent, withSignal, withReaction}
+use Rattle.network.specs.Strategy.{reactionOf}
 use Rattle.network.specs.declared.Label.{Label}
 use Rattle.network.specs.declared.Network.{Network}
 use Rattle.names.specs.Names.{labelOf}
 use Rattle.names.specs.Defined.{maskOf}
-use Rattle.layout.specs.Layout.{ruleLine}
+use Rattle.layout.specs.Layout.{ruleLine, reactionsText}
 use Rattle.tighten.specs.Upper.{upper}
-use Rattle.canonical.specs.House.{asRule}
+use Rattle.canonical.specs.House.{asRule, slowOf, sectionOf}
 
 -- two events, named by the first bytes of a sheet, and the signals q, p and r in this order
 abbrev sheet : List ℕ
@@ -59,3 +61,19 @@ allAgree (e ∷ es) = agrees e && allAgree es
 
 pub examples-agree : allAgree examples ≡ true
 examples-agree = refl
+
+-- the reactions of q, p and r, 0 where there is no line, and what is written of them: those other than 1, in signal order
+abbrev lines : List String → List ℕ
+lines [] = []
+lines (l ∷ ls) = ascii l ++ lineFeed ∷ lines ls
+
+abbrev written : ℕ → ℕ → ℕ → List String → Bool
+written q p r ls =
+    same (reactionsText (sectionOf (slowOf (withReaction (withReaction (withReaction network 0 q) 1 p) 2 r)))) (lines ls)
+
+pub reactions-agree :
+    written 2 1 3 ("reactions,2" ∷ "q,2" ∷ "r,3" ∷ [])
+    && (written 60 0 0 ("reactions,1" ∷ "q,60" ∷ [])
+    && (written 4 5 6 ("reactions,3" ∷ "q,4" ∷ "p,5" ∷ "r,6" ∷ []) && (written 1 0 1 [] && written 0 0 0 []))) ≡ true
+unfolding reactionOf
+reactions-agree = refl

@@ -17,7 +17,8 @@ use Rattle.names.proofs.Apart.{Apart, mask-apart}
 use Rattle.sheet.specs.Reading.{read}
 use Rattle.sheet.specs.declared.Outcome.the-variants.{Accepted}
 use Rattle.sheet.proofs.WellFormed.{accepted-well-formed}
-use Rattle.layout.specs.Layout.{Signal, Contents, Keeps, noSignal, noRule, signalLetters}
+use Rattle.layout.specs.Contents.{Signal, Contents, noSignal, noRule, signalLetters}
+use Rattle.layout.specs.Keeps.{Keeps}
 use Rattle.layout.specs.Contains.{Contains}
 use Rattle.layout.proofs.Finds.{letter-is, mask-is}
 use Rattle.layout.proofs.KindWords.{defined-passes}

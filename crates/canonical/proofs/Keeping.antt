@@ -18,7 +18,8 @@ use Rattle.network.specs.declared.Kind.the-variants.{Max}
 use Rattle.network.specs.declared.Constraint.{Constraint}
 use Rattle.network.specs.declared.Network.{Network}
 use Rattle.names.proofs.Apart.{Apart}
-use Rattle.layout.specs.Layout.{KeepsRule, Keeps, noRule, signalLetters}
+use Rattle.layout.specs.Contents.{noRule, signalLetters}
+use Rattle.layout.specs.Keeps.{KeepsRule, Keeps}
 use Rattle.tighten.specs.Tightest.{remainingOf}
 use Rattle.tighten.proofs.Regular.{uppers-regular}
 use Rattle.tighten.proofs.Remains.{remaining-each, remaining-regular, remaining-proper}

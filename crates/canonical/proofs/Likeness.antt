@@ -14,7 +14,8 @@ use Rattle.network.specs.declared.Kind.the-variants.{Max}
 use Rattle.network.specs.declared.Label.{Label}
 use Rattle.network.specs.declared.Constraint.{Constraint}
 use Rattle.network.specs.declared.Network.{Network}
-use Rattle.layout.specs.Layout.{Signal, textOf}
+use Rattle.layout.specs.Contents.{Signal}
+use Rattle.layout.specs.Layout.{textOf}
 use Rattle.tighten.specs.Tightest.{remainingOf}
 use Rattle.canonical.specs.House.{literalBy, literalAt, literalsOf, signalAt, asRule, slowBy, slowAt, slowOf}
 use Rattle.canonical.specs.House.{sectionOf, houseOf, houseText}

@@ -20,10 +20,10 @@ use Rattle.network.specs.declared.Kind.{Kind}
 use Rattle.network.specs.declared.Kind.the-variants.{Max, Min, Fix}
 use Rattle.names.specs.Names.{isName, Literal}
 use Rattle.names.proofs.Tokens.{name-short}
-use Rattle.layout.specs.Layout.{Signal, Rule, Reaction, Contents, KeepsSignal, KeepsRule, KeepsReaction, Keeps}
-use Rattle.layout.specs.Layout.{noSignal, noRule, noReaction, signalLetters, signedText, signText, reactionLine}
-use Rattle.layout.specs.Layout.{reactionsText}
-use Rattle.layout.specs.Layout.{literalsText, labelText, kindText, line, section, signalLine, ruleLine, textOf}
+use Rattle.layout.specs.Contents.{Signal, Rule, Reaction, Contents, noSignal, noRule, noReaction, signalLetters}
+use Rattle.layout.specs.Keeps.{KeepsSignal, KeepsRule, KeepsReaction, Keeps}
+use Rattle.layout.specs.Layout.{signedText, signText, reactionLine, reactionsText, literalsText, labelText, kindText}
+use Rattle.layout.specs.Layout.{line, section, signalLine, ruleLine, textOf}
 use Rattle.canonical.specs.Most.{mostCount, mostEvents, mostSignals, mostLabel, mostRule, mostRules}
 use Rattle.canonical.specs.Most.{mostReaction, mostReactions, mostForm}
 use Rattle.canonical.proofs.Lengths.{length-line, length-field, length-count, length-section}

@@ -18,12 +18,13 @@ use Rattle.prelude.proofs.Mapped.{getD-map}
 use Rattle.prelude.proofs.Search.{none-not-some}
 use Rattle.prelude.proofs.Tests.{eq-or-ne}
 use Rattle.network.specs.Limits as L
-use Rattle.network.specs.Build.{letter, reactionGiven}
+use Rattle.network.specs.Build.{letter, reactionStated}
 use Rattle.network.specs.Strategy.{reactionOf, reaction}
 use Rattle.network.specs.WellFormed.{WellFormed}
 use Rattle.network.specs.declared.Network.{Network}
-use Rattle.network.proofs.Strategy.{reactionOf-given, reactionOf-least, reaction-some}
-use Rattle.layout.specs.Layout.{Signal, Reaction, KeepsReaction, noSignal, noReaction, reactionLetters}
+use Rattle.network.proofs.Strategy.{reactionOf-stated, reactionOf-least, reaction-some}
+use Rattle.layout.specs.Contents.{Signal, Reaction, noSignal, noReaction, reactionLetters}
+use Rattle.layout.specs.Keeps.{KeepsReaction}
 use Rattle.layout.specs.Contains.{Contains}
 use Rattle.canonical.specs.House.{signalAt, signalsOf, slowBy, slowAt, slowOf, sectionOf, houseOf}
 use Rattle.canonical.proofs.Keyed.{LettersAre, keys-known, keys-once}
@@ -56,10 +57,10 @@ module _ (Γ : Network) where
   abbrev ys : List Reaction
   ys = slowOf Γ
 
-  abbrev SlowAt : ℕ → Type 0
-  SlowAt i = (p : ℕ) × (p < Γ .signals) × IsSlow (letter Γ p) (reaction Γ p) (getD ys i noReaction)
+  abbrev OfSignal : ℕ → Type 0
+  OfSignal i = (p : ℕ) × (p < Γ .signals) × IsSlow (letter Γ p) (reaction Γ p) (getD ys i noReaction)
 
-  slow-at : (i : ℕ) → i < length ys → SlowAt i
+  slow-at : (i : ℕ) → i < length ys → OfSignal i
   slow-at i h =
       let a = gather-answer (slowAt Γ) noReaction 0 (Γ .signals) i h in
       (a .number, omega (arith, a .below), is-slow (letter Γ (a .number)) (reaction Γ (a .number)) _ (a .is))
@@ -84,7 +85,7 @@ module _ (Γ : Network) where
             signal = rw (getD-map (λ y. y .letter) noReaction 0 ys i h) at
                 (known .each i (omega (arith, length-map ys (λ y. y .letter))));
             least = omega (arith, s .2 .minutes-are, reaction-some Γ (s .0));
-            most = omega (arith, s .2 .minutes-are, f .reacts (s .0));
+            most = omega (arith, s .2 .minutes-are, f .in-range (s .0));
           };
     }
 
@@ -122,11 +123,11 @@ module _ (sheet : List ℕ) {Γ : Network} {k : ℕ} {bs : List ℕ} (w : Letter
       elim (eq-or-ne (reaction Γ p) L.fastest) [
         | inl e ↦
             let none = (rw (listed-slow (slowOf Γ)) at (h .unsaid)) p inside (unlisted e) in
-            reactionOf-least (reactionGiven Δ p) (omega arith) ∙ sym e
+            reactionOf-least (reactionStated Δ p) (omega arith) ∙ sym e
         | inr n ↦
             let i = listed n in
             let given = (rw (listed-slow (slowOf Γ)) at (h .reacts)) p (i .place) inside (i .place-lt)
             (same-letter ∙ ap (λ (y : Reaction). y .letter) (sym (i .is)))
             ∙ ap (λ (y : Reaction). y .minutes) (i .is) in
-            ap reactionOf given ∙ reactionOf-given (reaction Γ p) (reaction-some Γ p)
+            ap reactionOf given ∙ reactionOf-stated (reaction Γ p) (reaction-some Γ p)
       ]

@@ -19,7 +19,8 @@ use Rattle.page.proofs.Append.{append-as, append-then}
 use Rattle.network.specs.Limits as L
 use Rattle.network.specs.Strategy.{reaction}
 use Rattle.network.specs.declared.Network.{Network}
-use Rattle.layout.specs.Layout.{Reaction, line, lines, reactionLine, reactionsText}
+use Rattle.layout.specs.Contents.{Reaction}
+use Rattle.layout.specs.Layout.{line, lines, reactionLine, reactionsText}
 use Rattle.canonical.specs.House.{slowBy, slowAt, slowOf, sectionOf}
 use Rattle.canonical.specs.Most.{mostCount, mostReactions}
 

@@ -18,7 +18,8 @@ use Rattle.network.specs.declared.Label.{Label}
 use Rattle.network.specs.declared.Constraint.{Constraint}
 use Rattle.network.specs.declared.Network.{Network}
 use Rattle.names.specs.Names.{Literal}
-use Rattle.layout.specs.Layout.{Signal, Rule, Reaction, Contents, textOf}
+use Rattle.layout.specs.Contents.{Signal, Rule, Reaction, Contents}
+use Rattle.layout.specs.Layout.{textOf}
 use Rattle.tighten.specs.Tightest.{remainingOf}
 
 -- a letter, with the truth that a label asks of it

@@ -170,8 +170,8 @@ fn apart(
     while p < signals {
         if !agree(s, r, p) {
             let observation = observations[p];
-            let given = reactions[p];
-            let known = times::known_after(table, events, s, observation, given);
+            let stated = reactions[p];
+            let known = times::known_after(table, events, s, observation, stated);
             first = sooner(first, known);
         }
         p += 1;

@@ -1,4 +1,4 @@
--- What is due at a minute, by what has been heard before it (02, point 1).
+-- What is due at a minute, by what has been heard before it (02, point 1; with reactions, point 3).
 use mathlib.Core.Bool.{Bool, true, false, _&&_, Bool·beq, cond}
 use mathlib.Core.Option.{Option, none, some}
 use mathlib.Core.List.{List}

@@ -148,8 +148,8 @@ fn has_heard(network: Network, table: &[u16], minute: u16, said: u64, s: usize) 
     while p < signals {
         let observation = network.observations[p];
         let letter = network.letters[p];
-        let given = network.reactions[p];
-        let known = times::known_after(table, events, s, observation, given) <= minute as u32;
+        let stated = network.reactions[p];
+        let known = times::known_after(table, events, s, observation, stated) <= minute as u32;
         if !as_said(said, letter, known, has(s as u64, p as u32)) {
             return false;
         }

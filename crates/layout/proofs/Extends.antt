@@ -10,11 +10,11 @@ use lib.ListN.{length, getD, take, drop, set, length-append}
 use lib.Seq.{getD-set-same, getD-set-other}
 use Rattle.prelude.proofs.Lists.{by-place}
 use Rattle.network.specs.Limits as L
-use Rattle.network.specs.Build.{empty, withEvent, withSignal, withRule, reactionGiven, noConstraint}
+use Rattle.network.specs.Build.{empty, withEvent, withSignal, withRule, reactionStated, noConstraint}
 use Rattle.network.specs.WellFormed.{Arrays}
 use Rattle.network.specs.declared.Network.{Network}
 use Rattle.network.specs.declared.Constraint.{Constraint}
-use Rattle.layout.specs.Layout.{Signal, Rule, Reaction, Contents, noSignal, noRule}
+use Rattle.layout.specs.Contents.{Signal, Rule, Reaction, Contents, noSignal, noRule}
 use Rattle.layout.specs.Contains.{Bears, Means, Contains}
 
 -- contents by their parts, and with reactions behind them
@@ -26,7 +26,7 @@ contents h ns xs rs = contentsWith h ns xs rs none
 
 -- nothing was said of reactions
 abbrev pub Quiet : Network → Type 0
-Quiet Γ = (p : ℕ) → reactionGiven Γ p ≡ 0
+Quiet Γ = (p : ℕ) → reactionStated Γ p ≡ 0
 
 -- what holds of the first n entries of an array, and of one entry more
 filled : {A B : Type 0} (Q : A → B → Type 0) (l : List A) (d a : A) (xs : List B) (x e : B) (n : ℕ) → n ≡ length xs

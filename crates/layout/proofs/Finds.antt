@@ -19,7 +19,7 @@ use Rattle.names.specs.Names.{Literal}
 use Rattle.names.specs.Defined.{placeOf, givesSignal, weight, weights, maskOf}
 use Rattle.line.specs.Tests.{eventOf}
 use Rattle.prelude.specs.Lists.{In, Distinct}
-use Rattle.layout.specs.Layout.{Signal, Contents, noSignal, signalLetters, signalEvents}
+use Rattle.layout.specs.Contents.{Signal, Contents, noSignal, signalLetters, signalEvents}
 use Rattle.layout.specs.Contains.{Bears, Contains}
 use Rattle.layout.proofs.Search.{found, finds}
 

@@ -10,8 +10,9 @@ use Rattle.prelude.specs.Bytes.{every}
 use Rattle.prelude.specs.Lists.{In, Distinct, Each}
 use Rattle.prelude.proofs.Lists.{each-at, each-snoc, each-mono, every-of-each, distinct-new, distinct-snoc}
 use Rattle.names.specs.Names.{isLetter, isName}
-use Rattle.layout.specs.Layout.{Signal, Rule, Reaction, KeepsSignal, KeepsRule, KeepsReaction}
-use Rattle.layout.specs.Layout.{noSignal, noRule, noReaction, signalLetters, signalEvents, reactionLetters}
+use Rattle.layout.specs.Contents.{Signal, Rule, Reaction, noSignal, noRule, noReaction, signalLetters}
+use Rattle.layout.specs.Contents.{signalEvents, reactionLetters}
+use Rattle.layout.specs.Keeps.{KeepsSignal, KeepsRule, KeepsReaction}
 
 pub record KeptNames (ns : List (List ℕ)) : Type 0 where
   pub each : Each (λ n. isName n ≡ true) ns []

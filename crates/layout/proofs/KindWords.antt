@@ -16,7 +16,8 @@ use Rattle.names.specs.Defined.{placeOf, allDefined}
 use Rattle.names.proofs.Labels.{allDefined-every}
 use Rattle.line.specs.Tests.{kindOf}
 use Rattle.prelude.specs.Lists.{In, Each}
-use Rattle.layout.specs.Layout.{Contents, signalLetters, kindText}
+use Rattle.layout.specs.Contents.{Contents, signalLetters}
+use Rattle.layout.specs.Layout.{kindText}
 use Rattle.layout.specs.Contains.{Contains}
 use Rattle.layout.proofs.Lines.{plain}
 use Rattle.prelude.proofs.Lists.{each-mono, each-of-every, every-of-each}

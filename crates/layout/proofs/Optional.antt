@@ -13,7 +13,8 @@ use Rattle.network.specs.declared.Network.{Network}
 use Rattle.line.specs.declared.Section.{Section}
 use Rattle.line.specs.declared.Section.the-variants.{Reactions}
 use Rattle.sheet.specs.Reading.{Go, readSection, follows, readOptional}
-use Rattle.layout.specs.Layout.{Signal, Rule, Reaction, reactionsText}
+use Rattle.layout.specs.Contents.{Signal, Rule, Reaction}
+use Rattle.layout.specs.Layout.{reactionsText}
 use Rattle.layout.proofs.Kept.{KeptReactions}
 use Rattle.layout.proofs.Extends.{contents, contentsWith}
 use Rattle.layout.proofs.Stands.{Stands, reactions-begin}

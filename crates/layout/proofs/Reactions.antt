@@ -20,12 +20,12 @@ use Rattle.text.specs.Lines.{field}
 use Rattle.text.specs.Number.{magnitude}
 use Rattle.text.specs.Decimal.{decimal}
 use Rattle.network.specs.Limits as L
-use Rattle.network.specs.Build.{reactionGiven}
+use Rattle.network.specs.Build.{reactionStated}
 use Rattle.network.specs.declared.Network.{Network}
-use Rattle.line.specs.Tests.{signalOf, hasReaction, letterTests, reactionTests}
+use Rattle.line.specs.Tests.{signalOf, hasLine, letterTests, reactionTests}
 use Rattle.line.specs.Sections.{withLine}
 use Rattle.line.specs.declared.Section.the-variants.{Reactions}
-use Rattle.layout.specs.Layout.{Signal, Rule, Reaction, noReaction, reactionLetters}
+use Rattle.layout.specs.Contents.{Signal, Rule, Reaction, noReaction, reactionLetters}
 use Rattle.layout.proofs.Lines.{plain}
 use Rattle.layout.proofs.Plain.{plain-letter, one-letter}
 use Rattle.layout.proofs.Numbers.{isNumber-decimal, magnitude-decimal, inRange-decimal, plain-decimal}
@@ -40,14 +40,14 @@ module _ (sheet : List ℕ) (h : ℕ) (names : List (List ℕ)) (xs : List Signa
     (few : length xs ≤ L.signals) where
   module _ {Γ : Network} {ys : List Reaction} (c : Stands sheet Γ (contentsWith h names xs rs (some ys))) where
     -- a signal of which nothing was said has a letter without a line
-    unlisted : (b p : ℕ) → signalOf Γ (b ∷ []) ≡ some p → ltb 0 (reactionGiven Γ p) ≡ false
+    unlisted : (b p : ℕ) → signalOf Γ (b ∷ []) ≡ some p → ltb 0 (reactionStated Γ p) ≡ false
         → In b (reactionLetters ys) 0 → ⊥
     unlisted b p e n w =
         let l : w .place < length ys = omega (arith, w .place-lt, length-map ys (λ y. y .letter)) in
         let q = letter-place (c .holds) b p e in
         let its = sym (List·getD-map (λ y. y .letter) ys (w .place) noReaction) ∙ w .is in
         let given = c .holds .reacts p (w .place) (q .0) l (q .1 ∙ sym its) in
-        omega (arith, given, c .reactions .each .each (w .place) l .least, ltb-false 0 (reactionGiven Γ p) n)
+        omega (arith, given, c .reactions .each .each (w .place) l .least, ltb-false 0 (reactionStated Γ p) n)
 
     reaction-read : (fs : List (List ℕ)) → firstFailing (reactionTests Γ fs) ≡ none
         → (y : Reaction) × (fs ≡ (y .letter ∷ []) ∷ decimal (y .minutes) ∷ []) × NewReaction xs ys y
@@ -59,8 +59,8 @@ module _ (sheet : List ℕ) (h : ℕ) (names : List (List ℕ)) (xs : List Signa
         let d = decimal-magnitude L.fastest L.slowest f (t .1 .0) (t .1 .1 .0) in
         let o = one-letter (field 0 fs) (t .1 .1 .1 .0) in
         let s = answered (signalOf Γ (field 0 fs)) (t .1 .1 .1 .1 .1 .0) in
-        let unsaid : hasReaction Γ (signalOf Γ (field 0 fs)) ≡ false =
-        not-true (hasReaction Γ (signalOf Γ (field 0 fs))) (t .1 .1 .1 .1 .0) in (
+        let unsaid : hasLine Γ (signalOf Γ (field 0 fs)) ≡ false =
+        not-true (hasLine Γ (signalOf Γ (field 0 fs))) (t .1 .1 .1 .1 .0) in (
           record { letter = b; minutes = magnitude f },
           all-of [] 2 fs (eqb-true (length fs) 2 (t .0)) ∙ ap₂ (λ (g k : List ℕ). g ∷ k ∷ []) (o .0) (sym (d .0)),
           record {
@@ -81,8 +81,8 @@ module _ (sheet : List ℕ) (h : ℕ) (names : List (List ℕ)) (xs : List Signa
         let k = m .keeps in
         let w = letter-found (c .holds) b (k .signal) in
         let p = letter-place (c .holds) b (w .0) (w .1) in
-        let quiet : reactionGiven Γ (w .0) ≡ 0 = c .holds .unsaid (w .0) (p .0) (λ i. m .new (rw (p .1) at i)) in
-        let unsaid-passes : not (hasReaction Γ (signalOf Γ (b ∷ []))) ≡ true = rw (w .1, quiet) refl in
+        let quiet : reactionStated Γ (w .0) ≡ 0 = c .holds .unsaid (w .0) (p .0) (λ i. m .new (rw (p .1) at i)) in
+        let unsaid-passes : not (hasLine Γ (signalOf Γ (b ∷ []))) ≡ true = rw (w .1, quiet) refl in
         none-fails (reactionTests Γ ((b ∷ []) ∷ decimal (y .minutes) ∷ []))
         (refl
         & isNumber-decimal (y .minutes)

@@ -9,9 +9,9 @@ use lib.Seq.{getD-set-same, getD-set-other}
 use Rattle.prelude.specs.Lists.{In, Distinct}
 use Rattle.prelude.proofs.Lists.{by-place}
 use Rattle.prelude.proofs.Parts.{in-before, in-last}
-use Rattle.network.specs.Build.{withReaction, letter, reactionGiven}
+use Rattle.network.specs.Build.{withReaction, letter, reactionStated}
 use Rattle.network.specs.declared.Network.{Network}
-use Rattle.layout.specs.Layout.{Signal, Rule, Reaction, noSignal, noReaction, signalLetters, reactionLetters}
+use Rattle.layout.specs.Contents.{Signal, Rule, Reaction, noSignal, noReaction, signalLetters, reactionLetters}
 use Rattle.layout.specs.Contains.{Contains}
 use Rattle.layout.proofs.Extends.{contents, contentsWith}
 
@@ -47,15 +47,15 @@ module _ {sheet : List ℕ} {Γ : Network} {h : ℕ} {ns : List (List ℕ)} {xs 
       once .once q p (omega (arith, length-map xs (λ x. x .letter))) (omega (arith, length-map xs (λ x. x .letter)))
       (lettered q l ∙ e ∙ sym its ∙ sym (lettered p signal))
 
-  other : (q : ℕ) → (q ≡ p → ⊥) → reactionGiven grown q ≡ reactionGiven Γ q
+  other : (q : ℕ) → (q ≡ p → ⊥) → reactionStated grown q ≡ reactionStated Γ q
   other q n = getD-set-other (Γ .reactions) p q (y .minutes) 0 n
 
   reacts : (i : ℕ) → i < length (ys ++ y ∷ []) → (q : ℕ) → q < length xs
       → letter Γ q ≡ getD (ys ++ y ∷ []) i noReaction .letter
-      → reactionGiven grown q ≡ getD (ys ++ y ∷ []) i noReaction .minutes
+      → reactionStated grown q ≡ getD (ys ++ y ∷ []) i noReaction .minutes
   reacts =
       by-place noReaction ys y (λ i z. (q : ℕ) → q < length xs → letter Γ q ≡ z .letter
-      → reactionGiven grown q ≡ z .minutes)
+      → reactionStated grown q ≡ z .minutes)
       (λ i m q l e.
       let listed : In (letter Γ q) (reactionLetters ys) 0 = record {
         place = i;
@@ -66,7 +66,7 @@ module _ {sheet : List ℕ} {Γ : Network} {h : ℕ} {ns : List (List ℕ)} {xs 
       (λ q l e. rw (same-signal q l e) (getD-set-same (Γ .reactions) p (y .minutes) 0 room))
 
   unsaid : (q : ℕ) → q < length xs → (In (letter Γ q) (reactionLetters (ys ++ y ∷ [])) 0 → ⊥)
-      → reactionGiven grown q ≡ 0
+      → reactionStated grown q ≡ 0
   unsaid q l n =
       let out : In (letter Γ q) (reactionLetters ys ++ y .letter ∷ []) 0 → ⊥ = λ i. n (rw map-append i) in
       other q (λ s. out (rw (s, its) (in-last 0 (reactionLetters ys) (y .letter))))

@@ -9,13 +9,15 @@ use Rattle.text.specs.Lines.{afterLine}
 use Rattle.network.specs.Limits as L
 use Rattle.network.specs.Build.{empty}
 use Rattle.network.specs.declared.Network.{Network}
-use Rattle.line.specs.Tests.{sectionCount}
+use Rattle.line.specs.Tests.{secondNumber}
 use Rattle.line.specs.Sections.{horizonHeading}
 use Rattle.line.specs.declared.Section.the-variants.{Events, Signals, Rules, Reactions}
 use Rattle.sheet.specs.Reading.{Progress, Go, andThen, readHorizon, readSection, readOptional, readEnd}
 use Rattle.sheet.specs.Reading.{progress}
 use Rattle.sheet.proofs.Whole.{toEvents, toSignals, toRules, toReactions, toEnd, in-length}
-use Rattle.layout.specs.Layout.{Signal, Rule, Reaction, Contents, Keeps, Layout, reactionsText, textOf}
+use Rattle.layout.specs.Contents.{Signal, Rule, Reaction, Contents}
+use Rattle.layout.specs.Keeps.{Keeps}
+use Rattle.layout.specs.Layout.{Layout, reactionsText, textOf}
 use Rattle.layout.proofs.Numbers.{magnitude-decimal}
 use Rattle.layout.specs.Contains.{Contains}
 use Rattle.layout.proofs.Kept.{KeptNames, KeptSignals, KeptRules, KeptReactions}
@@ -65,7 +67,7 @@ module _ (sheet : List ℕ) (h : ℕ) (ns : List (List ℕ)) (xs : List Signal) 
   horizon-reads : (rest : List ℕ) → h ≤ L.horizon → drop 0 sheet ≡ horizonText h ++ rest
       → AtEvents (readHorizon sheet) [] rest
   horizon-reads rest high t =
-      let r = count-line-reads sheet horizonHeading 0 1 (λ fs. Go (empty (sectionCount fs)) (afterLine sheet 0) 2)
+      let r = count-line-reads sheet horizonHeading 0 1 (λ fs. Go (empty (secondNumber fs)) (afterLine sheet 0) 2)
       refl h rest zero-le high t in
       record {
         network = empty h;

@@ -20,7 +20,8 @@ use Rattle.names.specs.Names.{isLetter, isName, isLabel, labelOf, lettersOf}
 use Rattle.names.specs.Defined.{allDefined, maskOf}
 use Rattle.line.specs.Tests.{eventOf, endsTests, ruleTests}
 use Rattle.line.specs.Sections.{ruleOf}
-use Rattle.layout.specs.Layout.{Rule, Contents, KeepsRule, signalLetters}
+use Rattle.layout.specs.Contents.{Rule, Contents, signalLetters}
+use Rattle.layout.specs.Keeps.{KeepsRule}
 use Rattle.layout.specs.Layout.{kindText, signedText, labelText, ruleFields}
 use Rattle.layout.specs.Contains.{Bears, Means}
 use Rattle.layout.proofs.Lines.{Plain}

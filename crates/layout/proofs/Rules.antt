@@ -22,7 +22,8 @@ use Rattle.names.specs.Defined.{allDefined}
 use Rattle.line.specs.Tests.{eventOf, kindOf, endsTests, ruleTests}
 use Rattle.line.specs.Sections.{ruleOf}
 use Rattle.line.specs.declared.Section.the-variants.{Rules}
-use Rattle.layout.specs.Layout.{Signal, Rule, Contents, KeepsRule, noRule, signalLetters}
+use Rattle.layout.specs.Contents.{Signal, Rule, Contents, noRule, signalLetters}
+use Rattle.layout.specs.Keeps.{KeepsRule}
 use Rattle.layout.specs.Layout.{kindText, signedText, labelText, ruleFields}
 use Rattle.layout.proofs.Numbers as N
 use Rattle.layout.proofs.Labels.{is-label}

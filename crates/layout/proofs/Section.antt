@@ -17,7 +17,7 @@ use Rattle.text.specs.Lines.{field, lineAt, afterLine, fields}
 use Rattle.text.specs.Number.{magnitude}
 use Rattle.text.specs.Decimal.{decimal}
 use Rattle.network.specs.declared.Network.{Network}
-use Rattle.line.specs.Tests.{sectionTests, sectionCount}
+use Rattle.line.specs.Tests.{sectionTests, secondNumber}
 use Rattle.line.specs.Sections.{Heading, headingOf, headingTests}
 use Rattle.line.specs.declared.Section.{Section}
 use Rattle.sheet.specs.Reading.{Progress, Go, readLine, readEntries, readSection}
@@ -32,8 +32,8 @@ use Rattle.layout.proofs.Entries.{Understood, entries-read, Reads, entr
 -- a count, behind its word
 module _ (h : Heading) where
   count-read : (fs : List (List ℕ)) → firstFailing (headingTests h fs) ≡ none
-      → (fs ≡ ascii (h .word) ∷ decimal (sectionCount fs) ∷ []) × (h .least ≤ sectionCount fs)
-      × (sectionCount fs ≤ h .most)
+      → (fs ≡ ascii (h .word) ∷ decimal (secondNumber fs) ∷ []) × (h .least ≤ secondNumber fs)
+      × (secondNumber fs ≤ h .most)
   unfolding sectionTests
   count-read fs e =
       let word = ascii (h .word) in
@@ -57,9 +57,9 @@ module _ (h : Heading) where
 module _ (sheet : List ℕ) (h : Heading) (at k : ℕ) (next : List (List ℕ) → Progress) where
   pub record CountRead (Δ : Network) (end number : ℕ) : Type 0 where
     pub fs : List (List ℕ)
-    pub low : h .least ≤ sectionCount fs
-    pub high : sectionCount fs ≤ h .most
-    pub text : drop at sheet ≡ line (ascii (h .word)) (decimal (sectionCount fs) ∷ [])
+    pub low : h .least ≤ secondNumber fs
+    pub high : secondNumber fs ≤ h .most
+    pub text : drop at sheet ≡ line (ascii (h .word)) (decimal (secondNumber fs) ∷ [])
         ++ drop (afterLine sheet at) sheet
     pub then : next fs ≡ Go Δ end number
 
@@ -107,13 +107,13 @@ module _ {sheet : List ℕ} {s : Section} {X : Type 0} {first : X → List ℕ} 
   head = headingOf s
 
   abbrev entries : List (List ℕ) → Progress
-  entries fs = readEntries sheet s (sectionCount fs) Γ (afterLine sheet at) (suc k)
+  entries fs = readEntries sheet s (secondNumber fs) Γ (afterLine sheet at) (suc k)
 
   pub section-read : (Δ : Network) (end number : ℕ) → readSection sheet s Γ at k ≡ Go Δ end number
       → SectionRead sheet Held head text at Δ end
   section-read Δ end number g =
       let c = count-line-read sheet head at k entries Δ end number g in
-      let m = sectionCount (c .fs) in
+      let m = secondNumber (c .fs) in
       let r = entries-read w m Γ [] (afterLine sheet at) (suc k) start (omega (arith, c .high)) Δ end number
       (c .then) in
       let n : m ≡ length (map text (r .items)) = omega (arith, r .count, length-map (r .items) text) in

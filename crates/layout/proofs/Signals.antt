@@ -20,7 +20,7 @@ use Rattle.line.specs.Tests.{eventOf, isObservation, signalTests}
 use Rattle.line.specs.Sections.{withLine}
 use Rattle.line.specs.declared.Section.the-variants.{Signals}
 use Rattle.prelude.specs.Lists.{In}
-use Rattle.layout.specs.Layout.{Signal, signalEvents}
+use Rattle.layout.specs.Contents.{Signal, signalEvents}
 use Rattle.layout.proofs.Lines.{plain}
 use Rattle.prelude.proofs.Lists.{all-of, each-in}
 use Rattle.layout.proofs.Plain.{plain-name, plain-letter, one-letter}

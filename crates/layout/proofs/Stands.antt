@@ -12,9 +12,10 @@ use Rattle.network.specs.Build.{empty, withEvent, withSignal, withRule, withRea
 use Rattle.network.specs.WellFormed.{Arrays}
 use Rattle.network.specs.declared.Network.{Network}
 use Rattle.network.specs.declared.Constraint.{Constraint}
-use Rattle.network.proofs.Strategy.{given-empty}
+use Rattle.network.proofs.Strategy.{stated-empty}
 use Rattle.sheet.proofs.Arrays.{arrays-empty, arrays-event, arrays-signal, arrays-rule, arrays-reaction}
-use Rattle.layout.specs.Layout.{Signal, Rule, Reaction, Contents, KeepsRule, signalLetters, listedReactions}
+use Rattle.layout.specs.Contents.{Signal, Rule, Reaction, Contents, signalLetters, listedReactions}
+use Rattle.layout.specs.Keeps.{KeepsRule}
 use Rattle.layout.specs.Contains.{Bears, Means, Contains}
 use Rattle.layout.proofs.Kept.{KeptNames, NewName, no-names, name-kept}
 use Rattle.layout.proofs.Kept.{KeptSignals, NewSignal, no-signals, signal-kept}
@@ -41,7 +42,7 @@ empty-stands sheet h = record {
   signals = no-signals [];
   rules = no-rules [] [];
   reactions = no-reactions [];
-  quiet = λ e. given-empty h;
+  quiet = λ e. stated-empty h;
 }
 
 module _ {sheet : List ℕ} {Γ : Network} {h : ℕ} {ns : List (List ℕ)} where

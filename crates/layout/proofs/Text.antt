@@ -15,7 +15,8 @@ use Rattle.refusal.specs.declared.Cause.the-variants.{TrailingBytes}
 use Rattle.network.specs.declared.Network.{Network}
 use Rattle.sheet.specs.Reading.{Progress, Go, andThen, readEnd}
 use Rattle.sheet.proofs.ReadLine.{stop-not-go}
-use Rattle.layout.specs.Layout.{Signal, Rule, line, section, signalLine, ruleLine}
+use Rattle.layout.specs.Contents.{Signal, Rule}
+use Rattle.layout.specs.Layout.{line, section, signalLine, ruleLine}
 use Rattle.layout.proofs.Entries.{joins}
 
 abbrev pub horizonText : ℕ → List ℕ

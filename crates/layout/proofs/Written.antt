@@ -8,14 +8,15 @@ use Rattle.text.specs.Lines.{afterLine}
 use Rattle.network.specs.Limits as L
 use Rattle.network.specs.Build.{empty}
 use Rattle.network.specs.declared.Network.{Network}
-use Rattle.line.specs.Tests.{sectionCount}
+use Rattle.line.specs.Tests.{secondNumber}
 use Rattle.line.specs.Sections.{headingOf, horizonHeading}
 use Rattle.line.specs.declared.Section.the-variants.{Events, Signals, Rules, Reactions}
 use Rattle.sheet.specs.Reading.{longest, Go, readHorizon, readSection, readOptional, readEnd, progress}
 use Rattle.sheet.proofs.ReadLine.{Came, came}
 use Rattle.sheet.proofs.Whole.{toEvents, toSignals, toRules, toReactions, toEnd, within-length}
-use Rattle.layout.specs.Layout.{Signal, Contents, Keeps, Layout, line, signalLine, ruleLine}
-use Rattle.layout.specs.Layout.{listedReactions, reactionsText}
+use Rattle.layout.specs.Contents.{Signal, Contents, listedReactions}
+use Rattle.layout.specs.Keeps.{Keeps}
+use Rattle.layout.specs.Layout.{Layout, line, signalLine, ruleLine, reactionsText}
 use Rattle.layout.proofs.Extends.{contents, contentsWith}
 use Rattle.layout.proofs.Stands.{Stands, empty-stands}
 use Rattle.layout.proofs.Events.{events-understood}
@@ -75,9 +76,9 @@ module _ (sheet : List ℕ) where
 
   horizon-read : (Γ : Network) (at k : ℕ) → readHorizon sheet ≡ Go Γ at k → HorizonRead Γ at
   horizon-read Γ at k e =
-      let c = count-line-read sheet horizonHeading 0 1 (λ fs. Go (empty (sectionCount fs)) (afterLine sheet 0) 2) Γ at
+      let c = count-line-read sheet horizonHeading 0 1 (λ fs. Go (empty (secondNumber fs)) (afterLine sheet 0) 2) Γ at
       k e in
-      let h = sectionCount (c .fs) in
+      let h = secondNumber (c .fs) in
       let then = c .then in
       let same-network : empty h ≡ Γ = cc in
       let same-place : afterLine sheet 0 ≡ at = cc in

@@ -4,13 +4,13 @@ use mathlib.Core.Path.{_≡_}
 use mathlib.Core.List.{List, []}
 use Prim.Native.Nat.{ℕ, _<_}
 use lib.ListN.{length, getD}
-use Rattle.network.specs.Build.{nameOf, letter, observation, reactionGiven, constraint}
+use Rattle.network.specs.Build.{nameOf, letter, observation, reactionStated, constraint}
 use Rattle.network.specs.declared.Constraint.{Constraint}
 use Rattle.network.specs.declared.Network.{Network}
 use Rattle.names.specs.Defined.{maskOf}
 use Rattle.prelude.specs.Lists.{In}
-use Rattle.layout.specs.Layout.{Signal, Rule, Contents, noSignal, noRule, noReaction, signalLetters}
-use Rattle.layout.specs.Layout.{reactionLetters, listedReactions}
+use Rattle.layout.specs.Contents.{Signal, Rule, Contents, noSignal, noRule, noReaction, signalLetters}
+use Rattle.layout.specs.Contents.{reactionLetters, listedReactions}
 
 -- event u is the one of that name
 pub record Bears (names : List (List ℕ)) (u : ℕ) (f : List ℕ) : Type 0 where
@@ -40,6 +40,6 @@ pub record Contains (sheet : List ℕ) (Γ : Network) (c : Contents) : Type 0 wh
   -- a signal whose letter has a line reacts as that says, and of the others nothing is said
   pub reacts : (p i : ℕ) → p < length (c .signals) → i < length (listedReactions c)
       → letter Γ p ≡ getD (listedReactions c) i noReaction .letter
-      → reactionGiven Γ p ≡ getD (listedReactions c) i noReaction .minutes
+      → reactionStated Γ p ≡ getD (listedReactions c) i noReaction .minutes
   pub unsaid : (p : ℕ) → p < length (c .signals)
-      → (In (letter Γ p) (reactionLetters (listedReactions c)) 0 → ⊥) → reactionGiven Γ p ≡ 0
+      → (In (letter Γ p) (reactionLetters (listedReactions c)) 0 → ⊥) → reactionStated Γ p ≡ 0

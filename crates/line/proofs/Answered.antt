@@ -10,7 +10,7 @@ use Rattle.text.specs.Lines.{lineFeed, upTo, fields, field, lineAt}
 use Rattle.text.proofs.Lines.{take-drop}
 use Rattle.refusal.specs.declared.Cause.{Cause}
 use Rattle.network.specs.declared.Network.{Network}
-use Rattle.line.specs.Tests.{lineTests, isObservation, hasReaction, eventOf, signalOf, eventTests, signalTests}
+use Rattle.line.specs.Tests.{lineTests, isObservation, hasLine, eventOf, signalOf, eventTests, signalTests}
 use Rattle.line.specs.Tests.{endsTests, ruleTests, letterTests, reactionTests}
 use Rattle.line.specs.Sections.{testsOf, entryOf}
 use Rattle.line.specs.Answers.{partsOf, sectionAnswer, entryAnswer, entryBy, entryAt}
@@ -57,7 +57,7 @@ module _ (sheet : List ℕ) (Γ : Network) (fs : List (List ℕ)) where
   observation-parts none = refl
   observation-parts (some u) = refl
 
-  reaction-parts : (o : Option ℕ) → hasReaction parts o ≡ hasReaction Γ o
+  reaction-parts : (o : Option ℕ) → hasLine parts o ≡ hasLine Γ o
   reaction-parts none = refl
   reaction-parts (some p) = refl
 
@@ -96,8 +96,8 @@ module _ (sheet : List ℕ) (Γ : Network) (line : List ℕ) where
   unfolding signalTests
   signal-parts = rw (signal-asks (eventOf sheet Γ (field 1 (fields line))))
 
-  reaction-asks : (o : Option ℕ) → hasReaction (partsOf 0 [] [] (Γ .signals) (Γ .letters) [] (Γ .reactions)) o
-      ≡ hasReaction Γ o
+  reaction-asks : (o : Option ℕ) → hasLine (partsOf 0 [] [] (Γ .signals) (Γ .letters) [] (Γ .reactions)) o
+      ≡ hasLine Γ o
   reaction-asks none = refl
   reaction-asks (some p) = refl
 

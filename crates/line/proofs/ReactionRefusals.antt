@@ -19,8 +19,8 @@ use Rattle.network.specs.Limits as L
 use Rattle.network.specs.declared.Network.{Network}
 use Rattle.names.specs.Names.{isOneLetter}
 use Rattle.names.specs.Found.{foundOf}
-use Rattle.line.specs.Tests.{countTests, hasReaction, signalOf, letterTests, reactionTests}
-use Rattle.line.specs.Answers.{givenFound}
+use Rattle.line.specs.Tests.{countTests, hasLine, signalOf, letterTests, reactionTests}
+use Rattle.line.specs.Answers.{statedFound}
 use Rattle.line.proofs.Checks.{all-hold, three-same, fails-before, fails-behind}
 
 -- a number that is in its range
@@ -43,18 +43,18 @@ pub unsaid-is : (x : ℕ) → eqb x 0 ≡ not (ltb 0 x)
 unsaid-is zero = refl
 unsaid-is (suc x) = rw (ne-eqb (suc x) 0 (λ e. omega arith), lt-ltb 0 (suc x) (omega arith))
 
-pub given-found : (Γ : Network) (o : Option ℕ) → givenFound (Γ .reactions) (foundOf o) ≡ hasReaction Γ o
-given-found Γ none = refl
-given-found Γ (some p) = refl
+pub stated-found : (Γ : Network) (o : Option ℕ) → statedFound (Γ .reactions) (foundOf o) ≡ hasLine Γ o
+stated-found Γ none = refl
+stated-found Γ (some p) = refl
 
 module _ (Γ : Network) where
   pub letter-tests : (f : List ℕ) {named fresh defined : Bool} → named ≡ isOneLetter f
-      → fresh ≡ not (hasReaction Γ (signalOf Γ f)) → defined ≡ answers (signalOf Γ f)
+      → fresh ≡ not (hasLine Γ (signalOf Γ f)) → defined ≡ answers (signalOf Γ f)
       → firstFailing ((named, C.IllFormedName) ∷ (fresh, C.Duplicate) ∷ (defined, C.Undefined) ∷ [])
       ≡ firstFailing (letterTests Γ f)
   unfolding letterTests
   letter-tests f {named} {fresh} {defined} a b d =
-      three-same named fresh defined (isOneLetter f) (not (hasReaction Γ (signalOf Γ f))) (answers (signalOf Γ f))
+      three-same named fresh defined (isOneLetter f) (not (hasLine Γ (signalOf Γ f))) (answers (signalOf Γ f))
       C.IllFormedName C.Duplicate C.Undefined a b d
 
   module _ (fs : List (List ℕ)) where

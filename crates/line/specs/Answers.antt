@@ -17,7 +17,7 @@ use Rattle.network.specs.declared.Network.{Network}
 use Rattle.names.specs.Defined.{givesSignal}
 use Rattle.names.specs.declared.Found.{Found}
 use Rattle.names.specs.declared.Found.the-variants.{At, Nothing}
-use Rattle.line.specs.Tests.{Tests, lineTests, sectionTests, sectionCount, endsTests, letterTests, signalOf}
+use Rattle.line.specs.Tests.{Tests, lineTests, sectionTests, secondNumber, endsTests, letterTests, signalOf}
 use Rattle.line.specs.Sections.{Heading, testsOf, constraintOf, entryOf}
 use Rattle.line.specs.declared.Check.{Check}
 use Rattle.line.specs.declared.Check.the-variants as K
@@ -39,9 +39,9 @@ givesFound k observations Nothing = false
 givesFound k observations (At u) = givesSignal k observations u
 
 -- whether a line has already said how a signal that was looked for reacts
-abbrev pub givenFound : List ℕ → Found → Bool
-givenFound reactions Nothing = false
-givenFound reactions (At p) = ltb 0 (getD reactions p 0)
+abbrev pub statedFound : List ℕ → Found → Bool
+statedFound reactions Nothing = false
+statedFound reactions (At p) = ltb 0 (getD reactions p 0)
 
 -- the tests passed, or one of them did not
 abbrev pub checkOf : Option Cause → Check
@@ -96,7 +96,7 @@ letterAnswer Γ f minutes n =
 module _ (line : List ℕ) (made : (List (List ℕ) → Tests) → Tests) where
   abbrev pub sectionUnder : List ℕ → ℕ → ℕ → HeadingLine
   sectionUnder word lo hi =
-      sectionAnswer (firstFailing (made (sectionTests word lo hi))) (sectionCount (fields line)) (length line)
+      sectionAnswer (firstFailing (made (sectionTests word lo hi))) (secondNumber (fields line)) (length line)
 
   abbrev pub entryUnder : Section → List ℕ → Network → EntryLine
   entryUnder s sheet Γ = entryAnswer (firstFailing (made (testsOf sheet s Γ))) (entryOf sheet s Γ (fields line))

@@ -18,13 +18,13 @@ use Rattle.network.specs.declared.Network.{Network}
 use Rattle.names.specs.Names.{labelOf}
 use Rattle.names.specs.Defined.{maskOf}
 use Rattle.line.specs.Tests.{Tests, sectionTests, eventTests, signalTests, ruleTests, reactionTests}
-use Rattle.line.specs.Tests.{sectionCount, eventOf, kindOf, signalOf}
+use Rattle.line.specs.Tests.{secondNumber, eventOf, kindOf, signalOf}
 use Rattle.line.specs.declared.Section.{Section}
 use Rattle.line.specs.declared.Section.the-variants.{Events, Signals, Rules, Reactions}
 use Rattle.line.specs.declared.entry.Entry.{Entry}
 use Rattle.line.specs.declared.entry.Entry.the-variants as E
 
--- the line that a section begins with: its word, and the range of its count
+-- the line that a section begins with: its word, and the range of its count (of the reactions "r from 0 to 4")
 pub record Heading : Type 0 where
   pub word : String
   pub least : ℕ
@@ -78,7 +78,7 @@ module _ (sheet : List ℕ) where
   entryOf Events Γ fs = E.Event
   entryOf Signals Γ fs = E.Signal (getD (field 0 fs) 0 0) (Option·getD (eventOf sheet Γ (field 1 fs)) 0)
   entryOf Rules Γ fs = E.Rule (ruleOf Γ fs)
-  entryOf Reactions Γ fs = E.Reaction (Option·getD (signalOf Γ (field 0 fs)) 0) (sectionCount fs)
+  entryOf Reactions Γ fs = E.Reaction (Option·getD (signalOf Γ (field 0 fs)) 0) (secondNumber fs)
 
   -- the network with a line of these fields, which begins at the given place
   abbrev pub withLine : Section → Network → ℕ → List (List ℕ) → Network

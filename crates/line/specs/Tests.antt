@@ -13,7 +13,7 @@ use Rattle.text.specs.Number.{isNumber, inRange, magnitude}
 use Rattle.refusal.specs.declared.Cause.{Cause}
 use Rattle.refusal.specs.declared.Cause.the-variants as C
 use Rattle.network.specs.Limits as L
-use Rattle.network.specs.Build.{reactionGiven}
+use Rattle.network.specs.Build.{reactionStated}
 use Rattle.network.specs.declared.Kind.{Kind}
 use Rattle.network.specs.declared.Kind.the-variants.{Max, Min, Fix}
 use Rattle.network.specs.declared.Network.{Network}
@@ -27,7 +27,7 @@ Tests = List (Bool × Cause)
 abbrev pub lineTests : List ℕ → (List (List ℕ) → Tests) → Tests
 lineTests rest ts = (isIn lineFeed rest, C.MissingLine) ∷ ts (fields (upTo lineFeed rest))
 
--- a count from lo to hi
+-- a number from lo to hi
 abbrev pub countTests : ℕ → ℕ → List ℕ → Tests
 countTests lo hi f = (isNumber f, C.IllFormedNumber) ∷ (inRange lo hi f, C.OutOfRange) ∷ []
 
@@ -36,8 +36,9 @@ unfoldable pub sectionTests : List ℕ → ℕ → ℕ → List (List ℕ) → T
 sectionTests word lo hi fs =
     (eqb (length fs) 2 && same (field 0 fs) word, C.WrongFields) ∷ countTests lo hi (field 1 fs)
 
-abbrev pub sectionCount : List (List ℕ) → ℕ
-sectionCount fs = magnitude (field 1 fs)
+-- the number in the second field: a section's count, or a signal's minutes
+abbrev pub secondNumber : List (List ℕ) → ℕ
+secondNumber fs = magnitude (field 1 fs)
 
 -- the kind that the first field of a rule says
 abbrev pub kindOf : List ℕ → Option Kind
@@ -56,9 +57,9 @@ isObservation Γ none = false
 isObservation Γ (some u) = givesSignal (Γ .signals) (Γ .observations) u
 
 -- a line has already said after how many minutes the signal is trusted, where it is defined
-abbrev pub hasReaction : Network → Option ℕ → Bool
-hasReaction Γ none = false
-hasReaction Γ (some p) = ltb 0 (reactionGiven Γ p)
+abbrev pub hasLine : Network → Option ℕ → Bool
+hasLine Γ none = false
+hasLine Γ (some p) = ltb 0 (reactionStated Γ p)
 
 -- the signal whose letter the field is, if it is defined
 abbrev pub signalOf : Network → List ℕ → Option ℕ
@@ -114,7 +115,7 @@ module _ (Γ : Network) where
   unfoldable pub letterTests : List ℕ → Tests
   letterTests f =
       (isOneLetter f, C.IllFormedName)
-      ∷ (not (hasReaction Γ (signalOf Γ f)), C.Duplicate)
+      ∷ (not (hasLine Γ (signalOf Γ f)), C.Duplicate)
       ∷ (answers (signalOf Γ f), C.Undefined)
       ∷ []
 

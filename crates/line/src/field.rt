@@ -12,7 +12,7 @@ ghost use Rattle.names.specs.Defined.{placeOf, allDefined};
 ghost use Rattle.names.specs.Found.{isFound};
 ghost use Rattle.names.specs.declared.Found.the-variants.{At};
 ghost use Rattle.line.specs.Tests.{countTests, kindOf};
-ghost use Rattle.line.specs.Answers.{checkOf, kindFound, limitOf, sectionAnswer, givesFound, givenFound};
+ghost use Rattle.line.specs.Answers.{checkOf, kindFound, limitOf, sectionAnswer, givesFound, statedFound};
 use super::Check;
 use super::HeadingLine;
 use super::KindField;
@@ -142,7 +142,7 @@ pub(crate) fn is_fresh<'a>(
 // No line has said yet how the signal reacts.
 pub(crate) fn is_unsaid(reactions: &[u16; Network::SIGNALS], signal: Found) -> bool
     requires { ⌜ ((p : ℕ) → signal ≡ At p → p < L.signals) ⌝ }
-    ensures { λ r. ⌜ r ≡ not (givenFound (now (reactions .entry)) signal) ⌝ }
+    ensures { λ r. ⌜ r ≡ not (statedFound (now (reactions .entry)) signal) ⌝ }
 {
     match signal {
         Found::At(p) => reactions[p] == 0,

@@ -10,7 +10,7 @@ use lib.ListN.{length}
 use lib.Seq.{getD-set-same, getD-set-other}
 use Rattle.prelude.proofs.Cells.{cell-lt}
 use Rattle.network.specs.Limits as L
-use Rattle.network.specs.Build.{empty, withReaction, observation, reactionGiven, scenarios, cells}
+use Rattle.network.specs.Build.{empty, withReaction, observation, reactionStated, scenarios, cells}
 use Rattle.network.specs.Strategy.{time, reactionOf, reaction, knownFrom, known}
 use Rattle.network.specs.declared.Network.{Network}
 
@@ -20,9 +20,9 @@ pub cell-in : (Γ : Network) (σ : List ℕ) → length σ ≡ cells Γ → (s u
 cell-in Γ σ e s u h l = rw e (cell-lt (Γ .events) (scenarios Γ) s u h l)
 
 -- a line's number, where it is one of those that a line may give; and 1 without a line
-pub reactionOf-given : (x : ℕ) → L.fastest ≤ x → reactionOf x ≡ x
+pub reactionOf-stated : (x : ℕ) → L.fastest ≤ x → reactionOf x ≡ x
 unfolding reactionOf
-reactionOf-given x h = omega arith
+reactionOf-stated x h = omega arith
 
 pub reactionOf-least : (x : ℕ) → x ≤ L.fastest → reactionOf x ≡ L.fastest
 unfolding reactionOf
@@ -33,15 +33,15 @@ unfolding reactionOf
 reactionOf-most x h = omega arith
 
 -- before any line, nothing is given, and every signal has the reaction 1
-pub given-empty : (h p : ℕ) → reactionGiven (empty h) p ≡ 0
-given-empty h zero = refl
-given-empty h (suc zero) = refl
-given-empty h (suc (suc zero)) = refl
-given-empty h (suc (suc (suc zero))) = refl
-given-empty h (suc (suc (suc (suc p)))) = refl
+pub stated-empty : (h p : ℕ) → reactionStated (empty h) p ≡ 0
+stated-empty h zero = refl
+stated-empty h (suc zero) = refl
+stated-empty h (suc (suc zero)) = refl
+stated-empty h (suc (suc (suc zero))) = refl
+stated-empty h (suc (suc (suc (suc p)))) = refl
 
 pub reaction-empty : (h p : ℕ) → reaction (empty h) p ≡ L.fastest
-reaction-empty h p = reactionOf-least (reactionGiven (empty h) p) (omega (arith, given-empty h p))
+reaction-empty h p = reactionOf-least (reactionStated (empty h) p) (omega (arith, stated-empty h p))
 
 -- a line says how its signal reacts, and nothing of the others
 module _ (Γ : Network) (p minutes : ℕ) where

@@ -112,9 +112,9 @@ module _ (Γ : Network) where
   abbrev pub observation : ℕ → ℕ
   observation p = getD (Γ .observations) p 0
 
-  -- after how many minutes a line says that signal p is trusted; 0 where no line does
-  abbrev pub reactionGiven : ℕ → ℕ
-  reactionGiven p = getD (Γ .reactions) p 0
+  -- after how many minutes the line of signal p says that it is trusted; 0 where it has no line
+  abbrev pub reactionStated : ℕ → ℕ
+  reactionStated p = getD (Γ .reactions) p 0
 
   -- the rule at place c of the sheet
   abbrev pub constraint : ℕ → Constraint

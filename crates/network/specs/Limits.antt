@@ -18,7 +18,7 @@ signals = 4
 abbrev pub rules : ℕ
 rules = 64
 
--- "minutes from 1 to 60", after which a signal is trusted
+-- "minutes from 1 to 60", after which a signal is trusted; "A signal without a line keeps 1"
 abbrev pub fastest : ℕ
 fastest = 1
 

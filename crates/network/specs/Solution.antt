@@ -1,4 +1,5 @@
--- Which strategies solve a network: document 01's good tables, points 1 to 3.
+-- Which strategies solve a network: document 01's good tables, points 1 to 3, the last with the reactions of 02,
+-- point 3.
 use mathlib.Core.Path.{_≡_}
 use mathlib.Core.Bool.{true, false}
 use mathlib.Core.List.{List}

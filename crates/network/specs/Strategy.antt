@@ -7,7 +7,7 @@ use lib.Dec.{leb}
 use lib.ListN.{getD}
 use Rattle.prelude.specs.Bounded.{minWhere}
 use Rattle.network.specs.Limits as L
-use Rattle.network.specs.Build.{observation, reactionGiven}
+use Rattle.network.specs.Build.{observation, reactionStated}
 use Rattle.network.specs.Scenario.{agree}
 use Rattle.network.specs.declared.Network.{Network}
 
@@ -19,20 +19,21 @@ time n σ s u = getD σ (s * n + u) 0
 abbrev pub knownAfter : ℕ → List ℕ → ℕ → ℕ → ℕ → ℕ
 knownAfter n σ s u x = time n σ s u + x
 
--- what a line gives is at least 1, and "A signal without a line keeps 1" (02, point 3)
+-- what a line states is at least 1, and "A signal without a line keeps 1" (02, point 3)
 unfoldable pub reactionOf : ℕ → ℕ
-reactionOf given = max L.fastest given
+reactionOf stated = max L.fastest stated
 
 -- after how many minutes p is known: its reaction time (004, Definition 13)
 abbrev pub reaction : Network → ℕ → ℕ
-reaction Γ p = reactionOf (reactionGiven Γ p)
+reaction Γ p = reactionOf (reactionStated Γ p)
 
 module _ (Γ : Network) (σ : List ℕ) where
-  -- from when on the truth of p is known in s
+  -- from when on the truth of p is known in s: "its minute plus its reaction"
   abbrev pub knownFrom : ℕ → ℕ → ℕ
   knownFrom s p = knownAfter (Γ .events) σ s (observation Γ p) (reaction Γ p)
 
-  -- whether it is known at the time m; document 01 says heard
+  -- whether it is known at the time m: it "counts once its minute plus its reaction is at most the minute in question"
+  -- (02, point 3); document 01 says heard
   abbrev pub known : ℕ → ℕ → ℕ → Bool
   known s p m = leb (knownFrom s p) m
 

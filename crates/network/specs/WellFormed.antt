@@ -56,7 +56,8 @@ pub record Forming (t : ToCome) (Γ : Network) : Type 0 where
   -- "An event gives at most one signal"
   pub one-signal : (p q : ℕ) → p < Γ .signals → q < Γ .signals → observation Γ p ≡ observation Γ q → p ≡ q
   pub proper : (c : ℕ) → c < Γ .rules → Proper Γ (constraint Γ c)
-  pub reacts : (p : ℕ) → reaction Γ p ≤ L.slowest
+  -- "minutes from 1 to 60"; at least 1 it is by its definition
+  pub in-range : (p : ℕ) → reaction Γ p ≤ L.slowest
 
 -- nothing is still to come
 abbrev pub WellFormed : Network → Type 0

@@ -38,8 +38,8 @@ pub struct Constraint {
 }
 
 // Event u is named by the part of the sheet from starts[u] on, of lengths[u] bytes; event 0 is the origin.
-// Proposition p has the letter letters[p], the observation event observations[p] and, where a line gives one, the
-// reaction reactions[p], otherwise 0. Behind the counts the arrays hold what the empty network has.
+// Proposition p has the letter letters[p], the observation event observations[p] and in reactions[p] the reaction that
+// its line states, or 0 where it has none. Behind the counts the arrays hold what the empty network has.
 pub struct Network {
     pub horizon: u16,
     pub events: usize,

@@ -13,20 +13,20 @@ pub fn time_of(table: &[u16], events: usize, s: usize, u: usize) -> u16
     table[s * events + u]
 }
 
-// The reaction of a proposition, by what a line gives; 0 where no line does.
-pub fn reaction_of(given: u16) -> u16
-    ensures { λ r. ⌜ r ≡ reactionOf given ⌝ }
+// The reaction of a proposition, by what its line states; 0 where it has none.
+pub fn reaction_of(stated: u16) -> u16
+    ensures { λ r. ⌜ r ≡ reactionOf stated ⌝ }
 {
-    if given < Network::FASTEST {
+    if stated < Network::FASTEST {
         return Network::FASTEST;
     }
-    given
+    stated
 }
 
-// From when on a proposition is known in s, by its observation event and what a line gives as its reaction.
-pub fn known_after(table: &[u16], events: usize, s: usize, observation: usize, given: u16) -> u32
+// From when on a proposition is known in s, by its observation event and the reaction that its line states.
+pub fn known_after(table: &[u16], events: usize, s: usize, observation: usize, stated: u16) -> u32
     requires { ⌜ s * events + observation < length (now table) ⌝ }
-    ensures { λ r. ⌜ r ≡ knownAfter events (now (table .entry)) s observation (reactionOf given) ⌝ }
+    ensures { λ r. ⌜ r ≡ knownAfter events (now (table .entry)) s observation (reactionOf stated) ⌝ }
 {
-    time_of(table, events, s, observation) as u32 + reaction_of(given) as u32
+    time_of(table, events, s, observation) as u32 + reaction_of(stated) as u32
 }

@@ -14,8 +14,8 @@ pub enum Cause {
     OutOfRange,
     // A name, letter or label is ill-formed.
     IllFormedName,
-    // A name or letter is defined a second time, its event already gives a signal, or its letter already has a
-    // reaction.
+    // A name or letter is defined a second time, its event already gives a signal, or the letter already has a line
+    // among the reactions.
     Duplicate,
     // An event or letter is used that is not defined.
     Undefined,

@@ -1,5 +1,5 @@
--- Point 3 and the hyperarcs agree (004, Lemma 1 and Definition 16). The reaction is `network`'s; the argument uses of
--- it only that it is at least 1.
+-- Point 3 and the hyperarcs agree (004, Lemma 1 and Definition 16). The reactions are `network`'s; the argument uses of
+-- them only that each is at least 1, and of the network only that signals are given by its events.
 --
 -- From point 3 to the hyperarcs: either something that differs is known in s at the time of u, and its hyperarc asks
 -- no more than that, or nothing is, and the two times are equal. Back: let nothing that differs be known in s at the
@@ -22,7 +22,6 @@ use Rattle.network.specs.Build.{observation, scenarios}
 use Rattle.network.specs.Scenario.{agree}
 use Rattle.network.specs.Strategy.{time, knownFrom, known, leastKnown}
 use Rattle.network.specs.Solution.{Indistinct}
-use Rattle.network.specs.WellFormed.{WellFormed}
 use Rattle.network.specs.declared.Network.{Network}
 use Rattle.network.proofs.Scenario.{agree-comm}
 use Rattle.network.proofs.Strategy.{observed-before, from-known, from-unknown}
@@ -152,6 +151,6 @@ module _ (Γ : Network) (σ : List ℕ) where
       };
     }
 
-  -- point 3 holds exactly when every hyperarc is kept
-  pub hyperarcs-agree : WellFormed Γ → Dynamic Γ σ ↔ Hyperarcs Γ σ
-  hyperarcs-agree w = (hyperarcs-of-dynamic, dynamic-of-hyperarcs (w .observed))
+  -- point 3 holds exactly when every hyperarc is kept, whatever reactions of at least 1 the signals have
+  pub hyperarcs-agree : ((p : ℕ) → p < Γ .signals → observation Γ p < Γ .events) → Dynamic Γ σ ↔ Hyperarcs Γ σ
+  hyperarcs-agree observed = (hyperarcs-of-dynamic, dynamic-of-hyperarcs observed)

@@ -13,7 +13,7 @@ module _ (Γ : Network) (σ : List ℕ) where
     pub alike : (s r u : ℕ) → s < scenarios Γ → r < scenarios Γ → u < Γ .events → Alike Γ σ s r u
 
   -- "a minute is at least the lesser of the other case's minute and one more than the earliest differing signal in
-  -- its own case"
+  -- its own case"; since 02, point 3, each signal's reaction stands for the one
   pub record Hyperarcs : Type 0 where
     pub kept : (s r u : ℕ) → s < scenarios Γ → r < scenarios Γ → u < Γ .events
         → hyperarc Γ σ s r u ≤ time (Γ .events) σ s u

@@ -53,7 +53,7 @@ module _ (Γ : Network) (σ : List ℕ) where
       (λ c. max (upperBound s u (constraint Γ c)) (lowerBound s u (constraint Γ c)))
 
   -- the hyperarc of s, r and u (004, Definition 16): "the lesser of the other case's minute and one more than the
-  -- earliest differing signal in its own case"
+  -- earliest differing signal in its own case"; since 02, point 3, each signal's reaction stands for the one
   abbrev pub hyperarc : ℕ → ℕ → ℕ → ℕ
   hyperarc s r u = leastKnown Γ σ s r (at r u) (Γ .signals)
 

@@ -129,4 +129,4 @@ known-in-row Γ σ s {frame} {row} W F R p l =
 
 -- a frame's reactions are within their limit
 pub within-hour : {Γ : Network} {frame : Frame} → WellFormed Γ → Framed Γ frame → WithinHour frame
-within-hour W F p l = omega (arith, F .reactions p l, W .reacts p)
+within-hour W F p l = omega (arith, F .reactions p l, W .in-range p)

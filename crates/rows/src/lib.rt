@@ -14,7 +14,8 @@ use network::times;
 
 pub mod known;
 
-// What rounds take of a network besides its constraints.
+// What rounds take of a network besides its constraints. A reaction here is at least 1, also where the sheet has no
+// line.
 pub struct Frame {
     pub horizon: u16,
     pub events: usize,
@@ -29,7 +30,7 @@ pub fn frame_of(network: Network) -> Frame
     ensures { λ r. ⌜ Framed network r ⌝ }
 {
     let observations = network.observations;
-    let given = network.reactions;
+    let stated = network.reactions;
     Frame {
         horizon: network.horizon,
         events: network.events,
@@ -37,10 +38,10 @@ pub fn frame_of(network: Network) -> Frame
         signals: network.signals,
         observations: observations,
         reactions: [
-            times::reaction_of(given[0]),
-            times::reaction_of(given[1]),
-            times::reaction_of(given[2]),
-            times::reaction_of(given[3]),
+            times::reaction_of(stated[0]),
+            times::reaction_of(stated[1]),
+            times::reaction_of(stated[2]),
+            times::reaction_of(stated[3]),
         ],
     }
 }

@@ -15,7 +15,7 @@ use Rattle.refusal.specs.Refusal.{refusal}
 use Rattle.refusal.specs.declared.Cause.{Cause}
 use Rattle.network.specs.Build.{empty}
 use Rattle.network.specs.declared.Network.{Network}
-use Rattle.line.specs.Tests.{Tests, sectionCount}
+use Rattle.line.specs.Tests.{Tests, secondNumber}
 use Rattle.line.specs.Sections.{withLine}
 use Rattle.line.specs.declared.Section.{Section}
 use Rattle.line.specs.declared.Section.the-variants.{Events, Signals, Rules, Reactions}
@@ -92,7 +92,7 @@ module _ (sheet : List ℕ) where
   section-comes s Γ at k a =
       by-line (next-of s) k (testsAt sheet (Heading s) Γ at) _
       (stops (Heading s) Γ at k a)
-      (λ h. entries-come s (sectionCount (fields (lineAt sheet at))) Γ (afterLine sheet at) (suc k)
+      (λ h. entries-come s (secondNumber (fields (lineAt sheet at))) Γ (afterLine sheet at) (suc k)
       (goes-on (Heading s) Γ at k a h))
 
   horizon-comes : Comes (λ at. Heading Events) (readHorizon sheet)

@@ -18,14 +18,14 @@ use Rattle.network.specs.Build.{observation}
 use Rattle.network.specs.declared.Network.{Network}
 use Rattle.names.specs.Defined.{placeOf}
 use Rattle.names.proofs.Finds.{finds-nothing}
-use Rattle.line.specs.Tests.{sectionTests, sectionCount, eventOf, isObservation}
+use Rattle.line.specs.Tests.{sectionTests, secondNumber, eventOf, isObservation}
 use Rattle.line.specs.Sections.{Heading, headingTests}
 use Rattle.line.proofs.Checks.{all-hold}
 
 -- a count that passed is in its range
 pub record Counted (h : Heading) (fs : List (List ℕ)) : Type 0 where
-  pub least : h .least ≤ sectionCount fs
-  pub most : sectionCount fs ≤ h .most
+  pub least : h .least ≤ secondNumber fs
+  pub most : secondNumber fs ≤ h .most
 
 pub counted : (h : Heading) (fs : List (List ℕ)) → firstFailing (headingTests h fs) ≡ none → Counted h fs
 unfolding sectionTests inRange

@@ -13,7 +13,7 @@ use Rattle.network.specs.Limits as L
 use Rattle.network.specs.declared.Network.{Network}
 use Rattle.network.proofs.Strategy.{reactionOf-most, reaction-with, reaction-other}
 use Rattle.names.proofs.Finds.{finds-answer}
-use Rattle.line.specs.Tests.{signalOf, sectionCount, letterTests, reactionTests}
+use Rattle.line.specs.Tests.{signalOf, secondNumber, letterTests, reactionTests}
 use Rattle.line.specs.Sections.{withLine}
 use Rattle.line.specs.declared.Section.the-variants.{Reactions}
 use Rattle.line.proofs.Checks.{all-hold}
@@ -44,7 +44,7 @@ module _ (sheet : List ℕ) (Γ : Network) (at k : ℕ) where
       let w = g .forming in
       let fs = cells sheet at in
       let q = Option·getD (signalOf Γ (field 0 fs)) 0 in
-      let minutes = sectionCount fs in
+      let minutes = secondNumber fs in
       let most = within L.fastest L.slowest (field 1 fs) (all-hold (reactionTests Γ fs) (p .accepted) 2) .most in
       let signal = reacting-signal p in
       record {
@@ -66,12 +66,12 @@ module _ (sheet : List ℕ) (Γ : Network) (at k : ℕ) where
                 positive = x .positive;
                 negative = x .negative;
               };
-          reacts = λ r.
+          in-range = λ r.
               elim (eq-or-ne r q) [
                 | inl e ↦
                     rw (e, reaction-with Γ q minutes (omega (arith, signal, w .signals, w .arrays .reactions)))
                     (reactionOf-most minutes most)
-                | inr n ↦ rw (reaction-other Γ q minutes r n) (w .reacts r)
+                | inr n ↦ rw (reaction-other Γ q minutes r n) (w .in-range r)
               ];
         };
         named = record { inside = g .named .inside; short = g .named .short };

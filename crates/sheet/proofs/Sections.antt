@@ -13,7 +13,7 @@ use Rattle.refusal.specs.declared.Cause.the-variants as C
 use Rattle.network.specs.Limits as L
 use Rattle.network.specs.Build.{empty}
 use Rattle.network.specs.declared.Network.{Network}
-use Rattle.line.specs.Tests.{sectionCount}
+use Rattle.line.specs.Tests.{secondNumber}
 use Rattle.line.specs.Sections.{Heading, headingOf, horizonHeading, headingTests}
 use Rattle.line.specs.Answers.{sectionAnswer, headingAt}
 use Rattle.line.specs.declared.Section.{Section}
@@ -32,7 +32,7 @@ use Rattle.sheet.proofs.Stages.{stage-section}
 -- the line at a place of the sheet, whose remaining part is given
 module _ (sheet : List ℕ) (at k : ℕ) (h : Heading) (rest : List ℕ) (is : rest ≡ drop at sheet) where
   section-at : headingAt rest h
-      ≡ sectionAnswer (refusalAt sheet at k (headingTests h)) (sectionCount (fields (lineAt sheet at)))
+      ≡ sectionAnswer (refusalAt sheet at k (headingTests h)) (secondNumber (fields (lineAt sheet at)))
       (length (lineAt sheet at))
   section-at = ap (λ (l : List ℕ). headingAt l h) is
 
@@ -41,7 +41,7 @@ module _ (sheet : List ℕ) (at k : ℕ) (h : Heading) (rest : List ℕ) (is : r
         → Stop (refusal c k) ≡ readLine sheet at k (headingTests h) next
     section-stop c e =
         sym (readLine-stop sheet at k (headingTests h) next c
-        (section-answer-refused (refusalAt sheet at k (headingTests h)) (sectionCount (fields (lineAt sheet at)))
+        (section-answer-refused (refusalAt sheet at k (headingTests h)) (secondNumber (fields (lineAt sheet at)))
         (length (lineAt sheet at)) c (sym section-at ∙ e)))
 
     -- the line passes, with count m and of length n
@@ -50,13 +50,13 @@ module _ (sheet : List ℕ) (at k : ℕ) (h : Heading) (rest : List ℕ) (is : r
       pub least : h .least ≤ m
       pub most : m ≤ h .most
       pub inside : at + n + 1 ≤ length sheet
-      pub count : sectionCount (fields (lineAt sheet at)) ≡ m
+      pub count : secondNumber (fields (lineAt sheet at)) ≡ m
       pub after : afterLine sheet at ≡ at + n + 1
       pub goes-on : readLine sheet at k (headingTests h) next ≡ next (fields (lineAt sheet at))
 
     pub section-read : (m n : ℕ) → headingAt rest h ≡ S.Count m n → SectionRead m n
     section-read m n e =
-        let w = section-answer (refusalAt sheet at k (headingTests h)) (sectionCount (fields (lineAt sheet at)))
+        let w = section-answer (refusalAt sheet at k (headingTests h)) (secondNumber (fields (lineAt sheet at)))
         (length (lineAt sheet at)) m n (sym section-at ∙ e) in
         let pass = passes sheet at k (headingTests h) (w .0) in
         let c = counted h (fields (lineAt sheet at)) (pass .accepted) in
@@ -76,7 +76,7 @@ module _ (sheet : List ℕ) (at k : ℕ) (h : Heading) (rest : List ℕ) (is : r
 -- a section, from its line on
 module _ (sheet : List ℕ) (s : Section) (at k : ℕ) (rest : List ℕ) (is : rest ≡ drop at sheet) (Γ : Network) where
   abbrev lines : List (List ℕ) → Progress
-  lines fs = readEntries sheet s (sectionCount fs) Γ (afterLine sheet at) (suc k)
+  lines fs = readEntries sheet s (secondNumber fs) Γ (afterLine sheet at) (suc k)
 
   pub section-stops : (c : Cause) → headingAt rest (headingOf s) ≡ S.Refused c → Stop (refusal c k)
       ≡ readSection sheet s Γ at k
@@ -104,7 +104,7 @@ module _ (sheet : List ℕ) where
   pub horizon-stops : (c : Cause) → headingAt sheet horizonHeading ≡ S.Refused c
       → Stop (refusal c 1) ≡ readHorizon sheet
   horizon-stops c e =
-      section-stop sheet 0 1 horizonHeading sheet refl (λ fs. Go (empty (sectionCount fs)) (afterLine sheet 0) 2) c e
+      section-stop sheet 0 1 horizonHeading sheet refl (λ fs. Go (empty (secondNumber fs)) (afterLine sheet 0) 2) c e
 
   pub record HorizonGoes (m n : ℕ) : Type 0 where
     pub most : m ≤ L.horizon
@@ -115,14 +115,14 @@ module _ (sheet : List ℕ) where
       → HorizonGoes m n
   horizon-goes m n e =
       let w = section-read sheet 0 1 horizonHeading sheet refl
-      (λ fs. Go (empty (sectionCount fs)) (afterLine sheet 0) 2) m n e in
+      (λ fs. Go (empty (secondNumber fs)) (afterLine sheet 0) 2) m n e in
       let count = w .count in
       let after : n + 1 ≡ afterLine sheet 0 = omega (arith, w .after) in
       record {
         most = w .most;
         inside = omega (arith, w .inside);
         goes = ap (λ (h : ℕ). Go (empty h) (n + 1) 2) (sym count)
-            ∙ ap (λ (b : ℕ). Go (empty (sectionCount (fields (lineAt sheet 0)))) b 2) after ∙ sym (w .goes-on);
+            ∙ ap (λ (b : ℕ). Go (empty (secondNumber (fields (lineAt sheet 0)))) b 2) after ∙ sym (w .goes-on);
       }
 
 -- the whole sheet

@@ -85,7 +85,7 @@ module _ (sheet : List ℕ) {m : ℕ} {Γ : Network} {at k : ℕ} where
                 positive = omega (arith, x .positive);
                 negative = omega (arith, x .negative);
               };
-          reacts = w .reacts;
+          in-range = w .in-range;
         };
         named = record { inside = g .named .inside; short = g .named .short };
         inside = line-inside sheet at (p .ends);

@@ -56,7 +56,7 @@ module _ (sheet : List ℕ) {Γ : Network} {at k : ℕ} where
           observed = w .observed;
           one-signal = w .one-signal;
           proper = w .proper;
-          reacts = w .reacts;
+          in-range = w .in-range;
         };
         named = g .named;
         inside = i;
@@ -116,7 +116,7 @@ module _ (sheet : List ℕ) {Γ : Network} {at k : ℕ} where
                 positive = x .positive;
                 negative = x .negative;
               };
-          reacts = w .reacts;
+          in-range = w .in-range;
         };
         named = record {
           inside = λ u h.

@@ -16,7 +16,7 @@ use Rattle.network.specs.Limits as L
 use Rattle.network.specs.Build.{empty}
 use Rattle.network.specs.WellFormed.{WellFormed, Named}
 use Rattle.network.specs.declared.Network.{Network}
-use Rattle.line.specs.Tests.{sectionCount}
+use Rattle.line.specs.Tests.{secondNumber}
 use Rattle.line.specs.Sections.{headingOf, horizonHeading, headingTests}
 use Rattle.network.proofs.Strategy.{reaction-empty}
 use Rattle.line.specs.declared.Section.{Section}
@@ -48,7 +48,7 @@ module _ (sheet : List ℕ) where
       observed = λ p q. absurd (omega arith);
       one-signal = λ p q a c e. absurd (omega arith);
       proper = λ c q. absurd (omega arith);
-      reacts = λ p. omega (arith, reaction-empty h p);
+      in-range = λ p. omega (arith, reaction-empty h p);
     };
     named = record { inside = λ u q. absurd (omega arith); short = λ u q. absurd (omega arith) };
     inside = i;
@@ -58,15 +58,15 @@ module _ (sheet : List ℕ) where
   -- the sheet is ready for the events behind the horizon, and behind each section for the next
   pub horizon-ready : (p : Progress) → p ≡ readHorizon sheet → Ready sheet (whole Events) p
   horizon-ready p i Γ at k e =
-      let w = went sheet 0 1 (headingTests horizonHeading) (λ fs. Go (empty (sectionCount fs)) (afterLine sheet 0) 2)
+      let w = went sheet 0 1 (headingTests horizonHeading) (λ fs. Go (empty (secondNumber fs)) (afterLine sheet 0) 2)
       Γ at k (sym i ∙ e) in
       let fs = fields (lineAt sheet 0) in
       let c = counted horizonHeading fs (w .passed .accepted) in
-      let network : empty (sectionCount fs) ≡ Γ = by-go (w .then) .0 in
+      let network : empty (secondNumber fs) ≡ Γ = by-go (w .then) .0 in
       let place : afterLine sheet 0 ≡ at = by-go (w .then) .1 in
       let line : 2 ≡ k = by-go (w .then) .2 in
       rw (← network, ← place, ← line)
-      (stage-empty (sectionCount fs) (afterLine sheet 0) 2 (c .most) (line-inside sheet 0 (w .passed .ends))
+      (stage-empty (secondNumber fs) (afterLine sheet 0) 2 (c .most) (line-inside sheet 0 (w .passed .ends))
       (omega arith))
     where
       by-go : {Γ Δ : Network} {a b j k : ℕ} → Go Γ a j ≡ Go Δ b k → (Γ ≡ Δ) × (a ≡ b) × (j ≡ k)
@@ -82,10 +82,10 @@ module _ (sheet : List ℕ) where
       let k = c .line in
       let fs = fields (lineAt sheet at) in
       let w = went sheet at k (headingTests head)
-      (λ fs. readEntries sheet s (sectionCount fs) Γ (afterLine sheet at) (suc k)) Δ b j (c .then) in
+      (λ fs. readEntries sheet s (secondNumber fs) Γ (afterLine sheet at) (suc k)) Δ b j (c .then) in
       let n = counted head fs (w .passed .accepted) in
-      entries-keep sheet s (Before sheet s) (stage-keeps sheet s) (sectionCount fs) Γ Δ (afterLine sheet at) (suc k) b j
-      (stage-section sheet s (sectionCount fs) (w .passed .ends) (n .least) (n .most) (h Γ at k (c .first))) (w .then)
+      entries-keep sheet s (Before sheet s) (stage-keeps sheet s) (secondNumber fs) Γ Δ (afterLine sheet at) (suc k) b j
+      (stage-section sheet s (secondNumber fs) (w .passed .ends) (n .least) (n .most) (h Γ at k (c .first))) (w .then)
 
   -- an optional section: behind it, or where it would begin, the sheet is ready for the end
   pub optional-ready : (s : Section) (p q : Progress) → q ≡ andThen p (readOptional sheet s)

@@ -7,7 +7,7 @@ use lib.ListN.{drop}
 use Rattle.text.specs.Lines.{lineAt, afterLine, fields}
 use Rattle.network.specs.Build.{empty}
 use Rattle.network.specs.declared.Network.{Network}
-use Rattle.line.specs.Tests.{Tests, lineTests, sectionCount}
+use Rattle.line.specs.Tests.{Tests, lineTests, secondNumber}
 use Rattle.line.specs.Sections.{headingOf, horizonHeading, headingTests, testsOf, withLine}
 use Rattle.line.specs.declared.Section.{Section}
 use Rattle.line.specs.declared.Section.the-variants.{Events, Signals, Rules, Reactions}
@@ -39,7 +39,7 @@ entries s more (suc m) = Entry s m
 -- what is expected behind a line with these fields
 abbrev pub expectedAfter : Expected → Bool → List (List ℕ) → Expected
 expectedAfter Horizon more fs = Heading Events
-expectedAfter (Heading s) more fs = entries s more (sectionCount fs)
+expectedAfter (Heading s) more fs = entries s more (secondNumber fs)
 expectedAfter (Entry s m) more fs = entries s more m
 expectedAfter NoMore more fs = NoMore
 
@@ -63,7 +63,7 @@ module _ (sheet : List ℕ) where
 
   -- what is defined behind a line with these fields that begins here
   abbrev pub definedAfter : Expected → Network → ℕ → List (List ℕ) → Network
-  definedAfter Horizon Γ at fs = empty (sectionCount fs)
+  definedAfter Horizon Γ at fs = empty (secondNumber fs)
   definedAfter (Heading s) Γ at fs = Γ
   definedAfter (Entry s m) Γ at fs = withLine sheet s Γ at fs
   definedAfter NoMore Γ at fs = Γ

@@ -13,7 +13,7 @@ use Rattle.refusal.specs.declared.Cause.the-variants as C
 use Rattle.refusal.specs.declared.Refusal.{Refusal}
 use Rattle.network.specs.Build.{empty}
 use Rattle.network.specs.declared.Network.{Network}
-use Rattle.line.specs.Tests.{Tests, lineTests, sectionCount}
+use Rattle.line.specs.Tests.{Tests, lineTests, secondNumber}
 use Rattle.line.specs.Sections.{headingOf, horizonHeading, headingTests, testsOf, withLine}
 use Rattle.line.specs.declared.Section.{Section}
 use Rattle.line.specs.declared.Section.the-variants.{Events, Signals, Rules, Reactions}
@@ -52,11 +52,11 @@ module _ (sheet : List ℕ) where
   -- a section: its heading, and then as many lines as that counts
   abbrev pub readSection : Section → Network → ℕ → ℕ → Progress
   readSection s Γ at k =
-      readLine at k (headingTests (headingOf s)) (λ fs. readEntries s (sectionCount fs) Γ (afterLine sheet at) (suc k))
+      readLine at k (headingTests (headingOf s)) (λ fs. readEntries s (secondNumber fs) Γ (afterLine sheet at) (suc k))
 
   -- the horizon, which is the first line
   abbrev pub readHorizon : Progress
-  readHorizon = readLine 0 1 (headingTests horizonHeading) (λ fs. Go (empty (sectionCount fs)) (afterLine sheet 0) 2)
+  readHorizon = readLine 0 1 (headingTests horizonHeading) (λ fs. Go (empty (secondNumber fs)) (afterLine sheet 0) 2)
 
   -- bytes stand from here on
   abbrev pub follows : ℕ → Bool

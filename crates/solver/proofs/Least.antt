@@ -50,7 +50,7 @@ module _ (Γ : Network) where
       sized = h .sized ∙ sym (length-replicate (cells Γ) 0);
       above = zeros-below (cells Γ) σ;
       closed = closed-of Γ σ (h .sized) (record { holds = h .viable })
-          (hyperarcs-agree Γ σ w .0 (record { alike = h .dynamic }));
+          (hyperarcs-agree Γ σ (w .observed) .0 (record { alike = h .dynamic }));
     }
 
     pub within-of-solution : (σ : List ℕ) → Solution Γ σ → within (cap Γ) σ ≡ true
@@ -62,7 +62,7 @@ module _ (Γ : Network) where
       sized = p .sized ∙ length-replicate (cells Γ) 0;
       on-time = on-time-of-within σ e;
       viable = viable-of Γ σ w (p .closed) .holds;
-      dynamic = hyperarcs-agree Γ σ w .1 (hyperarcs-of Γ σ w (p .closed)) .alike;
+      dynamic = hyperarcs-agree Γ σ (w .observed) .1 (hyperarcs-of Γ σ w (p .closed)) .alike;
     }
 
     ends : LeastOrNone (propagate Γ) (cap Γ) (step-rises Γ) (floor Γ) (solve Γ)

@@ -18,7 +18,7 @@ const NOT_YET: u16 = 65535;
 const TWICE: u16 = 65534;
 
 // A minute at which all that was given at minute 0 has been heard.
-const LATE: u16 = 65535;
+const LONG_AFTER: u16 = 65535;
 
 // Whether the number has the bit.
 fn has(mask: usize, bit: usize) -> bool
@@ -169,14 +169,14 @@ fn mask(network: Network, i: usize) -> u64
 {
     let a = first_letter(network);
     let first = [0; Network::SIGNALS];
-    let all = heard(network, 15, &first, LATE);
+    let all = heard(network, 15, &first, LONG_AFTER);
     match i {
         0 => 0,
         1 => with(0, a, true),
         2 => with(0, a, false),
         3 => all,
-        4 => heard(network, 0, &first, LATE),
-        5 => heard(network, 10 >> (network.signals % 2), &first, LATE),
+        4 => heard(network, 0, &first, LONG_AFTER),
+        5 => heard(network, 10 >> (network.signals % 2), &first, LONG_AFTER),
         6 => with(with(0, a, true), a, false),
         7 => with(with(0, a, true), a, true),
         8 => with(with(0, b'P', true), a, true),

@@ -41,13 +41,13 @@ element-copy-out-observation c =
     let asked = c .before .before .before .before .before .pre .0 in
     omega (arith, asked .few, asked .array)
 
-element-copy-out-given : tie.Need-element-copy-out-given Inv-loop μ-loop
-element-copy-out-given c =
+element-copy-out-stated : tie.Need-element-copy-out-stated Inv-loop μ-loop
+element-copy-out-stated c =
     let asked = c .before .before .before .before .before .before .pre .0 in
     omega (arith, asked .few, asked .reactions)
 
-mul-given : tie.Need-mul-given Inv-loop μ-loop
-mul-given c = omega (arith, c .before .before .before .before .before .before .pre .0 .few)
+mul-stated : tie.Need-mul-stated Inv-loop μ-loop
+mul-stated c = omega (arith, c .before .before .before .before .before .before .pre .0 .few)
 
 known-after-requires : tie.Need-known-after-requires Inv-loop μ-loop
 known-after-requires c κs =
@@ -85,5 +85,5 @@ returns c =
 pub apart-spec : {M : Type 1} → statement M
 apart-spec =
     tie.close
-    (tie.spec Inv-loop μ-loop loop-holds agree-requires mul-observation element-copy-out-observation mul-given
-    element-copy-out-given known-after-requires (λ c κs. search needs) add-p (λ c. search needs) loop-again returns)
+    (tie.spec Inv-loop μ-loop loop-holds agree-requires mul-observation element-copy-out-observation mul-stated
+    element-copy-out-stated known-after-requires (λ c κs. search needs) add-p (λ c. search needs) loop-again returns)

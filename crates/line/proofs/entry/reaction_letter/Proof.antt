@@ -15,9 +15,9 @@ use Rattle.names.specs.Found.{foundOf, isFound, placeOr}
 use Rattle.names.proofs.Finds.{found-some, found-answers, found-place}
 use Rattle.names.proofs.Labels.{place-is}
 use Rattle.line.specs.Tests.{signalOf, letterTests}
-use Rattle.line.specs.Answers.{partsOf, checkOf, givenFound}
+use Rattle.line.specs.Answers.{partsOf, checkOf, statedFound}
 use Rattle.line.proofs.Refusals.{check-refused, check-passed}
-use Rattle.line.proofs.ReactionRefusals.{given-found, letter-tests}
+use Rattle.line.proofs.ReactionRefusals.{stated-found, letter-tests}
 use Rattle.line.proofs.entry.reaction_letter.Statement.{statement}
 use Rattle.line.proofs.entry.reaction_letter.Tie as tie
 
@@ -56,7 +56,7 @@ checked c =
     c .first-failing .ensures
     ∙ ap checkOf (letter-tests (parts z) (z .args .f .now) (at-found .before .before .is-one-letter .ensures)
     (at-found .before .is-unsaid .ensures
-    ∙ ap not (ap (givenFound (z .args .reactions .now)) (sought at-place) ∙ given-found (parts z) (signal z)))
+    ∙ ap not (ap (statedFound (z .args .reactions .now)) (sought at-place) ∙ stated-found (parts z) (signal z)))
     (at-found .is-found .ensures ∙ ap isFound (sought at-place) ∙ found-answers (signal z)))
 
 returns : tie.Need-returns
