@@ -27,7 +27,7 @@ use refusal::Refusal;
 fn read_entries(
     section: Section,
     sheet: &[u8],
-    network: Network,
+    mut network: Network,
     m: usize,
     at: usize,
     k: u16,
@@ -35,7 +35,6 @@ fn read_entries(
     requires { ⌜ (length (now sheet) ≤ longest) × Stage (now sheet) (toCome section m) network at k ⌝ }
     ensures { λ r. ⌜ progressOf r ≡ readEntries (now (sheet .entry)) section m network at k ⌝ }
 {
-    let mut w = network;
     let mut place = at;
     let mut line = k;
     let mut left = m;
@@ -44,42 +43,42 @@ fn read_entries(
             section,
             sheet,
             &sheet[place..],
-            w.events,
-            &w.starts,
-            &w.lengths,
-            w.signals,
-            &w.letters,
-            &w.observations,
-            &w.reactions,
+            network.events,
+            &network.starts,
+            &network.lengths,
+            network.signals,
+            &network.letters,
+            &network.observations,
+            &network.reactions,
         );
         match read {
             EntryLine::Refused(cause) => {
-                return refused(cause, line, w);
+                return refused(cause, line, network);
             }
             EntryLine::Holds { entry, length } => {
                 match entry {
                     Entry::Event => {
-                        let n = w.events;
-                        w.starts[n] = place;
-                        w.lengths[n] = length;
-                        w.events = n + 1;
+                        let n = network.events;
+                        network.starts[n] = place;
+                        network.lengths[n] = length;
+                        network.events = n + 1;
                     }
                     Entry::Signal {
                         letter,
                         observation,
                     } => {
-                        let n = w.signals;
-                        w.letters[n] = letter;
-                        w.observations[n] = observation;
-                        w.signals = n + 1;
+                        let n = network.signals;
+                        network.letters[n] = letter;
+                        network.observations[n] = observation;
+                        network.signals = n + 1;
                     }
                     Entry::Rule(constraint) => {
-                        let n = w.rules;
-                        w.constraints[n] = constraint;
-                        w.rules = n + 1;
+                        let n = network.rules;
+                        network.constraints[n] = constraint;
+                        network.rules = n + 1;
                     }
                     Entry::Reaction { signal, minutes } => {
-                        w.reactions[signal] = minutes;
+                        network.reactions[signal] = minutes;
                     }
                 }
                 place = place + length + 1;
@@ -90,7 +89,7 @@ fn read_entries(
     }
     Reached {
         step: Step::Next { at: place, line },
-        network: w,
+        network,
     }
 }
 

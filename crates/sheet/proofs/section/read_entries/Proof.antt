@@ -14,11 +14,11 @@ use Rattle.sheet.proofs.section.read_entries.Statement.{statement}
 use Rattle.sheet.proofs.section.read_entries.Tie as tie
 
 abbrev Inv-loop : tie.InvT-loop
-Inv-loop section sheet m at k w₀ place₀ line₀ left₀ w place line left =
-    EntriesLeft sheet section (readEntries sheet section m w₀ at k) left w place line
+Inv-loop section sheet m at k network₀ place₀ line₀ left₀ network place line left =
+    EntriesLeft sheet section (readEntries sheet section m network₀ at k) left network place line
 
 abbrev μ-loop : tie.MeasureT-loop
-μ-loop section sheet m at k w₀ place₀ line₀ left₀ w place line left = left
+μ-loop section sheet m at k network₀ place₀ line₀ left₀ network place line left = left
 
 loop-holds : tie.Need-loop-holds Inv-loop μ-loop
 loop-holds c = record { rest = refl; stage = c .before .pre .1 }
@@ -60,34 +60,34 @@ turn d =
     entry-turn (here .before .loop .inv) (here .loop-test .taken) (read2 .given .0 .0) (read2 .given .0 .1 .0)
     (sym (d .before .before .before .entry-at .ensures) ∙ read2 .given .1)
 
-mul-w : tie.Need-mul-w Inv-loop μ-loop
-mul-w c = let room = rw (c .enum-told .given .1) at (turn (c .before .before) .room) in omega arith
+mul-network : tie.Need-mul-network Inv-loop μ-loop
+mul-network c = let room = rw (c .enum-told .given .1) at (turn (c .before .before) .room) in omega arith
 
-element-write-w : tie.Need-element-write-w Inv-loop μ-loop
-element-write-w c = let room = rw (c .enum-told .given .1) at (turn (c .before .before) .room) in omega arith
+element-write-network : tie.Need-element-write-network Inv-loop μ-loop
+element-write-network c = let room = rw (c .enum-told .given .1) at (turn (c .before .before) .room) in omega arith
 
-mul-w-2 : tie.Need-mul-w-2 Inv-loop μ-loop
-mul-w-2 c = let room = rw (c .enum-told .given .1) at (turn (c .before .before) .room) in omega arith
+mul-network-2 : tie.Need-mul-network-2 Inv-loop μ-loop
+mul-network-2 c = let room = rw (c .enum-told .given .1) at (turn (c .before .before) .room) in omega arith
 
-element-write-w-2 : tie.Need-element-write-w-2 Inv-loop μ-loop
-element-write-w-2 c = let room = rw (c .enum-told .given .1) at (turn (c .before .before) .room) in omega arith
+element-write-network-2 : tie.Need-element-write-network-2 Inv-loop μ-loop
+element-write-network-2 c = let room = rw (c .enum-told .given .1) at (turn (c .before .before) .room) in omega arith
 
-add-w : tie.Need-add-w Inv-loop μ-loop
-add-w c = let room = rw (c .enum-told .given .1) at (turn (c .before .before) .room) in omega arith
+add-network : tie.Need-add-network Inv-loop μ-loop
+add-network c = let room = rw (c .enum-told .given .1) at (turn (c .before .before) .room) in omega arith
 
-element-write-w-3 : tie.Need-element-write-w-3 Inv-loop μ-loop
-element-write-w-3 c = let room = rw (c .before .entry .given .1) at (turn (c .before .before .before) .room)
+element-write-network-3 : tie.Need-element-write-network-3 Inv-loop μ-loop
+element-write-network-3 c = let room = rw (c .before .entry .given .1) at (turn (c .before .before .before) .room)
     in omega arith
 
-mul-w-3 : tie.Need-mul-w-3 Inv-loop μ-loop
-mul-w-3 c = let room = rw (c .before .entry .given .1) at (turn (c .before .before .before) .room) in omega arith
+mul-network-3 : tie.Need-mul-network-3 Inv-loop μ-loop
+mul-network-3 c = let room = rw (c .before .entry .given .1) at (turn (c .before .before .before) .room) in omega arith
 
-element-write-w-4 : tie.Need-element-write-w-4 Inv-loop μ-loop
-element-write-w-4 c = let room = rw (c .before .entry .given .1) at (turn (c .before .before .before) .room)
+element-write-network-4 : tie.Need-element-write-network-4 Inv-loop μ-loop
+element-write-network-4 c = let room = rw (c .before .entry .given .1) at (turn (c .before .before .before) .room)
     in omega arith
 
-add-w-2 : tie.Need-add-w-2 Inv-loop μ-loop
-add-w-2 c = let room = rw (c .before .entry .given .1) at (turn (c .before .before .before) .room) in omega arith
+add-network-2 : tie.Need-add-network-2 Inv-loop μ-loop
+add-network-2 c = let room = rw (c .before .entry .given .1) at (turn (c .before .before .before) .room) in omega arith
 
 mul-constraint : tie.Need-mul-constraint Inv-loop μ-loop
 mul-constraint c = let room = rw (c .before .entry2 .given .1) at (turn (c .before .before .before) .room)
@@ -97,14 +97,14 @@ element-set-from-constraint : tie.Need-element-set-from-constraint Inv-loop μ-l
 element-set-from-constraint c = let room = rw (c .before .entry2 .given .1) at (turn (c .before .before .before) .room)
     in omega arith
 
-add-w-3 : tie.Need-add-w-3 Inv-loop μ-loop
-add-w-3 c = let room = rw (c .before .entry2 .given .1) at (turn (c .before .before .before) .room) in omega arith
+add-network-3 : tie.Need-add-network-3 Inv-loop μ-loop
+add-network-3 c = let room = rw (c .before .entry2 .given .1) at (turn (c .before .before .before) .room) in omega arith
 
-mul-w-4 : tie.Need-mul-w-4 Inv-loop μ-loop
-mul-w-4 c = let room = rw (c .before .entry3 .given .1) at (turn (c .before .before .before) .room) in omega arith
+mul-network-4 : tie.Need-mul-network-4 Inv-loop μ-loop
+mul-network-4 c = let room = rw (c .before .entry3 .given .1) at (turn (c .before .before .before) .room) in omega arith
 
-element-write-w-5 : tie.Need-element-write-w-5 Inv-loop μ-loop
-element-write-w-5 c = let room = rw (c .before .entry3 .given .1) at (turn (c .before .before .before) .room)
+element-write-network-5 : tie.Need-element-write-network-5 Inv-loop μ-loop
+element-write-network-5 c = let room = rw (c .before .entry3 .given .1) at (turn (c .before .before .before) .room)
     in omega arith
 
 -- the sheet is short, so that places and lines are small
@@ -133,7 +133,7 @@ loop-again : tie.Need-loop-again Inv-loop μ-loop
 loop-again c =
     let read2 = c .before .before .read2 in
     let loop = in-turn (c .before) .before .loop in
-    let grown : c .match2 .w ≡ added (read2 .given .0 .0) (loop .w) (loop .place) (read2 .given .0 .1 .0) =
+    let grown : c .match2 .network ≡ added (read2 .given .0 .0) (loop .network) (loop .place) (read2 .given .0 .1 .0) =
     elim (c .match2 .came) [
       | inl w ↦ w .2 ∙ sym (rw (w .1 .given .1))
       | inr (inl w) ↦ w .3 ∙ sym (rw (w .1 .given .1))
@@ -149,8 +149,8 @@ pub read-entries-spec : {M : Type 1} → statement M
 read-entries-spec =
     tie.close
     (tie.spec Inv-loop μ-loop loop-holds sub-entry-at part-entry-at-start (λ c. search needs) entry-at-requires
-    (λ c. search needs) (λ c κs. search needs) returns (λ c. search needs) (λ c. search needs) mul-w element-write-w
-    mul-w-2 element-write-w-2 add-w (λ c. search needs) element-write-w-3 mul-w-3 element-write-w-4 add-w-2
-    (λ c. search needs) mul-constraint element-set-from-constraint add-w-3 (λ c. search needs) mul-w-4
-    element-write-w-5 add-place add-place-2 add-line sub-left
+    (λ c. search needs) (λ c κs. search needs) returns (λ c. search needs) (λ c. search needs) mul-network element-write-network
+    mul-network-2 element-write-network-2 add-network (λ c. search needs) element-write-network-3 mul-network-3 element-write-network-4 add-network-2
+    (λ c. search needs) mul-constraint element-set-from-constraint add-network-3 (λ c. search needs) mul-network-4
+    element-write-network-5 add-place add-place-2 add-line sub-left
     loop-less loop-again returns-2)
