@@ -37,7 +37,8 @@ use Rattle.canonical.specs.Same.{Same}
 use Rattle.canonical.proofs.Faithful.{faithful}
 use Rattle.canonical.proofs.Likeness.{text-same}
 use Rattle.calls.specs.Lent.{Handed, Lent, asMinutes, asBytes, inPlace}
-use Rattle.calls.specs.Calls.{countsOf, summary, judgingTests, judging, enough, writing, refusing, rests, solvingTests, solvingInto}
+use Rattle.calls.specs.Calls.{countsOf, summary, judgingTests, judging, enough, writing}
+use Rattle.calls.specs.Calls.{refusing, rests, solvingTests, solvingInto}
 use Rattle.calls.specs.Calls.{listingTests, listingOf, fit, houseTests, housed}
 use Rattle.calls.specs.Play.{named, everHeard, eventsOf, isPass, playingTests, playing, eventsDue, eventsDueOn}
 use Rattle.calls.specs.Bench.{benchDue}
@@ -71,9 +72,9 @@ module _ (sheet other : List ℕ) (a : read sheet .outcome ≡ Accepted) (b : re
 
   summaries : summary sheet ≡ summary other
   summaries =
-      calls-alike S.Refused sheet other (λ _. []) (λ _. []) (λ Γ. S.Accepted (countsOf Γ)) (λ Γ. S.Accepted (countsOf Γ))
-      a b refl (λ _. let w′ = w .agrees in
-      rw (w′ .horizon, w′ .events, w′ .signals, w .rules) refl)
+      calls-alike S.Refused sheet other (λ _. []) (λ _. []) (λ Γ. S.Accepted (countsOf Γ))
+      (λ Γ. S.Accepted (countsOf Γ)) a b refl
+      (λ _. rw (w .agrees .horizon, w .agrees .events, w .agrees .signals, w .rules) refl)
 
   verdicts : (t : Handed) → judging sheet t ≡ judging other t
   verdicts t =

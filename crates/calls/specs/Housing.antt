@@ -45,7 +45,7 @@ pub record Housing : Type 0 where
       → WroteText f m (housed f m)
   -- "The form reads back to the same good tables"
   pub tables : (sheet f : List ℕ) (Γ Δ : Network) → Form sheet Γ f → Reads f Δ → SameTables Γ Δ
-  -- "Two sheets give equal bytes if and only if their horizons, event lists, signal lists and remaining rows are equal",
-  -- and "equal bytes now also means equal reactions"
+  -- "Two sheets give equal bytes if and only if their horizons, event lists, signal lists and remaining rows are
+  -- equal", and "equal bytes now also means equal reactions"
   pub equal : (sheet other f g : List ℕ) (Γ Δ : Network) → Form sheet Γ f → Form other Δ g
       → (f ≡ g) ↔ Same sheet Γ other Δ

@@ -1,5 +1,5 @@
--- Upper bounds and reactions as a form writes them: one table each, which one theorem each covers by computation. Assumes
--- nothing.
+-- Upper bounds and reactions as a form writes them: one table each, which one theorem each covers by computation.
+-- Assumes nothing.
 use mathlib.Core.Path.{_≡_, refl}
 use mathlib.Core.Bool.{Bool, true, _&&_}
 use mathlib.Core.List.{List, [], _∷_, _++_}
@@ -62,15 +62,18 @@ allAgree (e ∷ es) = agrees e && allAgree es
 pub examples-agree : allAgree examples ≡ true
 examples-agree = refl
 
--- the reactions of q, p and r, 0 where there is no line, and what is written of them: those other than 1, in signal order
+-- lines of text, each with its line feed
 abbrev lines : List String → List ℕ
 lines [] = []
 lines (l ∷ ls) = ascii l ++ lineFeed ∷ lines ls
 
+-- whether of the reactions of q, p and r, 0 where there is no line, these lines are written
 abbrev written : ℕ → ℕ → ℕ → List String → Bool
 written q p r ls =
-    same (reactionsText (sectionOf (slowOf (withReaction (withReaction (withReaction network 0 q) 1 p) 2 r)))) (lines ls)
+    let reacting = withReaction (withReaction (withReaction network 0 q) 1 p) 2 r in
+    same (reactionsText (sectionOf (slowOf reacting))) (lines ls)
 
+-- those other than 1, in signal order, and no section if there are none
 pub reactions-agree :
     written 2 1 3 ("reactions,2" ∷ "q,2" ∷ "r,3" ∷ [])
     && (written 60 0 0 ("reactions,1" ∷ "q,60" ∷ [])

@@ -1,5 +1,5 @@
--- The rules that the contents of a sheet keep: counts and ranges, names and letters defined once and before they are used
--- (01, The sheet; 02, point 3).
+-- The rules that the contents of a sheet keep: counts and ranges, names and letters defined once and before they are
+-- used (01, The sheet; 02, point 3).
 use mathlib.Core.Path.{_≡_}
 use mathlib.Core.Bool.{true}
 use mathlib.Core.List.{List, []}

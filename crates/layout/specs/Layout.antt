@@ -1,5 +1,5 @@
--- The layout of a sheet: how its contents are written, and that a sheet is that text and nothing else. Nothing here reads
--- (01, The sheet; 02, point 3).
+-- The layout of a sheet: how its contents are written, and that a sheet is that text and nothing else. Nothing here
+-- reads (01, The sheet; 02, point 3).
 use mathlib.Core.Path.{_≡_}
 use mathlib.Core.Bool.{Bool, true, false}
 use mathlib.Core.Option.{Option, none, some}

@@ -149,8 +149,8 @@ pub read-entries-spec : {M : Type 1} → statement M
 read-entries-spec =
     tie.close
     (tie.spec Inv-loop μ-loop loop-holds sub-entry-at part-entry-at-start (λ c. search needs) entry-at-requires
-    (λ c. search needs) (λ c κs. search needs) returns (λ c. search needs) (λ c. search needs) mul-network element-write-network
-    mul-network-2 element-write-network-2 add-network (λ c. search needs) element-write-network-3 mul-network-3 element-write-network-4 add-network-2
-    (λ c. search needs) mul-constraint element-set-from-constraint add-network-3 (λ c. search needs) mul-network-4
-    element-write-network-5 add-place add-place-2 add-line sub-left
-    loop-less loop-again returns-2)
+    (λ c. search needs) (λ c κs. search needs) returns (λ c. search needs) (λ c. search needs) mul-network
+    element-write-network mul-network-2 element-write-network-2 add-network (λ c. search needs)
+    element-write-network-3 mul-network-3 element-write-network-4 add-network-2 (λ c. search needs) mul-constraint
+    element-set-from-constraint add-network-3 (λ c. search needs) mul-network-4 element-write-network-5 add-place
+    add-place-2 add-line sub-left loop-less loop-again returns-2)
