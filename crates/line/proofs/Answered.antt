@@ -47,26 +47,28 @@ section-answer (some d) m n a b e = zero-is-one cc
 abbrev pub partAt : List ℕ → ℕ → List ℕ
 partAt sheet at = take (length sheet - at) (drop at sheet)
 
+-- whether an event gives a signal, and whether a signal has a line, by the parts of a network that are asked
+observation-same : (Γ Δ : Network) (o : Option ℕ) → Γ .signals ≡ Δ .signals → Γ .observations ≡ Δ .observations
+    → isObservation Γ o ≡ isObservation Δ o
+observation-same Γ Δ none a b = refl
+observation-same Γ Δ (some u) a b = rw (a, b)
+
+line-same : (Γ Δ : Network) (o : Option ℕ) → Γ .reactions ≡ Δ .reactions → hasLine Γ o ≡ hasLine Δ o
+line-same Γ Δ none a = refl
+line-same Γ Δ (some p) a = rw a
+
 -- the parts of a network that the lines are read against say what it says
 module _ (sheet : List ℕ) (Γ : Network) (fs : List (List ℕ)) where
   abbrev parts : Network
   parts =
       partsOf (Γ .events) (Γ .starts) (Γ .lengths) (Γ .signals) (Γ .letters) (Γ .observations) (Γ .reactions)
 
-  observation-parts : (o : Option ℕ) → isObservation parts o ≡ isObservation Γ o
-  observation-parts none = refl
-  observation-parts (some u) = refl
-
-  reaction-parts : (o : Option ℕ) → hasLine parts o ≡ hasLine Γ o
-  reaction-parts none = refl
-  reaction-parts (some p) = refl
-
   tests-parts : (s : Section) → testsOf sheet s parts fs ≡ testsOf sheet s Γ fs
   unfolding eventTests signalTests endsTests ruleTests letterTests reactionTests
   tests-parts Events = refl
-  tests-parts Signals = rw (observation-parts (eventOf sheet Γ (field 1 fs)))
+  tests-parts Signals = rw (observation-same parts Γ (eventOf sheet Γ (field 1 fs)) refl refl)
   tests-parts Rules = refl
-  tests-parts Reactions = rw (reaction-parts (signalOf Γ (field 0 fs)))
+  tests-parts Reactions = rw (line-same parts Γ (signalOf Γ (field 0 fs)) refl)
 
   entry-parts : (s : Section) → entryOf sheet s parts fs ≡ entryOf sheet s Γ fs
   entry-parts Events = refl
@@ -86,25 +88,19 @@ module _ (sheet : List ℕ) (Γ : Network) (line : List ℕ) where
   unfolding endsTests ruleTests
   rule-parts = refl
 
-  signal-asks : (o : Option ℕ) → isObservation (partsOf (Γ .events) (Γ .starts) (Γ .lengths) (Γ .signals) (Γ .letters)
-      (Γ .observations) []) o ≡ isObservation Γ o
-  signal-asks none = refl
-  signal-asks (some u) = refl
+  abbrev signalParts : Network
+  signalParts = partsOf (Γ .events) (Γ .starts) (Γ .lengths) (Γ .signals) (Γ .letters) (Γ .observations) []
 
-  pub signal-parts : entryBy line Signals sheet (partsOf (Γ .events) (Γ .starts) (Γ .lengths) (Γ .signals) (Γ .letters)
-      (Γ .observations) []) ≡ entryBy line Signals sheet Γ
+  pub signal-parts : entryBy line Signals sheet signalParts ≡ entryBy line Signals sheet Γ
   unfolding signalTests
-  signal-parts = rw (signal-asks (eventOf sheet Γ (field 1 (fields line))))
+  signal-parts = rw (observation-same signalParts Γ (eventOf sheet Γ (field 1 (fields line))) refl refl)
 
-  reaction-asks : (o : Option ℕ) → hasLine (partsOf 0 [] [] (Γ .signals) (Γ .letters) [] (Γ .reactions)) o
-      ≡ hasLine Γ o
-  reaction-asks none = refl
-  reaction-asks (some p) = refl
+  abbrev reactionParts : Network
+  reactionParts = partsOf 0 [] [] (Γ .signals) (Γ .letters) [] (Γ .reactions)
 
-  pub reaction-parts-are : entryBy line Reactions sheet (partsOf 0 [] [] (Γ .signals) (Γ .letters) [] (Γ .reactions))
-      ≡ entryBy line Reactions sheet Γ
+  pub reaction-parts : entryBy line Reactions sheet reactionParts ≡ entryBy line Reactions sheet Γ
   unfolding letterTests reactionTests
-  reaction-parts-are = rw (reaction-asks (signalOf Γ (field 0 (fields line))))
+  reaction-parts = rw (line-same reactionParts Γ (signalOf Γ (field 0 (fields line))) refl)
 
 -- a line that ends at e is read by its fields
 pub entry-ends : (sheet : List ℕ) (Γ : Network) (rest : List ℕ) (e : ℕ) → e ≡ length (upTo lineFeed rest)

@@ -23,7 +23,7 @@ lesser-requires c κs =
     let z = c .before .before .before in
     let loop = c .before .before .loop in
     let test = c .before .loop-test in
-    (omega (arith, loop .inv .low (loop .d) (test .taken), z .pre .3 (loop .d) (test .taken)), z .pre .2)
+    (omega (arith, loop .inv .low (loop .d) (test .taken), z .pre .3 (loop .d) (test .taken)), omega (arith, z .pre .2))
 
 loop-again : tie.Need-loop-again Inv-loop μ-loop
 loop-again c =
