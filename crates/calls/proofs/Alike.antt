@@ -11,12 +11,12 @@ use Rattle.prelude.proofs.Tests.{either}
 use Rattle.refusal.specs.declared.Cause.the-variants as C
 use Rattle.network.specs.Build.{cells}
 use Rattle.network.specs.declared.Network.{Network}
-use Rattle.line.specs.Tests.{Tests}
 use Rattle.sheet.specs.Reading.{read}
 use Rattle.sheet.specs.declared.Outcome.the-variants.{Accepted}
 use Rattle.checker.specs.Verdict.{verdict}
 use Rattle.dispatch.specs.declared.Dispatched.{Dispatched}
 use Rattle.listing.specs.Listing.{listing}
+use Rattle.calls.specs.Call.{withoutLine, Tests}
 use Rattle.calls.specs.Lent.{Handed, inPlace}
 use Rattle.calls.specs.Calls.{judgingTests, judging, enough, writing, refusing, listingTests, listingOf}
 use Rattle.calls.specs.Play.{named, everHeard, eventsOf, isPass, playingTests, playing}
@@ -36,8 +36,8 @@ module _ (sheet : List ℕ) (t t′ : Handed)
 
   -- a list of tests that begins with that of the length
   same-tests : read sheet .outcome ≡ Accepted → (rest rest′ : Tests) → (t .has (cells net) ≡ true → rest ≡ rest′)
-      → firstFailing ((t .has (cells net), C.WrongTableLength) ∷ rest)
-      ≡ firstFailing ((t′ .has (cells net), C.WrongTableLength) ∷ rest′)
+      → firstFailing ((t .has (cells net), withoutLine C.WrongTableLength) ∷ rest)
+      ≡ firstFailing ((t′ .has (cells net), withoutLine C.WrongTableLength) ∷ rest′)
   same-tests a rest rest′ same =
       elim (either (t .has (cells net))) [
         | inl e ↦ let e′ : t′ .has (cells net) ≡ true = sym (alike a .has) ∙ e in rw (e, e′, same e)
@@ -71,7 +71,7 @@ module _ (sheet : List ℕ) (t t′ : Handed)
     where
       rest : List ℕ → Dispatched → Tests
       rest σ d =
-          (isPass (verdict net σ), C.TableFails) ∷ (named d, C.MisnamedSignal) ∷ (everHeard d, C.NeverHeard) ∷ []
+          (isPass (verdict net σ), withoutLine C.TableFails) ∷ (named d, withoutLine C.MisnamedSignal) ∷ (everHeard d, withoutLine C.NeverHeard) ∷ []
 
 pub itself : (t : Handed) (n : ℕ) → Alike t t n
 itself t n = record { has = refl; minutes = λ _. refl }

@@ -6,17 +6,15 @@ use mathlib.Core.List.{List}
 use Prim.Native.Nat.{ℕ}
 use Rattle.prelude.specs.Checks.{firstFailing, Hold, FirstFails}
 use Rattle.prelude.proofs.Checks.{hold, none-fails, first-fails, some-fails}
-use Rattle.refusal.specs.declared.Cause.{Cause}
 use Rattle.refusal.specs.declared.Refusal.{Refusal}
 use Rattle.network.specs.WellFormed.{WellFormed, Named}
 use Rattle.network.specs.declared.Network.{Network}
-use Rattle.line.specs.Tests.{Tests}
 use Rattle.sheet.specs.Reading.{read}
 use Rattle.sheet.specs.declared.Outcome.{Outcome}
 use Rattle.sheet.specs.declared.Outcome.the-variants.{Accepted, Refused}
 use Rattle.sheet.specs.declared.Reading.{Reading}
 use Rattle.sheet.proofs.WellFormed.{accepted-well-formed}
-use Rattle.calls.specs.Call.{withoutLine, tested, answerBy, call}
+use Rattle.calls.specs.Call.{Tests, tested, answerBy, call}
 use Rattle.calls.specs.Answers.{Reads}
 
 module _ {A : Type 0} (refuse : Refusal → A) (sheet : List ℕ) (tests : Network → Tests) (work : Network → A) where
@@ -30,15 +28,14 @@ module _ {A : Type 0} (refuse : Refusal → A) (sheet : List ℕ) (tests : Netwo
     call-refused r p = by-outcome (Refused r) p
 
     module _ (a : g .outcome ≡ Accepted) where
-      by-tests : (o : Option Cause) → firstFailing (tests (g .network)) ≡ o
+      by-tests : (o : Option Refusal) → firstFailing (tests (g .network)) ≡ o
           → answerBy refuse (tested Accepted o) (work (g .network)) ≡ call refuse sheet tests work
       by-tests o p =
-          ap (λ (x : Option Cause). answerBy refuse (tested Accepted x) (work (g .network))) (sym p)
+          ap (λ (x : Option Refusal). answerBy refuse (tested Accepted x) (work (g .network))) (sym p)
           ∙ by-outcome Accepted a
 
-      pub call-fails : (c : Cause) → FirstFails (tests (g .network)) c
-          → refuse (withoutLine c) ≡ call refuse sheet tests work
-      call-fails c f = by-tests (some c) (some-fails (tests (g .network)) c f)
+      pub call-fails : (r : Refusal) → FirstFails (tests (g .network)) r → refuse r ≡ call refuse sheet tests work
+      call-fails r f = by-tests (some r) (some-fails (tests (g .network)) r f)
 
       pub call-works : Hold (tests (g .network)) → work (g .network) ≡ call refuse sheet tests work
       call-works h = by-tests none (none-fails (tests (g .network)) h)
@@ -46,20 +43,20 @@ module _ {A : Type 0} (refuse : Refusal → A) (sheet : List ℕ) (tests : Netwo
   -- and there is no other end
   pub data Ends : Type 0 where
     faulty : (r : Refusal) → read sheet .outcome ≡ Refused r → refuse r ≡ call refuse sheet tests work → Ends
-    failed : read sheet .outcome ≡ Accepted → (c : Cause) → FirstFails (tests (read sheet .network)) c
-        → refuse (withoutLine c) ≡ call refuse sheet tests work → Ends
+    failed : read sheet .outcome ≡ Accepted → (r : Refusal) → FirstFails (tests (read sheet .network)) r
+        → refuse r ≡ call refuse sheet tests work → Ends
     worked : read sheet .outcome ≡ Accepted → Hold (tests (read sheet .network))
         → work (read sheet .network) ≡ call refuse sheet tests work → Ends
 
   pub ends : Ends
   ends = by-reading (read sheet .outcome) refl
     where
-      by-first : read sheet .outcome ≡ Accepted → (o : Option Cause) → firstFailing (tests (read sheet .network)) ≡ o
+      by-first : read sheet .outcome ≡ Accepted → (o : Option Refusal) → firstFailing (tests (read sheet .network)) ≡ o
           → Ends
       by-first a none p = let h = hold (tests (read sheet .network)) p in worked a h (call-works (read sheet) refl a h)
-      by-first a (some c) p =
-          let f = first-fails (tests (read sheet .network)) c p in
-          failed a c f (call-fails (read sheet) refl a c f)
+      by-first a (some r) p =
+          let f = first-fails (tests (read sheet .network)) r p in
+          failed a r f (call-fails (read sheet) refl a r f)
 
       by-reading : (o : Outcome) → read sheet .outcome ≡ o → Ends
       by-reading Accepted a = by-first a (firstFailing (tests (read sheet .network))) refl
@@ -79,11 +76,11 @@ calls-alike refuse sheet other tests tests′ work work′ a b e works = by-firs
     Δ : Network
     Δ = read other .network
 
-    by-first : (o : Option Cause) → firstFailing (tests Γ) ≡ o
+    by-first : (o : Option Refusal) → firstFailing (tests Γ) ≡ o
         → call refuse sheet tests work ≡ call refuse other tests′ work′
-    by-first (some c) p =
-        sym (call-fails refuse sheet tests work (read sheet) refl a c (first-fails (tests Γ) c p))
-        ∙ call-fails refuse other tests′ work′ (read other) refl b c (first-fails (tests′ Δ) c (sym e ∙ p))
+    by-first (some r) p =
+        sym (call-fails refuse sheet tests work (read sheet) refl a r (first-fails (tests Γ) r p))
+        ∙ call-fails refuse other tests′ work′ (read other) refl b r (first-fails (tests′ Δ) r (sym e ∙ p))
     by-first none p =
         sym (call-works refuse sheet tests work (read sheet) refl a (hold (tests Γ) p))
         ∙ works (hold (tests Γ) p)

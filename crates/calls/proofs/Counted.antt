@@ -5,12 +5,11 @@ use Prim.Native.Nat.{ℕ, _≤_}
 use native.Mathlib.Omega.{arith}
 use lib.ListN.{length, drop, length-append}
 use Rattle.network.specs.declared.Network.{Network}
-use Rattle.line.specs.Tests.{Tests}
 use Rattle.sheet.specs.Reading.{read}
 use Rattle.solver.specs.Solve.{solve}
 use Rattle.listing.specs.Listing.{listing}
 use Rattle.canonical.specs.House.{houseText}
-use Rattle.calls.specs.Call.{call, Left, Leaves}
+use Rattle.calls.specs.Call.{Tests, call, Left, Leaves}
 use Rattle.calls.specs.Lent.{asMinutes, inPlace}
 use Rattle.calls.specs.Calls.{writtenValues, writing, refusing, solvingTests, solving, listingTests, listed}
 use Rattle.calls.specs.Calls.{houseTests, housed}

@@ -25,8 +25,6 @@ use Rattle.calls.specs.Header.{JudgeHolds, CountHolds}
 use Rattle.calls.specs.declared.Judgement.{Judgement}
 use Rattle.calls.specs.declared.Judgement.the-variants as J
 use Rattle.calls.proofs.Call.{Ends, faulty, failed, worked, ends}
-use Rattle.calls.proofs.Settled.{areOwn}
-use Rattle.calls.proofs.Answers.{line-short}
 use Rattle.calls.proofs.Small.{verdict-small, solving-small, listing-small, house-small, playing-small}
 use Rattle.calls.proofs.Small.{text-small}
 use Rattle.calls.proofs.Numbers.{numbers}
@@ -41,8 +39,8 @@ one-few [] n f m = absurd m
 one-few (o ∷ os) n f (inl e) = omega (arith, ltb-true (o .number) 256 (and-true (ltb (o .number) 256) (areFew os) f .0))
 one-few (o ∷ os) n f (inr m) = one-few os n (and-true (ltb (o .number) 256) (areFew os) f .1) m
 
-module _ {A : Type 0} {nothing : A} (sheet : List ℕ) (own : List Own) (v : Values A) (above : areOwn own ≡ true)
-    (few : areFew own ≡ true) (a : Answers sheet own nothing v) where
+module _ {A : Type 0} {nothing : A} (sheet : List ℕ) (own : List Own) (v : Values A) (few : areFew own ≡ true)
+    (a : Answers sheet own nothing v) where
   number-few : v .number < 256
   number-few = by-number (a .numbers)
     where
@@ -51,7 +49,7 @@ module _ {A : Type 0} {nothing : A} (sheet : List ℕ) (own : List Own) (v : Val
       by-number (inr m) = one-few own (v .number) few m
 
   line-few : v .line < 65536
-  line-few = omega (arith, line-short sheet own v above a)
+  line-few = omega (arith, a .near)
 
 judge-holds : (v : Values Finding) → Small v → JudgeHolds (packed v) v
 judge-holds v s = record {
@@ -64,11 +62,11 @@ judge-holds v s = record {
   rest = omega (arith, s .number, s .line, s .word, s .first, s .second, s .third);
 }
 
-count-holds : (sheet : List ℕ) (own : List Own) (v : Values ℕ) → areOwn own ≡ true → areFew own ≡ true
+count-holds : (sheet : List ℕ) (own : List Own) (v : Values ℕ) → areFew own ≡ true
     → Answers sheet own 0 v → v .value < 65536 → CountHolds (packedCount v) v
-count-holds sheet own v above few a c =
-    let n = number-few sheet own v above few a in
-    let l = line-few sheet own v above few a in
+count-holds sheet own v few a c =
+    let n = number-few sheet own v few a in
+    let l = line-few sheet own v few a in
     record {
       number = omega arith;
       line = omega arith;
@@ -88,8 +86,8 @@ module _ (sheet b : List ℕ) where
       rw (← e)
       (omega (
         arith,
-        number-few sheet (judges (bytes b)) (refused r) refl refl a,
-        line-few sheet (judges (bytes b)) (refused r) refl refl a,
+        number-few sheet (judges (bytes b)) (refused r) refl a,
+        line-few sheet (judges (bytes b)) (refused r) refl a,
       ))
 
   pub header-judge : let v = judgementValues (benchJudgement sheet b) in JudgeHolds (packed v) v
@@ -105,14 +103,14 @@ module _ (sheet b : List ℕ) where
 
   pub header-solver : let v = writtenValues (benchSolving sheet b .answer) in CountHolds (packedCount v) v
   header-solver =
-      count-holds sheet (solves _) (writtenValues (benchSolving sheet b .answer)) refl refl
+      count-holds sheet (solves _) (writtenValues (benchSolving sheet b .answer)) refl
       (numbers .bench-solver sheet b .answers) (solving-small sheet (inPairs b))
 
   pub header-lister : (m : List ℕ) → Short (minutesOf b)
       → let v = writtenValues (benchListed sheet b m .answer) in CountHolds (packedCount v) v
   header-lister m times =
       count-holds sheet (lists (bytes b) sheet (minutesOf b) m) (writtenValues (benchListed sheet b m .answer))
-      refl refl
+      refl
       (numbers .bench-lister sheet b m .answers) (listing-small sheet (asBytes b) m (λ _ _. times))
 
   pub header-player : (m : ℕ) (text : List ℕ)
@@ -120,12 +118,12 @@ module _ (sheet b : List ℕ) where
   unfolding benchDue
   header-player m text =
       count-holds sheet (plays (bytes b) (minutesOf b) (misnamedIn text) (unheardBy (minutesOf b) m (heardIn text)))
-      (dueValues (benchDue sheet b m text)) refl refl (numbers .bench-player sheet b m text)
+      (dueValues (benchDue sheet b m text)) refl (numbers .bench-player sheet b m text)
       (playing-small sheet (asBytes b) (λ Γ. dueText Γ (minutesOf b) m text)
       (λ a. text-small (read sheet .network) (accepted-well-formed sheet a .0) (minutesOf b) m text))
 
 pub header-house : (sheet m : List ℕ)
     → let v = writtenValues (housed sheet m .answer) in CountHolds (packedCount v) v
 header-house sheet m =
-    count-holds sheet (houses sheet m) (writtenValues (housed sheet m .answer)) refl refl
+    count-holds sheet (houses sheet m) (writtenValues (housed sheet m .answer)) refl
     (numbers .house-writer sheet m .answers) (house-small sheet m)

@@ -21,7 +21,6 @@ use Rattle.checker.specs.declared.Verdict.the-variants.{Pass, Breach as Breache
 use Rattle.checker.proofs.Judged.{judged}
 use Rattle.checker.proofs.First.{breach-iff}
 use Rattle.calls.specs.Values.{Values}
-use Rattle.calls.specs.Call.{withoutLine}
 use Rattle.calls.specs.Lent.{Handed}
 use Rattle.calls.specs.Calls.{judgingTests, judging}
 use Rattle.calls.specs.Bench.{Finding, noFinding, passed, breachValues, verdictValues, judgementValues}
@@ -31,7 +30,7 @@ use Rattle.calls.specs.declared.Judgement.{Judgement}
 use Rattle.calls.specs.declared.Judgement.the-variants as J
 use Rattle.calls.proofs.Call.{Ends, faulty, failed, worked, ends, call-works}
 use Rattle.calls.proofs.Settled.{number-of}
-use Rattle.calls.proofs.Matched.{answers-call}
+use Rattle.calls.proofs.Matched.{unlined, answers-call}
 use Rattle.calls.proofs.Handed.{Rightly}
 
 -- the verdict of which these are the values
@@ -72,7 +71,7 @@ module _ (sheet : List ℕ) (t : Handed) (right : Network → Type 0) where
       → Answers sheet (judges right) noFinding (judgementValues answer)
   judge-answers rightly =
       answers-call judgementValues noFinding J.Refused (λ r. refl) sheet (judgingTests t)
-      (λ Γ. J.Judged (verdict Γ (t .minutes))) (judges right) refl (λ a. (refl, rightly a .no, λ _. tt))
+      (λ Γ. J.Judged (verdict Γ (t .minutes))) (judges right) refl (λ a. (λ _. unlined refl refl, rightly a .no, λ _. tt))
       (λ Γ. no-refusal (verdict Γ (t .minutes)))
 
   module _ (a : read sheet .outcome ≡ Accepted) (rightly : Rightly t right net) where
@@ -88,7 +87,7 @@ module _ (sheet : List ℕ) (t : Handed) (right : Network → Type 0) where
         by-end : Ends J.Refused sheet (judgingTests t) (λ Γ. J.Judged (verdict Γ (t .minutes)))
             → right net × (verdict net (t .minutes) ≡ v)
         by-end (faulty r p q) = absurd (unlike r v (ap judgementValues q ∙ e))
-        by-end (failed p c f q) = absurd (unlike (withoutLine c) v (ap judgementValues q ∙ e))
+        by-end (failed p r f q) = absurd (unlike r v (ap judgementValues q ∙ e))
         by-end (worked p h q) =
             (rightly .yes .0 (h .0), told-apart (verdict net (t .minutes)) v (ap judgementValues q ∙ e))
 

@@ -30,7 +30,7 @@ use Rattle.calls.specs.Play.{named, everHeard, eventsOf, isPass, playing
 use Rattle.calls.specs.Answers.{Answers}
 use Rattle.calls.specs.Numbers.{plays, misnamedBy, unheardBy, misnamedOn, unheardOn, misnamedIn}
 use Rattle.calls.specs.declared.Due.the-variants as D
-use Rattle.calls.proofs.Matched.{answers-call}
+use Rattle.calls.proofs.Matched.{unlined, answers-call}
 use Rattle.calls.proofs.Handed.{Rightly}
 
 -- a pass, and no pass
@@ -85,18 +85,18 @@ module _ (sheet : List ℕ) (t : Handed) (right : Network → Type 0) (said : Ne
       answers-call dueValues 0 D.Refused (λ r. refl) sheet (playingTests t said) (λ Γ. D.Events (eventsOf (said Γ)))
       (plays right (t .minutes) misnamed unheard) refl
       (λ a. (
-        refl,
+        λ _. unlined refl refl,
         rightly a .no,
         λ h. (
-          refl,
+          λ _. unlined refl refl,
           failing (rightly a) h,
           λ _. (
-            refl,
+            λ _. unlined refl refl,
             (
               λ e. says a .fifteen .0 (named-false (said net) .0 e),
               λ m. named-false (said net) .1 (says a .fifteen .1 m),
             ),
-            λ n. (refl, unheard-iff (says a) n, λ _. tt),
+            λ n. (λ _. unlined refl refl, unheard-iff (says a) n, λ _. tt),
           ),
         ),
       ))

@@ -10,7 +10,7 @@ use Rattle.prelude.specs.Checks.{firstFailing}
 use Rattle.prelude.proofs.Mapped.{tabulate-value}
 use Rattle.prelude.proofs.Tests.{clash}
 use Rattle.pairs.specs.Pairs.{minutesOf}
-use Rattle.refusal.specs.declared.Cause.{Cause}
+use Rattle.refusal.specs.declared.Refusal.{Refusal}
 use Rattle.refusal.specs.declared.Cause.the-variants as C
 use Rattle.network.specs.Build.{nameOf, cells}
 use Rattle.network.specs.Solution.{Solution}
@@ -36,6 +36,7 @@ use Rattle.canonical.specs.House.{houseText}
 use Rattle.canonical.specs.Same.{Same}
 use Rattle.canonical.proofs.Faithful.{faithful}
 use Rattle.canonical.proofs.Likeness.{text-same}
+use Rattle.calls.specs.Call.{withoutLine}
 use Rattle.calls.specs.Lent.{Handed, Lent, asMinutes, asBytes, inPlace}
 use Rattle.calls.specs.Calls.{countsOf, summary, judgingTests, judging, enough, writing}
 use Rattle.calls.specs.Calls.{refusing, rests, solvingTests, solvingInto}
@@ -80,7 +81,7 @@ module _ (sheet other : List ℕ) (a : read sheet .outcome ≡ Accepted) (b : re
   verdicts t =
       calls-alike J.Refused sheet other (judgingTests t) (judgingTests t) (λ Γ. J.Judged (verdict Γ (t .minutes)))
       (λ Γ. J.Judged (verdict Γ (t .minutes))) a b
-      (ap (λ (n : ℕ). firstFailing ((t .has n, C.WrongTableLength) ∷ [])) size)
+      (ap (λ (n : ℕ). firstFailing ((t .has n, withoutLine C.WrongTableLength) ∷ [])) size)
       (λ _. ap J.Judged (verdict-same w (t .minutes)))
 
   rests-same : (m : Lent) → rests (solve Γ .end) ≡ rests (solve Δ .end)
@@ -101,7 +102,7 @@ module _ (sheet other : List ℕ) (a : read sheet .outcome ≡ Accepted) (b : re
   tables m =
       calls-alike (refusing m) sheet other (solvingTests m) (solvingTests m) (λ Γ. writing m (solve Γ .reached))
       (λ Γ. writing m (solve Γ .reached)) a b
-      (ap₂ (λ (n : ℕ) (r : Bool). firstFailing (enough m n ∷ (r, C.Inconsistent) ∷ [])) size (rests-same m))
+      (ap₂ (λ (n : ℕ) (r : Bool). firstFailing (enough m n ∷ (r, withoutLine C.Inconsistent) ∷ [])) size (rests-same m))
       (λ h. ap (writing m) (least-unique (same-least tables-same (solve Γ .reached) .0 (rested sheet m a (h .1 .0)))
       (rested other m b (sym (rests-same m) ∙ h .1 .0))))
 
@@ -114,10 +115,10 @@ module _ (sheet other : List ℕ) (a : read sheet .outcome ≡ Accepted) (b : re
       ∙ ap (first (cells Δ) (verdict Δ (t .minutes))) e)
       (λ _. ap (λ (d : Dispatched). D.Events (eventsOf d)) e)
     where
-      first : ℕ → Verdict → Dispatched → Option Cause
+      first : ℕ → Verdict → Dispatched → Option Refusal
       first n v d =
-          firstFailing ((t .has n, C.WrongTableLength) ∷ (isPass v, C.TableFails) ∷ (named d, C.MisnamedSignal)
-          ∷ (everHeard d, C.NeverHeard) ∷ [])
+          firstFailing ((t .has n, withoutLine C.WrongTableLength) ∷ (isPass v, withoutLine C.TableFails) ∷ (named d, withoutLine C.MisnamedSignal)
+          ∷ (everHeard d, withoutLine C.NeverHeard) ∷ [])
 
   listings : (t : Handed) (out : List ℕ) → listingOf sheet t out ≡ listingOf other t out
   listings t out =
@@ -127,7 +128,7 @@ module _ (sheet other : List ℕ) (a : read sheet .outcome ≡ Accepted) (b : re
       (tabulate-value (nameOf Γ sheet) (nameOf Δ other) (Γ .events) (Δ .events) (s .events)) σ in
       calls-alike (refusing m) sheet other (listingTests sheet t m) (listingTests other t m)
       (λ Γ. writing m (listing sheet Γ σ)) (λ Γ. writing m (listing other Γ σ)) a b
-      (ap₂ (λ (n : ℕ) (x : List ℕ). firstFailing ((t .has n, C.WrongTableLength) ∷ enough m (length x) ∷ [])) size text)
+      (ap₂ (λ (n : ℕ) (x : List ℕ). firstFailing ((t .has n, withoutLine C.WrongTableLength) ∷ enough m (length x) ∷ [])) size text)
       (λ _. ap (writing m) text)
 
   forms : (out : List ℕ) → housed sheet out ≡ housed other out
@@ -136,7 +137,7 @@ module _ (sheet other : List ℕ) (a : read sheet .outcome ≡ Accepted) (b : re
       let text = text-same s (faithful sheet a) in
       calls-alike (refusing m) sheet other (houseTests sheet m) (houseTests other m)
       (λ Γ. writing m (houseText sheet Γ)) (λ Γ. writing m (houseText other Γ)) a b
-      (ap₂ (λ (rs : List Constraint) (x : List ℕ). firstFailing ((fit rs, C.TooManyRows) ∷ enough m (length x) ∷ []))
+      (ap₂ (λ (rs : List Constraint) (x : List ℕ). firstFailing ((fit rs, withoutLine C.TooManyRows) ∷ enough m (length x) ∷ []))
       (s .remaining) text)
       (λ _. ap (writing m) text)
 

@@ -1,17 +1,18 @@
 -- What it means that a call's own refusals decide its answer to an accepted sheet, and that each number then comes
 -- exactly where its cause holds. Assumes nothing.
-use mathlib.Core.Path.{_≡_, refl, ap}
-use mathlib.Core.Logic.{_⊎_, inl, inr}
+use mathlib.Core.Path.{_≡_, refl}
+use mathlib.Core.Logic.{_⊎_, inl, inr, _↔_}
 use mathlib.Core.Bool.{Bool, true, false, _&&_, _||_, not}
 use mathlib.Core.List.{List, [], _∷_}
-use Prim.Native.Nat.{ℕ, _<_}
+use Prim.Native.Nat.{ℕ, suc, _≤_, _<_}
 use native.Mathlib.Omega.{arith}
 use borrow.Author.Tests.{ltb-true, eq-eqb, not-true}
 use lib.Dec.{eqb, ltb}
 use Rattle.prelude.proofs.Tests.{clash, and-true, eq-or-ne}
 use Rattle.network.specs.declared.Network.{Network}
+use Rattle.sheet.specs.Reading.{longest}
 use Rattle.calls.specs.Values.{Values}
-use Rattle.calls.specs.Answers.{Own, Exactly, OneOf}
+use Rattle.calls.specs.Answers.{hasLine, Own, Exactly, OneOf}
 
 abbrev pub number-of : {A : Type 0} → Values A → ℕ
 number-of v = v .number
@@ -60,36 +61,45 @@ exactly-one (o ∷ os) Γ n x =
     ]
 
 module _ {A : Type 0} (nothing : A) where
-  -- refused with this number and line 0, and nothing besides
-  abbrev with-number : ℕ → Values A
-  with-number n = record { number = n; line = 0; value = nothing }
+  -- refused with this number, with a line where the number has one, and nothing besides
+  pub record Turned (n : ℕ) (v : Values A) : Type 0 where
+    pub number : v .number ≡ n
+    pub line : (1 ≤ v .line) ↔ (hasLine n ≡ true)
+    pub near : v .line ≤ suc longest
+    pub empty : v .value ≡ nothing
 
   -- the first refusal whose cause holds is answered; where none does, the answer is no refusal
   abbrev pub Settles : List Own → Network → Values A → Type 0
   Settles [] Γ v = (v .number ≡ 0) × (v .line ≡ 0)
-  Settles (o ∷ os) Γ v = (o .cause Γ × (v ≡ with-number (o .number))) ⊎ ((o .cause Γ → ⊥) × Settles os Γ v)
+  Settles (o ∷ os) Γ v = (o .cause Γ × Turned (o .number) v) ⊎ ((o .cause Γ → ⊥) × Settles os Γ v)
 
   pub settled-one : (own : List Own) (Γ : Network) (v : Values A) → Settles own Γ v
       → (v .number ≡ 0) ⊎ OneOf own (v .number)
   settled-one [] Γ v s = inl (s .0)
-  settled-one (o ∷ os) Γ v (inl s) = inr (inl (ap number-of (s .1)))
+  settled-one (o ∷ os) Γ v (inl s) = inr (inl (s .1 .number))
   settled-one (o ∷ os) Γ v (inr s) = elim (settled-one os Γ v (s .1)) [ inl z ↦ inl z | inr m ↦ inr (inr m) ]
 
-  pub settled-line : (own : List Own) (Γ : Network) (v : Values A) → Settles own Γ v → v .line ≡ 0
-  settled-line [] Γ v s = s .1
-  settled-line (o ∷ os) Γ v (inl s) = ap (λ (w : Values A). w .line) (s .1)
+  pub settled-line : (own : List Own) (Γ : Network) (v : Values A) → Settles own Γ v
+      → (1 ≤ v .line) ↔ (hasLine (v .number) ≡ true)
+  settled-line [] Γ v s = rw (s .0, s .1) (λ h. absurd (omega arith), λ e. clash false e refl)
+  settled-line (o ∷ os) Γ v (inl s) = rw (s .1 .number) (s .1 .line)
   settled-line (o ∷ os) Γ v (inr s) = settled-line os Γ v (s .1)
+
+  pub settled-near : (own : List Own) (Γ : Network) (v : Values A) → Settles own Γ v → v .line ≤ suc longest
+  settled-near [] Γ v s = omega (arith, s .1)
+  settled-near (o ∷ os) Γ v (inl s) = s .1 .near
+  settled-near (o ∷ os) Γ v (inr s) = settled-near os Γ v (s .1)
 
   pub settled-empty : (own : List Own) (Γ : Network) (v : Values A) → Settles own Γ v → (v .number ≡ 0 → ⊥)
       → v .value ≡ nothing
   settled-empty [] Γ v s n = absurd (n (s .0))
-  settled-empty (o ∷ os) Γ v (inl s) n = ap (λ (w : Values A). w .value) (s .1)
+  settled-empty (o ∷ os) Γ v (inl s) n = s .1 .empty
   settled-empty (o ∷ os) Γ v (inr s) n = settled-empty os Γ v (s .1) n
 
   pub settled-exactly : (own : List Own) (Γ : Network) (v : Values A) → areOwn own ≡ true → Settles own Γ v
       → Exactly own Γ (v .number)
   settled-exactly [] Γ v a s = s .0
-  settled-exactly (o ∷ os) Γ v a (inl s) = ((λ e. s .0, λ c. ap number-of (s .1)), λ no. absurd (no (s .0)))
+  settled-exactly (o ∷ os) Γ v a (inl s) = ((λ e. s .0, λ c. s .1 .number), λ no. absurd (no (s .0)))
   settled-exactly (o ∷ os) Γ v a (inr s) =
       let first = own-first o os a in
       let other : v .number ≡ o .number → ⊥ =

@@ -16,7 +16,6 @@ use Rattle.network.specs.Build.{scenarios, cells}
 use Rattle.network.specs.Strategy.{time}
 use Rattle.network.specs.WellFormed.{WellFormed}
 use Rattle.network.specs.declared.Network.{Network}
-use Rattle.line.specs.Tests.{Tests}
 use Rattle.sheet.specs.Reading.{read}
 use Rattle.sheet.specs.declared.Outcome.the-variants.{Accepted}
 use Rattle.sheet.proofs.WellFormed.{accepted-well-formed}
@@ -41,7 +40,7 @@ use Rattle.tighten.specs.Tightest.{remainingOf}
 use Rattle.canonical.specs.House.{houseText}
 use Rattle.canonical.proofs.Again.{form-short}
 use Rattle.calls.specs.Values.{Values, turnedAway}
-use Rattle.calls.specs.Call.{withoutLine, call, Left}
+use Rattle.calls.specs.Call.{Tests, call, Left}
 use Rattle.calls.specs.Lent.{Handed, Lent, inPlace}
 use Rattle.calls.specs.Calls.{judgingTests, judging, writtenValues, writing, refusing, solvingTests, solvingInto}
 use Rattle.calls.specs.Calls.{listingTests}
@@ -90,7 +89,7 @@ module _ {A : Type 0} (values : A → Values ℕ) (refuse : Refusal → A)
 
       by-end : Ends refuse sheet tests work → values (call refuse sheet tests work) .value < 65536
       by-end (faulty r p e) = refused r e
-      by-end (failed a c f e) = refused (withoutLine c) e
+      by-end (failed a r f e) = refused r e
       by-end (worked a h e) = rw (← e) (small a h)
 
 -- how much a call has written
@@ -106,7 +105,7 @@ module _ (sheet : List ℕ) where
     where
       by-end : Ends J.Refused sheet (judgingTests t) (λ Γ. J.Judged (verdict Γ (t .minutes))) → Small (verdictValues v)
       by-end (faulty r p e) = let z : J.Refused r ≡ J.Judged v = e ∙ q in zero-is-one cc
-      by-end (failed a c f e) = let z : J.Refused (withoutLine c) ≡ J.Judged v = e ∙ q in zero-is-one cc
+      by-end (failed a r f e) = let z : J.Refused r ≡ J.Judged v = e ∙ q in zero-is-one cc
       by-end (worked a h e) =
           let same : verdict net (t .minutes) ≡ v = let z = e ∙ q in cc in
           rw (← same) (verdict-small net (t .minutes) (accepted-well-formed sheet a .0))

@@ -29,7 +29,7 @@ use Rattle.calls.specs.Numbers.{solves}
 use Rattle.calls.specs.declared.Written.{Written}
 use Rattle.calls.proofs.Call.{call-fails, call-works}
 use Rattle.calls.proofs.Settled.{number-of}
-use Rattle.calls.proofs.Matched.{writes-call}
+use Rattle.calls.proofs.Matched.{unlined, writes-call}
 
 -- the run rests where its end says so
 pub rests-true : (end : End) → (rests end ≡ true) ↔ (end ≡ Rests)
@@ -70,7 +70,7 @@ module _ (sheet : List ℕ) (m : Lent) where
       -- it refuses, or has written what the run reached
       pub refuses-none : L.Inconsistent net → solvingInto sheet m ≡ refusing m (withoutLine Inconsistent)
       refuses-none i =
-          sym (call-fails (refusing m) sheet (solvingTests m) work (read sheet) refl a Inconsistent
+          sym (call-fails (refusing m) sheet (solvingTests m) work (read sheet) refl a (withoutLine Inconsistent)
           (inr (has-room, inl (unrested .1 i, refl))))
 
       reached : rests (solve net .end) ≡ true → Least net (solve net .reached)
@@ -109,8 +109,8 @@ module _ (sheet : List ℕ) (m : Lent) where
       writes-call writtenValues 0 (refusing m) (λ r. refl) (m .before) (λ r. refl) sheet (solvingTests m) work
       (solves (m .room)) refl
       (λ a. (
-        refl,
+        λ _. unlined refl refl,
         (leb-false (cells net) (m .room), lt-leb (cells net) (m .room)),
-        λ _. (refl, unrested a, λ _. tt),
+        λ _. (λ _. unlined refl refl, unrested a, λ _. tt),
       ))
       (λ Γ. (refl, refl))

@@ -22,7 +22,7 @@ use Rattle.calls.specs.Answers.{Writes, WroteText}
 use Rattle.calls.specs.Numbers.{lists, houses}
 use Rattle.calls.specs.declared.Written.{Written}
 use Rattle.calls.proofs.Call.{call-fails, call-works}
-use Rattle.calls.proofs.Matched.{writes-call}
+use Rattle.calls.proofs.Matched.{unlined, writes-call}
 use Rattle.calls.proofs.Handed.{Rightly}
 use Rattle.calls.proofs.Fit.{few-fit, many-do-not, not-fit-many}
 
@@ -46,7 +46,12 @@ module _ (sheet : List ℕ) (t : Handed) (right : Network → Type 0) (m : List 
       writes-call writtenValues 0 (refusing (inPlace m)) (λ r. refl) m (λ r. refl) sheet
       (listingTests sheet t (inPlace m))
       (λ Γ. writing (inPlace m) (text Γ)) (lists right sheet (t .minutes) m) refl
-      (λ a. (refl, rightly a .no, λ _. (refl, short (length (text net)) (length m), λ _. tt))) (λ Γ. (refl, refl))
+      (λ a. (
+        λ _. unlined refl refl,
+        rightly a .no,
+        λ _. (λ _. unlined refl refl, short (length (text net)) (length m), λ _. tt),
+      ))
+      (λ Γ. (refl, refl))
 
   pub listing-wrote : read sheet .outcome ≡ Accepted → Rightly t right net → right net → length (text net) ≤ length m
       → WroteText (text net) m (listingOf sheet t m)
@@ -66,9 +71,9 @@ module _ (sheet m : List ℕ) where
       form-work
       (houses sheet m) refl
       (λ a. (
-        refl,
+        λ _. unlined refl refl,
         (not-fit-many (remainingOf (read sheet .network)), many-do-not (remainingOf (read sheet .network))),
-        λ _. (refl, short (length (houseText sheet (read sheet .network))) (length m), λ _. tt),
+        λ _. (λ _. unlined refl refl, short (length (houseText sheet (read sheet .network))) (length m), λ _. tt),
       ))
       (λ Γ. (refl, refl))
 
@@ -85,5 +90,5 @@ module _ (sheet m : List ℕ) where
         → housed sheet m ≡ refusing (inPlace m) (withoutLine C.TooManyRows)
     house-many many =
         sym (call-fails (refusing (inPlace m)) sheet (houseTests sheet (inPlace m)) form-work (read sheet) refl a
-        C.TooManyRows
+        (withoutLine C.TooManyRows)
         (inl (many-do-not (remainingOf (read sheet .network)) many, refl)))

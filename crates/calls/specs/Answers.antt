@@ -2,18 +2,25 @@
 -- sheet's own refusal comes first, then those of the call, each where its cause holds and none before it does.
 use mathlib.Core.Path.{_≡_}
 use mathlib.Core.Logic.{_⊎_, _↔_}
+use mathlib.Core.Bool.{Bool, true, _&&_, _||_}
 use mathlib.Core.List.{List, [], _∷_, _++_}
-use Prim.Native.Nat.{ℕ, _≤_}
+use Prim.Native.Nat.{ℕ, suc, _≤_}
+use lib.Dec.{leb, eqb}
 use lib.ListN.{length, drop}
 use Rattle.refusal.specs.declared.Refusal.{Refusal}
 use Rattle.network.specs.declared.Network.{Network}
-use Rattle.sheet.specs.Reading.{read}
+use Rattle.sheet.specs.Reading.{longest, read}
 use Rattle.sheet.specs.Fault.{Fault}
 use Rattle.sheet.specs.declared.Outcome.the-variants.{Accepted}
 use Rattle.calls.specs.Values.{Values, done, turnedAway}
 use Rattle.calls.specs.Call.{Left}
 use Rattle.calls.specs.Calls.{writtenValues}
 use Rattle.calls.specs.declared.Written.{Written}
+
+-- which refusals have a line: 2 to 10 one of the sheet, 18 and 19 one of the listing; "Lines are 0 for refusals 1 and 11
+-- to 13", and for each of document 02 "whose request names no line"
+abbrev pub hasLine : ℕ → Bool
+hasLine n = (leb 2 n && leb n 10) || (eqb n 18 || eqb n 19)
 
 -- the sheet keeps every rule of its layout, and its network is Γ
 pub record Reads (sheet : List ℕ) (Γ : Network) : Type 0 where
@@ -39,9 +46,9 @@ OneOf (o ∷ os) n = (n ≡ o .number) ⊎ OneOf os n
 pub record Answers (sheet : List ℕ) (own : List Own) {A : Type 0} (nothing : A) (v : Values A) : Type 0 where
   -- 0, a number from 1 to 10, or one of the call's own
   pub numbers : (v .number ≤ 10) ⊎ OneOf own (v .number)
-  -- a line from 1 on for 2 to 10; "Lines are 0 for refusals 1 and 11 to 13", and for those of document 02 that name
-  -- none
-  pub lines : (1 ≤ v .line) ↔ ((2 ≤ v .number) × (v .number ≤ 10))
+  -- a line from 1 on exactly for the refusals that have one, and one that a sheet can have
+  pub lines : (1 ≤ v .line) ↔ (hasLine (v .number) ≡ true)
+  pub near : v .line ≤ suc longest
   -- the fault of a sheet is the answer of every call
   pub at-fault : (r : Refusal) → Fault sheet r → v ≡ turnedAway nothing r
   -- of a sheet with none, the call's own refusals decide

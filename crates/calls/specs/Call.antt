@@ -1,7 +1,8 @@
--- A public call: the sheet's own refusal comes first, then the call's own tests in checking order, each with the cause
--- of its failure and with line 0; where all of them hold, its work (01, Refused sheets and calls). And what a call that
--- writes leaves in the memory that it is lent.
+-- A public call: the sheet's own refusal comes first, then the call's own tests in checking order, each with the refusal
+-- of its failure; where all of them hold, its work (01, Refused sheets and calls). And what a call that writes leaves in
+-- the memory that it is lent.
 use mathlib.Core.Path.{_≡_}
+use mathlib.Core.Bool.{Bool}
 use mathlib.Core.Option.{Option, none, some}
 use mathlib.Core.List.{List}
 use Prim.Native.Nat.{ℕ}
@@ -10,7 +11,6 @@ use Rattle.refusal.specs.Refusal.{refusal}
 use Rattle.refusal.specs.declared.Cause.{Cause}
 use Rattle.refusal.specs.declared.Refusal.{Refusal}
 use Rattle.network.specs.declared.Network.{Network}
-use Rattle.line.specs.Tests.{Tests}
 use Rattle.sheet.specs.Reading.{read}
 use Rattle.sheet.specs.declared.Outcome.{Outcome}
 use Rattle.sheet.specs.declared.Outcome.the-variants.{Accepted, Refused}
@@ -19,11 +19,15 @@ use Rattle.sheet.specs.declared.Outcome.the-variants.{Accepted, Refused}
 abbrev pub withoutLine : Cause → Refusal
 withoutLine c = refusal c 0
 
+-- a call's own tests, each with the refusal of its failure
+abbrev pub Tests : Type 0
+Tests = List (Bool × Refusal)
+
 -- the outcome of the reading, and behind it that of the call's tests
-abbrev pub tested : Outcome → Option Cause → Outcome
-tested (Refused r) c = Refused r
+abbrev pub tested : Outcome → Option Refusal → Outcome
+tested (Refused r) o = Refused r
 tested Accepted none = Accepted
-tested Accepted (some c) = Refused (withoutLine c)
+tested Accepted (some r) = Refused r
 
 module _ {A : Type 0} (refuse : Refusal → A) where
   -- the answer by the outcome: a refusal, or what the work gives

@@ -5,7 +5,6 @@ use mathlib.Core.List.{List, [], _∷_}
 use Prim.Native.Nat.{ℕ}
 use lib.Dec.{leb}
 use lib.ListN.{length}
-use Rattle.refusal.specs.declared.Cause.{Cause}
 use Rattle.refusal.specs.declared.Refusal.{Refusal}
 use Rattle.refusal.specs.declared.Cause.the-variants.{WrongTableLength, BufferTooShort, Inconsistent, TooManyRows}
 use Rattle.fixpoint.specs.Run.{End, Rests, Passes, Spent}
@@ -13,14 +12,13 @@ use Rattle.network.specs.Limits as L
 use Rattle.network.specs.Build.{cells}
 use Rattle.network.specs.declared.Constraint.{Constraint}
 use Rattle.network.specs.declared.Network.{Network}
-use Rattle.line.specs.Tests.{Tests}
 use Rattle.checker.specs.Verdict.{verdict}
 use Rattle.solver.specs.Solve.{solve}
 use Rattle.listing.specs.Listing.{listing}
 use Rattle.tighten.specs.Tightest.{remainingOf}
 use Rattle.canonical.specs.House.{houseText}
 use Rattle.calls.specs.Values.{Values, done, turnedAway}
-use Rattle.calls.specs.Call.{call, Left}
+use Rattle.calls.specs.Call.{withoutLine, Tests, call, Left}
 use Rattle.calls.specs.Lent.{Handed, asMinutes, Lent, inPlace}
 use Rattle.calls.specs.declared.Counts.{Counts}
 use Rattle.calls.specs.declared.Summary.{Summary}
@@ -46,8 +44,8 @@ summaryValues (S.Accepted c) = done c
 summaryValues (S.Refused r) = turnedAway noCounts r
 
 -- "A table handed in has not exactly n × 2^k numbers" is 11
-abbrev pub rightLength : Handed → Network → Bool × Cause
-rightLength t Γ = (t .has (cells Γ), WrongTableLength)
+abbrev pub rightLength : Handed → Network → Bool × Refusal
+rightLength t Γ = (t .has (cells Γ), withoutLine WrongTableLength)
 
 -- judging
 abbrev pub judgingTests : Handed → Network → Tests
@@ -66,8 +64,8 @@ writtenValues (W.Refused r) = turnedAway 0 r
 
 module _ (m : Lent) where
   -- "A lent table or byte buffer is too short for what would be written" is 12
-  abbrev pub enough : ℕ → Bool × Cause
-  enough n = (leb n (m .room), BufferTooShort)
+  abbrev pub enough : ℕ → Bool × Refusal
+  enough n = (leb n (m .room), withoutLine BufferTooShort)
 
   -- so much is written
   abbrev pub writing : List ℕ → Left Written
@@ -85,7 +83,7 @@ rests Spent = false
 
 -- 12 "even where 13 would follow"
 abbrev pub solvingTests : Lent → Network → Tests
-solvingTests m Γ = enough m (cells Γ) ∷ (rests (solve Γ .end), Inconsistent) ∷ []
+solvingTests m Γ = enough m (cells Γ) ∷ (rests (solve Γ .end), withoutLine Inconsistent) ∷ []
 
 abbrev pub solvingInto : List ℕ → Lent → Left Written
 solvingInto sheet m = call (refusing m) sheet (solvingTests m) (λ Γ. writing m (solve Γ .reached))
@@ -110,7 +108,7 @@ abbrev pub fit : List Constraint → Bool
 fit rows = leb (length rows) L.rules
 
 abbrev pub houseTests : List ℕ → Lent → Network → Tests
-houseTests sheet m Γ = (fit (remainingOf Γ), TooManyRows) ∷ enough m (length (houseText sheet Γ)) ∷ []
+houseTests sheet m Γ = (fit (remainingOf Γ), withoutLine TooManyRows) ∷ enough m (length (houseText sheet Γ)) ∷ []
 
 abbrev pub housed : List ℕ → List ℕ → Left Written
 housed sheet out =

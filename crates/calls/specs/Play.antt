@@ -5,7 +5,6 @@ use mathlib.Core.List.{List, [], _∷_}
 use Prim.Native.Nat.{ℕ}
 use Rattle.refusal.specs.declared.Cause.the-variants as C
 use Rattle.network.specs.declared.Network.{Network}
-use Rattle.line.specs.Tests.{Tests}
 use Rattle.checker.specs.Verdict.{verdict}
 use Rattle.checker.specs.declared.Verdict.{Verdict}
 use Rattle.checker.specs.declared.Verdict.the-variants.{Pass, Breach as Breached}
@@ -15,7 +14,7 @@ use Rattle.dispatch.specs.declared.Heard.{Heard}
 use Rattle.dispatch.specs.declared.Dispatched.{Dispatched}
 use Rattle.dispatch.specs.declared.Dispatched.the-variants as P
 use Rattle.calls.specs.Values.{Values, done, turnedAway}
-use Rattle.calls.specs.Call.{call}
+use Rattle.calls.specs.Call.{withoutLine, Tests, call}
 use Rattle.calls.specs.Lent.{Handed, asMinutes}
 use Rattle.calls.specs.Calls.{rightLength}
 use Rattle.calls.specs.declared.Due.{Due}
@@ -47,9 +46,9 @@ isPass (Breached b) = false
 abbrev pub playingTests : Handed → (Network → Dispatched) → Network → Tests
 playingTests t said Γ =
     rightLength t Γ
-    ∷ (isPass (verdict Γ (t .minutes)), C.TableFails)
-    ∷ (named (said Γ), C.MisnamedSignal)
-    ∷ (everHeard (said Γ), C.NeverHeard)
+    ∷ (isPass (verdict Γ (t .minutes)), withoutLine C.TableFails)
+    ∷ (named (said Γ), withoutLine C.MisnamedSignal)
+    ∷ (everHeard (said Γ), withoutLine C.NeverHeard)
     ∷ []
 
 -- the events of a table that are due

@@ -3,11 +3,12 @@ use mathlib.Core.List.{List, [], _∷_, map}
 use Prim.Native.Nat.{ℕ}
 use native.Mathlib.Omega.{arith}
 use Rattle.prelude.specs.Bytes.{ascii}
+use Rattle.text.specs.Lines.{line}
 use Rattle.text.specs.Decimal.{decimal}
 use Rattle.page.specs.Appended.{Appended}
 use Rattle.page.proofs.Append.{append-then, append-both}
 use Rattle.network.specs.declared.Network.{Network}
-use Rattle.layout.specs.Layout.{line, section, signalLine, ruleLine, reactionsText}
+use Rattle.layout.specs.Layout.{section, signalLine, ruleLine, reactionsText}
 use Rattle.tighten.specs.Tightest.{remainingOf}
 use Rattle.canonical.specs.House.{namesOf, signalsOf, asRule, slowOf, sectionOf, houseText}
 use Rattle.canonical.specs.Most.{mostCount, mostEvents, mostSignals, mostRules, mostReactions, mostForm}

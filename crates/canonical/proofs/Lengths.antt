@@ -8,10 +8,10 @@ use native.Mathlib.Omega.{arith}
 use lib.ListN.{length, length-append}
 use Rattle.prelude.specs.Bytes.{ascii}
 use Rattle.prelude.specs.Lists.{Each}
-use Rattle.text.specs.Lines.{comma, lineFeed}
+use Rattle.text.specs.Lines.{comma, lineFeed, line}
 use Rattle.text.specs.Decimal.{decimal}
 use Rattle.text.proofs.Decimal.{length-decimal-16}
-use Rattle.layout.specs.Layout.{line, lines, section}
+use Rattle.layout.specs.Layout.{lines, section}
 use Rattle.canonical.specs.Most.{mostCount}
 
 -- a field and what is behind it

@@ -3,8 +3,7 @@ use mathlib.Core.Path.{_≡_}
 use mathlib.Core.List.{List, [], _∷_, _++_, append-assoc}
 use Prim.Native.Nat.{ℕ}
 use Rattle.prelude.specs.Bytes.{ascii}
-use Rattle.text.specs.Lines.{comma, lineFeed}
-use Rattle.layout.specs.Layout.{line}
+use Rattle.text.specs.Lines.{comma, lineFeed, line}
 
 -- the word and the two ends
 abbrev pub endsText : List ℕ → List ℕ → List ℕ

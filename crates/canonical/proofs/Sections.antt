@@ -7,11 +7,12 @@ use Prim.Native.String.{String}
 use Rattle.prelude.specs.Bounded.{tabulateFrom, tabulate}
 use Rattle.prelude.specs.Bytes.{ascii}
 use Rattle.prelude.proofs.Bounded.{length-tabulate}
+use Rattle.text.specs.Lines.{line}
 use Rattle.text.specs.Decimal.{decimal}
 use Rattle.page.specs.Joined.{joinFrom}
 use Rattle.page.specs.Appended.{Appended}
 use Rattle.page.proofs.Append.{append-then}
-use Rattle.layout.specs.Layout.{line, lines, section}
+use Rattle.layout.specs.Layout.{lines, section}
 
 module _ (f : ℕ → List ℕ) where
   lines-tabulateFrom : (i n : ℕ) → lines (tabulateFrom i n f) ≡ joinFrom i n f

@@ -13,6 +13,7 @@ use Rattle.prelude.specs.Lists.{Each}
 use Rattle.prelude.proofs.Lists.{each-mono, each-in}
 use Rattle.prelude.proofs.Mapped.{each-map}
 use Rattle.text.specs.Decimal.{decimal}
+use Rattle.text.specs.Lines.{line}
 use Rattle.text.proofs.Decimal.{length-decimal-16}
 use Rattle.network.specs.Limits as L
 use Rattle.network.specs.WellFormed.{InLimits}
@@ -23,7 +24,7 @@ use Rattle.names.proofs.Tokens.{name-short}
 use Rattle.layout.specs.Contents.{Signal, Rule, Reaction, Contents, noSignal, noRule, noReaction, signalLetters}
 use Rattle.layout.specs.Keeps.{KeepsSignal, KeepsRule, KeepsReaction, Keeps}
 use Rattle.layout.specs.Layout.{signedText, signText, reactionLine, reactionsText, literalsText, labelText, kindText}
-use Rattle.layout.specs.Layout.{line, section, signalLine, ruleLine, textOf}
+use Rattle.layout.specs.Layout.{section, signalLine, ruleLine, textOf}
 use Rattle.canonical.specs.Most.{mostCount, mostEvents, mostSignals, mostLabel, mostRule, mostRules}
 use Rattle.canonical.specs.Most.{mostReaction, mostReactions, mostForm}
 use Rattle.canonical.proofs.Lengths.{length-line, length-field, length-count, length-section}

@@ -11,7 +11,7 @@ use lib.ListN.{length, length-append, length-map}
 use Rattle.prelude.specs.Bytes.{ascii}
 use Rattle.prelude.specs.Gather.{ahead, gatherFrom, gather}
 use Rattle.prelude.proofs.Gather.{gather-more}
-use Rattle.text.specs.Lines.{comma, lineFeed}
+use Rattle.text.specs.Lines.{comma, lineFeed, line}
 use Rattle.text.specs.Decimal.{decimal}
 use Rattle.page.specs.Joined.{joinFrom}
 use Rattle.page.specs.Appended.{Appended}
@@ -20,7 +20,7 @@ use Rattle.network.specs.Limits as L
 use Rattle.network.specs.Strategy.{reaction}
 use Rattle.network.specs.declared.Network.{Network}
 use Rattle.layout.specs.Contents.{Reaction}
-use Rattle.layout.specs.Layout.{line, lines, reactionLine, reactionsText}
+use Rattle.layout.specs.Layout.{lines, reactionLine, reactionsText}
 use Rattle.canonical.specs.House.{slowBy, slowAt, slowOf, sectionOf}
 use Rattle.canonical.specs.Most.{mostCount, mostReactions}
 

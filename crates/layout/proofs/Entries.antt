@@ -8,15 +8,15 @@ use native.Mathlib.Omega.{arith}
 use lib.ListN.{length, drop, length-append}
 use lib.Seq.{append-snoc}
 use Rattle.prelude.specs.Checks.{firstFailing}
-use Rattle.text.specs.Lines.{lineAt, afterLine, fields}
+use Rattle.text.specs.Lines.{lineAt, afterLine, fields, line}
+use Rattle.text.proofs.Written.{Plain, IsRead, is-read, line-read}
 use Rattle.network.specs.declared.Network.{Network}
 use Rattle.line.specs.Tests.{Tests}
 use Rattle.line.specs.Sections.{headingOf, testsOf, withLine}
 use Rattle.line.specs.declared.Section.{Section}
 use Rattle.sheet.specs.Reading.{Progress, Go, readLine, readEntries}
 use Rattle.sheet.proofs.ReadLine.{readLine-on, went}
-use Rattle.layout.specs.Layout.{line, lines}
-use Rattle.layout.proofs.Lines.{Plain, IsRead, is-read, line-read}
+use Rattle.layout.specs.Layout.{lines}
 
 -- a line of this kind is that of an x: the network holds the xs that have been read, and x may follow them
 pub record Understood (sheet : List ℕ) (s : Section) {X : Type 0} (first : X → List ℕ) (others : X → List (List ℕ))

@@ -11,13 +11,12 @@ use Rattle.prelude.specs.Checks.{firstFailing}
 use Rattle.prelude.proofs.Checks.{_&_, hold, none-fails}
 use Rattle.prelude.specs.Search.{answers}
 use Rattle.prelude.proofs.Tests.{clash, false-of-not-true}
-use Rattle.text.specs.Lines.{lineFeed, field}
+use Rattle.text.specs.Lines.{lineFeed, field, line}
 use Rattle.network.specs.Limits as L
 use Rattle.network.specs.declared.Network.{Network}
 use Rattle.line.specs.Tests.{eventOf, eventTests}
 use Rattle.line.specs.Sections.{withLine}
 use Rattle.line.specs.declared.Section.the-variants.{Events}
-use Rattle.layout.specs.Layout.{line}
 use Rattle.prelude.proofs.Lists.{all-of}
 use Rattle.layout.proofs.Plain.{plain-name}
 use Rattle.layout.proofs.Kept.{KeptNames, NewName, may-name}

@@ -19,8 +19,8 @@ use Rattle.prelude.specs.Lists.{In, Each}
 use Rattle.layout.specs.Contents.{Contents, signalLetters}
 use Rattle.layout.specs.Layout.{kindText}
 use Rattle.layout.specs.Contains.{Contains}
-use Rattle.layout.proofs.Lines.{plain}
 use Rattle.prelude.proofs.Lists.{each-mono, each-of-every, every-of-each}
+use Rattle.text.specs.Lines.{plain}
 use Rattle.layout.proofs.Finds.{letter-in, letter-answers}
 
 -- a kind's word is read as that kind

@@ -11,9 +11,9 @@ use lib.ListN.{length}
 use Rattle.prelude.specs.Bytes.{every}
 use Rattle.prelude.proofs.Bytes.{same-true}
 use Rattle.prelude.proofs.Tests.{either, clash, and-true, and-both}
+use Rattle.text.specs.Lines.{plain}
 use Rattle.names.specs.Names.{isLetter, areLiterals, isDash, isLabel, Literal, literals, labelOf, lettersOf}
 use Rattle.layout.specs.Layout.{signText, literalsText, labelText}
-use Rattle.layout.proofs.Lines.{plain}
 use Rattle.names.proofs.Tokens.{letter-bounds}
 use Rattle.layout.proofs.Plain.{plain-letter}
 

@@ -1,5 +1,4 @@
 -- The reading accepts exactly the layout: start at Accepted, which is the last and the theorem.
-pub mod Lines
 pub mod Plain
 pub mod Numbers
 pub mod Labels

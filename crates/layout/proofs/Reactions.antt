@@ -16,9 +16,10 @@ use Rattle.prelude.proofs.Lists.{all-of}
 use Rattle.prelude.specs.Search.{answers}
 use Rattle.prelude.proofs.Search.{answered}
 use Rattle.prelude.proofs.Tests.{and-both}
-use Rattle.text.specs.Lines.{field}
+use Rattle.text.specs.Lines.{field, plain}
 use Rattle.text.specs.Number.{magnitude}
 use Rattle.text.specs.Decimal.{decimal}
+use Rattle.text.proofs.Numbers.{isNumber-decimal, magnitude-decimal, inRange-decimal, plain-decimal, decimal-magnitude}
 use Rattle.network.specs.Limits as L
 use Rattle.network.specs.Build.{reactionStated}
 use Rattle.network.specs.declared.Network.{Network}
@@ -26,10 +27,7 @@ use Rattle.line.specs.Tests.{signalOf, hasLine, letterTests, reactionTests}
 use Rattle.line.specs.Sections.{withLine}
 use Rattle.line.specs.declared.Section.the-variants.{Reactions}
 use Rattle.layout.specs.Contents.{Signal, Rule, Reaction, noReaction, reactionLetters}
-use Rattle.layout.proofs.Lines.{plain}
 use Rattle.layout.proofs.Plain.{plain-letter, one-letter}
-use Rattle.layout.proofs.Numbers.{isNumber-decimal, magnitude-decimal, inRange-decimal, plain-decimal}
-use Rattle.layout.proofs.Numbers.{decimal-magnitude}
 use Rattle.layout.proofs.Kept.{KeptReactions, NewReaction, may-reaction, letter-is}
 use Rattle.layout.proofs.Extends.{contentsWith}
 use Rattle.layout.proofs.Stands.{Stands, reaction-added}

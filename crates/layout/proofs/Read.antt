@@ -6,6 +6,7 @@ use mathlib.Core.List.{List, [], _++_}
 use Prim.Native.Nat.{ℕ, _≤_, zero-le}
 use lib.ListN.{length, drop}
 use Rattle.text.specs.Lines.{afterLine}
+use Rattle.text.proofs.Numbers.{magnitude-decimal}
 use Rattle.network.specs.Limits as L
 use Rattle.network.specs.Build.{empty}
 use Rattle.network.specs.declared.Network.{Network}
@@ -18,7 +19,6 @@ use Rattle.sheet.proofs.Whole.{toEvents, toSignals, toRules, toReactions, toEnd
 use Rattle.layout.specs.Contents.{Signal, Rule, Reaction, Contents}
 use Rattle.layout.specs.Keeps.{Keeps}
 use Rattle.layout.specs.Layout.{Layout, reactionsText, textOf}
-use Rattle.layout.proofs.Numbers.{magnitude-decimal}
 use Rattle.layout.specs.Contains.{Contains}
 use Rattle.layout.proofs.Kept.{KeptNames, KeptSignals, KeptRules, KeptReactions}
 use Rattle.layout.proofs.Extends.{contents, contentsWith}

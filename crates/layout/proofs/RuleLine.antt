@@ -14,6 +14,7 @@ use Rattle.prelude.proofs.Checks.{_&_, none-fails}
 use Rattle.prelude.proofs.Lists.{each-in, test-of-distinct}
 use Rattle.prelude.proofs.Tests.{and-both}
 use Rattle.text.specs.Number.{magnitude}
+use Rattle.text.proofs.Written.{Plain}
 use Rattle.network.specs.Limits as L
 use Rattle.network.specs.declared.Network.{Network}
 use Rattle.names.specs.Names.{isLetter, isName, isLabel, labelOf, lettersOf}
@@ -24,7 +25,6 @@ use Rattle.layout.specs.Contents.{Rule, Contents, signalLetters}
 use Rattle.layout.specs.Keeps.{KeepsRule}
 use Rattle.layout.specs.Layout.{kindText, signedText, labelText, ruleFields}
 use Rattle.layout.specs.Contains.{Bears, Means}
-use Rattle.layout.proofs.Lines.{Plain}
 use Rattle.layout.proofs.Plain.{plain-name}
 use Rattle.layout.proofs.Numbers as N
 use Rattle.layout.proofs.Labels.{labelOf-labelText, isLabel-labelText, plain-labelText}

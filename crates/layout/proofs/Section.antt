@@ -13,7 +13,7 @@ use Rattle.prelude.proofs.Checks.{_&_, hold, none-fails}
 use Rattle.prelude.specs.Bytes.{ascii, same, every}
 use Rattle.prelude.proofs.Bytes.{same-true, same-refl}
 use Rattle.prelude.proofs.Tests.{and-true}
-use Rattle.text.specs.Lines.{field, lineAt, afterLine, fields}
+use Rattle.text.specs.Lines.{field, lineAt, afterLine, fields, line, plain}
 use Rattle.text.specs.Number.{magnitude}
 use Rattle.text.specs.Decimal.{decimal}
 use Rattle.network.specs.declared.Network.{Network}
@@ -22,11 +22,10 @@ use Rattle.line.specs.Sections.{Heading, headingOf, headingTests}
 use Rattle.line.specs.declared.Section.{Section}
 use Rattle.sheet.specs.Reading.{Progress, Go, readLine, readEntries, readSection}
 use Rattle.sheet.proofs.ReadLine.{went}
-use Rattle.layout.specs.Layout.{line, lines, section}
-use Rattle.layout.proofs.Lines.{plain, lineOf, is-read, line-read}
-use Rattle.layout.proofs.Numbers.{isNumber-decimal, magnitude-decimal, inRange-decimal, plain-decimal}
-use Rattle.layout.proofs.Numbers.{decimal-magnitude}
+use Rattle.layout.specs.Layout.{lines, section}
 use Rattle.prelude.proofs.Lists.{all-of}
+use Rattle.text.proofs.Written.{lineOf, is-read, line-read}
+use Rattle.text.proofs.Numbers.{isNumber-decimal, magnitude-decimal, inRange-decimal, plain-decimal, decimal-magnitude}
 use Rattle.layout.proofs.Entries.{Understood, entries-read, Reads, entries-reads, readLine-passes, joins, parts}
 
 -- a count, behind its word

@@ -11,7 +11,7 @@ use Rattle.prelude.specs.Checks.{firstFailing}
 use Rattle.prelude.proofs.Checks.{_&_, hold, none-fails}
 use Rattle.prelude.specs.Search.{answers}
 use Rattle.prelude.proofs.Tests.{clash, false-of-not-true, and-true, and-both, or-false, or-neither}
-use Rattle.text.specs.Lines.{field}
+use Rattle.text.specs.Lines.{field, plain}
 use Rattle.network.specs.Limits as L
 use Rattle.network.specs.declared.Network.{Network}
 use Rattle.names.specs.Names.{isName, isLetter, isOneLetter}
@@ -21,7 +21,6 @@ use Rattle.line.specs.Sections.{withLine}
 use Rattle.line.specs.declared.Section.the-variants.{Signals}
 use Rattle.prelude.specs.Lists.{In}
 use Rattle.layout.specs.Contents.{Signal, signalEvents}
-use Rattle.layout.proofs.Lines.{plain}
 use Rattle.prelude.proofs.Lists.{all-of, each-in}
 use Rattle.layout.proofs.Plain.{plain-name, plain-letter, one-letter}
 use Rattle.layout.proofs.Kept.{KeptSignals, NewSignal, may-signal}

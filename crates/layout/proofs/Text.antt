@@ -9,6 +9,7 @@ use lib.Dec.{ltb}
 use lib.ListN.{length, drop, length-drop, drop-of-length-le}
 use Rattle.prelude.specs.Bytes.{ascii}
 use Rattle.prelude.proofs.Tests.{either}
+use Rattle.text.specs.Lines.{line}
 use Rattle.text.specs.Decimal.{decimal}
 use Rattle.refusal.specs.Refusal.{refusal}
 use Rattle.refusal.specs.declared.Cause.the-variants.{TrailingBytes}
@@ -16,7 +17,7 @@ use Rattle.network.specs.declared.Network.{Network}
 use Rattle.sheet.specs.Reading.{Progress, Go, andThen, readEnd}
 use Rattle.sheet.proofs.ReadLine.{stop-not-go}
 use Rattle.layout.specs.Contents.{Signal, Rule}
-use Rattle.layout.specs.Layout.{line, section, signalLine, ruleLine}
+use Rattle.layout.specs.Layout.{section, signalLine, ruleLine}
 use Rattle.layout.proofs.Entries.{joins}
 
 abbrev pub horizonText : ℕ → List ℕ

@@ -4,7 +4,7 @@ use mathlib.Core.Path.{_≡_, _∙_, ap}
 use mathlib.Core.List.{List, [], _++_}
 use Prim.Native.Nat.{ℕ, _≤_}
 use lib.ListN.{length, drop}
-use Rattle.text.specs.Lines.{afterLine}
+use Rattle.text.specs.Lines.{afterLine, line}
 use Rattle.network.specs.Limits as L
 use Rattle.network.specs.Build.{empty}
 use Rattle.network.specs.declared.Network.{Network}
@@ -16,7 +16,7 @@ use Rattle.sheet.proofs.ReadLine.{Came, came}
 use Rattle.sheet.proofs.Whole.{toEvents, toSignals, toRules, toReactions, toEnd, within-length}
 use Rattle.layout.specs.Contents.{Signal, Contents, listedReactions}
 use Rattle.layout.specs.Keeps.{Keeps}
-use Rattle.layout.specs.Layout.{Layout, line, signalLine, ruleLine, reactionsText}
+use Rattle.layout.specs.Layout.{Layout, signalLine, ruleLine, reactionsText}
 use Rattle.layout.proofs.Extends.{contents, contentsWith}
 use Rattle.layout.proofs.Stands.{Stands, empty-stands}
 use Rattle.layout.proofs.Events.{events-understood}

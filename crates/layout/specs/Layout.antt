@@ -10,7 +10,7 @@ use Prim.Native.String.{String}
 use lib.IntN.{ℤ, pos, negsuc}
 use lib.ListN.{length}
 use Rattle.prelude.specs.Bytes.{ascii}
-use Rattle.text.specs.Lines.{comma, lineFeed}
+use Rattle.text.specs.Lines.{line}
 use Rattle.text.specs.Decimal.{decimal}
 use Rattle.network.specs.declared.Kind.{Kind}
 use Rattle.network.specs.declared.Kind.the-variants.{Max, Min, Fix}
@@ -41,11 +41,7 @@ kindText Max = ascii "max"
 kindText Min = ascii "min"
 kindText Fix = ascii "fix"
 
--- a line of its fields
-abbrev pub line : List ℕ → List (List ℕ) → List ℕ
-line f [] = f ++ lineFeed ∷ []
-line f (g ∷ gs) = f ++ comma ∷ line g gs
-
+-- lines one behind the other
 abbrev pub lines : List (List ℕ) → List ℕ
 lines [] = []
 lines (l ∷ ls) = l ++ lines ls

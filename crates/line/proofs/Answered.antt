@@ -7,7 +7,7 @@ use lib.ListN.{length, take, drop}
 use Rattle.prelude.specs.Checks.{firstFailing}
 use Rattle.prelude.proofs.Tests.{zero-is-one}
 use Rattle.text.specs.Lines.{lineFeed, upTo, fields, field, lineAt}
-use Rattle.text.proofs.Lines.{take-drop}
+use Rattle.text.proofs.Lines.{take-drop, line-ends, line-is}
 use Rattle.refusal.specs.declared.Cause.{Cause}
 use Rattle.network.specs.declared.Network.{Network}
 use Rattle.line.specs.Tests.{lineTests, isObservation, hasLine, eventOf, signalOf, eventTests, signalTests}
@@ -20,7 +20,6 @@ use Rattle.line.specs.declared.Section.the-variants.{Events, Signals, Ru
 use Rattle.line.specs.declared.entry.Entry.{Entry}
 use Rattle.line.specs.declared.entry.EntryLine.{EntryLine}
 use Rattle.line.specs.declared.entry.EntryLine.the-variants as R
-use Rattle.line.proofs.Refusals.{line-ends, line-is}
 
 -- an answer is a refusal, or what the line holds
 pub entry-answer-refused : (o : Option Cause) (x : Entry) (n : ℕ) (c : Cause) → entryAnswer o x n ≡ R.Refused c

@@ -15,54 +15,15 @@ use mir.ValLaws.{toZ-pos, toZ-ofZ}
 use Rattle.prelude.specs.Checks.{firstFailing}
 use Rattle.prelude.proofs.Tests.{zero-is-one, lt-or-ge, by-cond}
 use Rattle.text.specs.Number.{isNumber, isNegative, inRange, magnitude, valueOf}
-use Rattle.text.specs.ReadNumber.{capped, readNumber}
+use Rattle.text.specs.ReadNumber.{readNumber}
 use Rattle.text.specs.declared.Number.the-variants as Num
+use Rattle.text.proofs.ReadAs.{ReadAs, number-ill, range-minus, range-low, range-high, range-in}
 use Rattle.refusal.specs.declared.Cause.{Cause}
 use Rattle.refusal.specs.declared.Cause.the-variants as C
 use Rattle.network.specs.Limits as L
 use Rattle.line.specs.Tests.{countTests}
 use Rattle.line.specs.Answers.{limitOf}
 use Rattle.line.specs.declared.Limit.the-variants as M
-
--- what a number that was read says of its bytes
-pub record ReadAs (most : ℕ) (f : List ℕ) (negative : Bool) (v : ℕ) : Type 0 where
-  pub well-formed : isNumber f ≡ true
-  pub sign : isNegative f ≡ negative
-  pub size : min (magnitude f) (most + 1) ≡ v
-
-by-ill : (k m : Bool) (a : ℕ) → cond k (cond m (Num.Minus a) (Num.Plus a)) Num.IllFormed ≡ Num.IllFormed → k ≡ false
-by-ill false m a e = refl
-by-ill true true a e = zero-is-one cc
-by-ill true false a e = zero-is-one cc
-
-by-plus : (k m : Bool) (a v : ℕ) → cond k (cond m (Num.Minus a) (Num.Plus a)) Num.IllFormed ≡ Num.Plus v
-    → (k ≡ true) × (m ≡ false) × (a ≡ v)
-by-plus false m a v e = zero-is-one cc
-by-plus true true a v e = zero-is-one cc
-by-plus true false a v e = (refl, refl, cc)
-
-by-minus : (k m : Bool) (a v : ℕ) → cond k (cond m (Num.Minus a) (Num.Plus a)) Num.IllFormed ≡ Num.Minus v
-    → (k ≡ true) × (m ≡ true) × (a ≡ v)
-by-minus false m a v e = zero-is-one cc
-by-minus true true a v e = (refl, refl, cc)
-by-minus true false a v e = zero-is-one cc
-
-module _ (most : ℕ) (f : List ℕ) where
-  pub number-ill : readNumber most f ≡ Num.IllFormed → isNumber f ≡ false
-  unfolding readNumber
-  number-ill e = by-ill (isNumber f) (isNegative f) (capped most (magnitude f)) e
-
-  pub number-plus : (v : ℕ) → readNumber most f ≡ Num.Plus v → ReadAs most f false v
-  unfolding readNumber
-  number-plus v e =
-      let w = by-plus (isNumber f) (isNegative f) (capped most (magnitude f)) v e in
-      record { well-formed = w .0; sign = w .1; size = w .2 }
-
-  pub number-minus : (v : ℕ) → readNumber most f ≡ Num.Minus v → ReadAs most f true v
-  unfolding readNumber
-  number-minus v e =
-      let w = by-minus (isNumber f) (isNegative f) (capped most (magnitude f)) v e in
-      record { well-formed = w .0; sign = w .1; size = w .2 }
 
 -- the count of a section
 module _ (lo hi : ℕ) (f : List ℕ) where
@@ -72,38 +33,20 @@ module _ (lo hi : ℕ) (f : List ℕ) where
   pub count-ill : readNumber hi f ≡ Num.IllFormed → why ≡ some C.IllFormedNumber
   count-ill e = rw (number-ill hi f e)
 
-  out-of-range : isNumber f ≡ true → inRange lo hi f ≡ false → why ≡ some C.OutOfRange
-  out-of-range e n = rw (e, n)
+  out-of-range : (isNumber f ≡ true) × (inRange lo hi f ≡ false) → why ≡ some C.OutOfRange
+  out-of-range p = rw (p .0, p .1)
 
   pub count-minus : (v : ℕ) → readNumber hi f ≡ Num.Minus v → why ≡ some C.OutOfRange
-  unfolding inRange
-  count-minus v e = let w = number-minus hi f v e in out-of-range (w .well-formed) (rw (w .sign))
+  count-minus v e = out-of-range (range-minus lo hi f v e)
 
   pub count-low : (v : ℕ) → readNumber hi f ≡ Num.Plus v → v < lo → why ≡ some C.OutOfRange
-  unfolding inRange
-  count-low v e h =
-      let w = number-plus hi f v e in
-      let size = w .size in
-      elim (lt-or-ge (magnitude f) lo) [
-        | inl p ↦ out-of-range (w .well-formed) (rw (lt-leb lo (magnitude f) p, and-false))
-        | inr p ↦ out-of-range (w .well-formed) (rw (lt-leb (magnitude f) hi (omega arith), and-false, and-false))
-      ]
+  count-low v e h = out-of-range (range-low lo hi f v e h)
 
   pub count-high : (v : ℕ) → readNumber hi f ≡ Num.Plus v → hi < v → why ≡ some C.OutOfRange
-  unfolding inRange
-  count-high v e h =
-      let w = number-plus hi f v e in
-      let size = w .size in
-      out-of-range (w .well-formed) (rw (lt-leb (magnitude f) hi (omega arith), and-false, and-false))
+  count-high v e h = out-of-range (range-high lo hi f v e h)
 
   pub count-in : (v : ℕ) → readNumber hi f ≡ Num.Plus v → lo ≤ v → v ≤ hi → (why ≡ none) × (magnitude f ≡ v)
-  unfolding inRange
-  count-in v e l h =
-      let w = number-plus hi f v e in
-      let size = w .size in (
-        rw (w .well-formed, le-leb lo (magnitude f) (omega arith), le-leb (magnitude f) hi (omega arith), w .sign),
-        omega arith,
-      )
+  count-in v e l h = let p = range-in lo hi f v e l h in (rw (p .0, p .1), p .2)
 
 -- a size as an i32, with either sign
 pub signed-plus : (v : ℕ) → v ≤ L.horizon → toZ w32 v ≡ pos v

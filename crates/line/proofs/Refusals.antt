@@ -1,5 +1,4 @@
--- Laws of a line's refusal, test by test, as the readers of a line try them: where a line ends, a section's heading, an
--- event and a signal. Assumes nothing.
+-- Laws of a line's refusal, test by test, as the readers of a line try them: a section's heading, an event and a signal. Assumes nothing.
 use mathlib.Core.Path.{_≡_, refl, sym}
 use mathlib.Core.Bool.{Bool, true, false, _&&_, _||_, not, and-false}
 use mathlib.Core.Option.{Option, none, some}
@@ -24,20 +23,6 @@ use Rattle.line.specs.Tests.{countTests, sectionTests, isObservation, ev
 use Rattle.line.specs.Answers.{givesFound, checkOf}
 use Rattle.line.specs.declared.Check.the-variants as K
 use Rattle.line.proofs.Checks.{three-same}
-
--- the end of a line: it is missing, or the line is what stands before it
-module _ (rest : List ℕ) (e : ℕ) (is : e ≡ length (upTo lineFeed rest)) where
-  pub line-missing : e ≡ length rest → isIn lineFeed rest ≡ false
-  line-missing h = not-isIn-of-upTo-le lineFeed rest (omega arith)
-
-  pub line-ends : (e ≡ length rest → ⊥) → isIn lineFeed rest ≡ true
-  line-ends n = isIn-of-upTo-lt lineFeed rest (let h = upTo-le lineFeed rest in omega arith)
-
-  pub line-le : e ≤ length rest
-  line-le = let h = upTo-le lineFeed rest in omega arith
-
-  pub line-is : take e rest ≡ upTo lineFeed rest
-  line-is = rw is (take-upTo lineFeed rest)
 
 -- what a check says of its tests
 pub check-refused : (o : Option Cause) (c : Cause) → checkOf o ≡ K.Refused c → o ≡ some c

@@ -13,7 +13,6 @@ use Rattle.prelude.specs.Bounded.{tabulate}
 use Rattle.prelude.proofs.Bounded.{length-tabulate}
 use Rattle.prelude.proofs.Tests.{by-test}
 use Rattle.text.specs.Lines.{comma, lineFeed}
-use Rattle.text.specs.Decimal.{decimal}
 use Rattle.text.proofs.Decimal.{length-decimal-16}
 use Rattle.page.specs.Joined.{joinFrom}
 use Rattle.network.specs.Build.{nameOf, scenarios}
@@ -21,7 +20,7 @@ use Rattle.network.specs.Scenario.{truth}
 use Rattle.network.specs.Strategy.{time}
 use Rattle.network.specs.WellFormed.{WellFormed, Named}
 use Rattle.network.specs.declared.Network.{Network}
-use Rattle.listing.specs.Listing.{fieldsOf, scenarioText, header, scenarioLine, listing}
+use Rattle.listing.specs.Listing.{fieldsOf, scenarioText, header, lineOver, timeTexts, listing}
 use Rattle.listing.specs.Most.{mostHeader, mostLine, mostListing}
 
 length-join : (f : ℕ → List ℕ) (most i n : ℕ) → ((j : ℕ) → i ≤ j → j < i + n → length (f j) ≤ most)
@@ -61,25 +60,27 @@ module _ (sheet : List ℕ) (Γ : Network) (σ : List ℕ) (wf : WellFormed Γ) 
       omega (arith, wf .events, length-fields (Γ .events) 8 (λ u. nameOf Γ sheet u) name-short)
 
   module _ (times : (s u : ℕ) → s < scenarios Γ → u < Γ .events → time (Γ .events) σ s u ≤ 65535) where
-    line-short : (s : ℕ) → s < scenarios Γ → length (scenarioLine sheet Γ σ s) ≤ mostLine
+    abbrev texts : ℕ → ℕ → List ℕ
+    texts = timeTexts (Γ .events) σ
+
+    line-short : (s : ℕ) → s < scenarios Γ → length (lineOver (Γ .signals) (Γ .events) texts s) ≤ mostLine
     line-short s l =
-        let minutes = fieldsOf (Γ .events) (λ u. decimal (time (Γ .events) σ s u)) in
         omega (
           arith,
           wf .events,
-          length-append (scenarioText (Γ .signals) s) minutes,
+          length-append (scenarioText (Γ .signals) s) (fieldsOf (Γ .events) (texts s)),
           length-scenario (Γ .signals) s (wf .signals),
-          length-fields (Γ .events) 5 (λ u. decimal (time (Γ .events) σ s u))
-              (λ u h. length-decimal-16 _ (times s u l h)),
+          length-fields (Γ .events) 5 (texts s) (λ u h. length-decimal-16 _ (times s u l h)),
         )
 
     pub listing-short : length (listing sheet Γ σ) ≤ mostListing
     unfolding listing
     listing-short =
+        let rows = lineOver (Γ .signals) (Γ .events) texts in
         omega (
           arith,
           header-short,
-          length-append (header sheet Γ) (joinFrom 0 (scenarios Γ) (scenarioLine sheet Γ σ)),
-          length-join (scenarioLine sheet Γ σ) mostLine 0 (scenarios Γ) (λ s a b. line-short s (omega arith)),
+          length-append (header sheet Γ) (joinFrom 0 (scenarios Γ) rows),
+          length-join rows mostLine 0 (scenarios Γ) (λ s a b. line-short s (omega arith)),
           pow-mono {i = Γ .signals} {j = 4} (wf .signals),
         )

@@ -1,12 +1,10 @@
 -- A scenario's line, by the numbers of a network that it depends on.
 use mathlib.Core.Bool.{cond}
-use mathlib.Core.List.{List, _++_}
+use mathlib.Core.List.{List}
 use Prim.Native.Nat.{ℕ, _%_}
 use Prim.Native.Char.{code}
 use lib.Dec.{eqb}
-use Rattle.text.specs.Decimal.{decimal}
-use Rattle.network.specs.Strategy.{time}
-use Rattle.listing.specs.Listing.{fieldsOf, scenarioText}
+use Rattle.listing.specs.Listing.{fieldsOf, lineOver, timeTexts}
 
 -- the mark of a truth, by a number that has it as its last binary digit
 abbrev pub markOf : ℕ → ℕ
@@ -14,8 +12,8 @@ markOf v = cond (eqb (v % 2) 1) (code "T") (code "F")
 
 -- the times of scenario s, and the line feed
 abbrev pub timesOf : ℕ → List ℕ → ℕ → List ℕ
-timesOf events σ s = fieldsOf events (λ u. decimal (time events σ s u))
+timesOf events σ s = fieldsOf events (timeTexts events σ s)
 
 -- the line of scenario s, where there are so many signals and events
 abbrev pub lineOf : ℕ → ℕ → List ℕ → ℕ → List ℕ
-lineOf signals events σ s = scenarioText signals s ++ timesOf events σ s
+lineOf signals events σ s = lineOver signals events (timeTexts events σ) s

@@ -1,7 +1,8 @@
--- The printed listing (01, The printed listing): a line of names, then a line of times for each scenario.
+-- The printed listing (01, The printed listing): a line of names, then a line of times for each scenario. It is defined
+-- over texts in the places of the times, so that one definition serves what is written and what is read back.
 use mathlib.Core.Bool.{true, false, cond}
 use mathlib.Core.List.{List, [], _∷_, _++_}
-use Prim.Native.Nat.{ℕ}
+use Prim.Native.Nat.{ℕ, _^_}
 use Prim.Native.Char.{code}
 use lib.Dec.{eqb}
 use Rattle.prelude.specs.Bounded.{tabulate}
@@ -9,7 +10,7 @@ use Rattle.prelude.specs.Bytes.{ascii}
 use Rattle.text.specs.Lines.{comma, lineFeed}
 use Rattle.text.specs.Decimal.{decimal}
 use Rattle.page.specs.Joined.{joinFrom}
-use Rattle.network.specs.Build.{nameOf, scenarios}
+use Rattle.network.specs.Build.{nameOf}
 use Rattle.network.specs.Scenario.{truth}
 use Rattle.network.specs.Strategy.{time}
 use Rattle.network.specs.declared.Network.{Network}
@@ -30,10 +31,26 @@ scenarioText k s =
 abbrev pub header : List ℕ → Network → List ℕ
 header sheet Γ = ascii "case" ++ fieldsOf (Γ .events) (λ u. nameOf Γ sheet u)
 
-module _ (sheet : List ℕ) (Γ : Network) (σ : List ℕ) where
-  -- the truths of s, "then a comma and a minute per event"
-  abbrev pub scenarioLine : ℕ → List ℕ
-  scenarioLine s = scenarioText (Γ .signals) s ++ fieldsOf (Γ .events) (λ u. decimal (time (Γ .events) σ s u))
+-- a minute as it is printed
+abbrev pub timeText : ℕ → List ℕ
+timeText v = decimal v
 
-  unfoldable pub listing : List ℕ
-  listing = header sheet Γ ++ joinFrom 0 (scenarios Γ) scenarioLine
+-- a listing over any texts in the places of its minutes, by scenario and event; it has k signals and n events
+module _ (k n : ℕ) (texts : ℕ → ℕ → List ℕ) where
+  -- the truths of s, "then a comma and a minute per event"
+  abbrev pub lineOver : ℕ → List ℕ
+  lineOver s = scenarioText k s ++ fieldsOf n (texts s)
+
+  -- the header, and the lines of the first m scenarios
+  abbrev pub linesOver : List ℕ → ℕ → List ℕ
+  linesOver head m = head ++ joinFrom 0 m lineOver
+
+  abbrev pub listingOver : List ℕ → List ℕ
+  listingOver head = linesOver head (2 ^ k)
+
+-- the texts of a strategy's times
+abbrev pub timeTexts : ℕ → List ℕ → ℕ → ℕ → List ℕ
+timeTexts n σ s u = timeText (time n σ s u)
+
+unfoldable pub listing : List ℕ → Network → List ℕ → List ℕ
+listing sheet Γ σ = listingOver (Γ .signals) (Γ .events) (timeTexts (Γ .events) σ) (header sheet Γ)

@@ -5,11 +5,10 @@ ghost use mathlib.Core.List.{_∷_};
 ghost use Prim.Native.Nat.{_+_, _*_, _^_, _≤_};
 ghost use lib.ListN.{length};
 ghost use Rattle.text.specs.Lines.{comma};
-ghost use Rattle.text.specs.Decimal.{decimal};
 ghost use Rattle.network.specs.Limits as L;
 ghost use Rattle.network.specs.Build.{nameOf, cells};
 ghost use Rattle.network.specs.WellFormed.{WellFormed, Named};
-ghost use Rattle.listing.specs.Listing.{fieldsOf, scenarioText, header, listing};
+ghost use Rattle.listing.specs.Listing.{fieldsOf, scenarioText, header, timeText, listing};
 ghost use Rattle.listing.specs.Line.{markOf, timesOf, lineOf};
 ghost use Rattle.listing.specs.Most.{mostNames, mostTimes, mostHeader, mostLine, mostLines};
 ghost use Rattle.page.specs.Joined.{joinFrom};
@@ -35,7 +34,7 @@ fn push_names(page: &mut [u8], at: usize, sheet: &[u8], network: Network) -> usi
 }
 
 // The first line, which depends on no time.
-fn push_header(page: &mut [u8], sheet: &[u8], network: Network) -> usize
+pub fn push_header(page: &mut [u8], sheet: &[u8], network: Network) -> usize
     requires { ⌜ WellFormed network × Named (now sheet) network × (mostHeader ≤ length (now page)) ⌝ }
     ensures { λ r. ⌜ Appended mostHeader (now (page .entry)) 0 (header (now (sheet .entry)) network)
         (now (page .exit)) r ⌝ }
@@ -55,7 +54,7 @@ fn mark_of(v: usize) -> u8
 }
 
 // The truths of the propositions in scenario s, whose number is halved from one to the next.
-fn push_truths(page: &mut [u8], at: usize, s: usize, signals: usize) -> usize
+pub fn push_truths(page: &mut [u8], at: usize, s: usize, signals: usize) -> usize
     requires { ⌜ (signals ≤ L.signals) × (at + L.signals ≤ length (now page)) ⌝ }
     ensures { λ r. ⌜ Appended L.signals (now (page .entry)) at (scenarioText signals s) (now (page .exit)) r ⌝ }
 {
@@ -74,7 +73,7 @@ fn push_truths(page: &mut [u8], at: usize, s: usize, signals: usize) -> usize
 // A time, behind its comma.
 fn push_time(page: &mut [u8], at: usize, v: u16) -> usize
     requires { ⌜ at + 6 ≤ length (now page) ⌝ }
-    ensures { λ r. ⌜ Appended 6 (now (page .entry)) at (comma ∷ decimal v) (now (page .exit)) r ⌝ }
+    ensures { λ r. ⌜ Appended 6 (now (page .entry)) at (comma ∷ timeText v) (now (page .exit)) r ⌝ }
 {
     let next = page::push(page, at, b',');
     page::push_number(page, next, v)
@@ -127,7 +126,9 @@ fn push_lines(page: &mut [u8], at: usize, table: &[u16], signals: usize, events:
     next
 }
 
-// The longest listing: 149 bytes of names, and 101 for each of 16 scenarios.
+// The longest first line, and the longest listing: it has 101 bytes more for each of 16 scenarios.
+pub const LONGEST_HEADER: usize = 149;
+
 pub const LONGEST: usize = 1765;
 
 // The listing of any table of the network's size into out: how many bytes were written, or that out is too short for

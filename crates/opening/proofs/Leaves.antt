@@ -12,14 +12,13 @@ use Rattle.page.specs.declared.Filled.the-variants as PW
 use Rattle.refusal.specs.declared.Cause.the-variants.{BufferTooShort, TooManyRows}
 use Rattle.refusal.specs.declared.Refusal.{Refusal}
 use Rattle.network.specs.declared.Network.{Network}
-use Rattle.line.specs.Tests.{Tests}
 use Rattle.sheet.specs.Reading.{read}
 use Rattle.sheet.specs.declared.Outcome.the-variants.{Accepted, Refused}
 use Rattle.sheet.specs.declared.Reading.{Reading}
 use Rattle.listing.specs.Listing.{listing}
 use Rattle.tighten.specs.Tightest.{remainingOf}
 use Rattle.canonical.specs.House.{houseText}
-use Rattle.calls.specs.Call.{withoutLine, Left, Leaves}
+use Rattle.calls.specs.Call.{withoutLine, Left, Leaves, Tests}
 use Rattle.calls.specs.Lent.{inPlace}
 use Rattle.calls.specs.Calls.{enough, writing, refusing, listed, fit}
 use Rattle.calls.specs.Calls.{houseTests, housed}
@@ -76,7 +75,7 @@ module _ (sheet t m : List ℕ) (g : Reading) (e : g ≡ handedIn sheet (length 
       (λ room.
       handed-works sheet t g e (refusing (inPlace m)) rest (λ Γ. writing (inPlace m) (text Γ)) a (room, tt))
       (λ short.
-      handed-fails sheet t g e (refusing (inPlace m)) rest (λ Γ. writing (inPlace m) (text Γ)) a BufferTooShort
+      handed-fails sheet t g e (refusing (inPlace m)) rest (λ Γ. writing (inPlace m) (text Γ)) a _
       (inl (short, refl)))
 
 -- the house form
@@ -93,7 +92,7 @@ module _ (sheet m : List ℕ) (g : Reading) (e : g ≡ read sheet) where
         → Leaves (housed sheet m) (W.Refused (withoutLine TooManyRows)) m
     house-many h =
         kept m _
-        (call-fails (refusing (inPlace m)) sheet (houseTests sheet (inPlace m)) form g e a TooManyRows (inl (h, refl)))
+        (call-fails (refusing (inPlace m)) sheet (houseTests sheet (inPlace m)) form g e a _ (inl (h, refl)))
 
     pub house-written : fit (remainingOf (g .network)) ≡ true → (x : List ℕ) (w : PD.Filled)
         → FilledIs (houseText sheet (g .network)) m x w → Leaves (housed sheet m) (handedOut w) x
@@ -101,5 +100,5 @@ module _ (sheet m : List ℕ) (g : Reading) (e : g ≡ read sheet) where
         written-by (houseText sheet (g .network)) m x w is
         (λ room. call-works (refusing (inPlace m)) sheet (houseTests sheet (inPlace m)) form g e a (h, (room, tt)))
         (λ short.
-        call-fails (refusing (inPlace m)) sheet (houseTests sheet (inPlace m)) form g e a BufferTooShort
+        call-fails (refusing (inPlace m)) sheet (houseTests sheet (inPlace m)) form g e a _
         (inr (h, inl (short, refl))))

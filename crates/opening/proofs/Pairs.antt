@@ -17,14 +17,13 @@ use Rattle.refusal.specs.declared.Cause.the-variants.{BufferTooShort, Inconsist
 use Rattle.refusal.specs.declared.Refusal.{Refusal}
 use Rattle.network.specs.Build.{cells}
 use Rattle.network.specs.declared.Network.{Network}
-use Rattle.line.specs.Tests.{Tests}
 use Rattle.sheet.specs.Reading.{read}
 use Rattle.sheet.specs.declared.Outcome.the-variants.{Accepted}
 use Rattle.sheet.proofs.WellFormed.{accepted-well-formed}
 use Rattle.solver.specs.Solve.{solve}
 use Rattle.solver.proofs.Least.{solve-least}
 use Rattle.calls.specs.Values.{done, turnedAway}
-use Rattle.calls.specs.Call.{withoutLine, Left, Leaves}
+use Rattle.calls.specs.Call.{withoutLine, Left, Leaves, Tests}
 use Rattle.calls.specs.Lent.{Lent, inPlace, inPairs}
 use Rattle.calls.specs.Calls.{writing, refusing, rests, solvingTests, solving}
 use Rattle.calls.specs.Bench.{benchSolving, packedCount, packedLeft}
@@ -61,7 +60,7 @@ module _ (sheet b z : List ℕ) (size : length z ≡ 256) (k : ℕ) (lent : k �
       ]
 
   same-tests : read sheet .outcome ≡ Accepted → solvingTests (inPlace m) net ≡ solvingTests (inPairs b) net
-  same-tests a = ap (λ (x : Bool). (x, BufferTooShort) ∷ (rests (solve net .end), Inconsistent) ∷ []) (same-room a)
+  same-tests a = ap (λ (x : Bool). (x, withoutLine BufferTooShort) ∷ (rests (solve net .end), withoutLine Inconsistent) ∷ []) (same-room a)
 
   -- how the two end
   data Both : Type 0 where
@@ -79,7 +78,7 @@ module _ (sheet b z : List ℕ) (size : length z ≡ 256) (k : ℕ) (lent : k �
           (call-refused (refusing (inPairs b)) sheet (solvingTests (inPairs b)) (work (inPairs b)) (read sheet)
           refl r p)
       by-end (failed a c f e) =
-          both-refused (withoutLine c) e
+          both-refused c e
           (call-fails (refusing (inPairs b)) sheet (solvingTests (inPairs b)) (work (inPairs b)) (read sheet) refl a c
           (subst (λ (ts : Tests). FirstFails ts c) (same-tests a) f))
       by-end (worked a h e) =

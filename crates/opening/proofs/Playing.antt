@@ -8,7 +8,6 @@ use lib.ListN.{length}
 use Rattle.refusal.specs.declared.Cause.the-variants as C
 use Rattle.refusal.specs.declared.Refusal.{Refusal}
 use Rattle.network.specs.declared.Network.{Network}
-use Rattle.line.specs.Tests.{Tests}
 use Rattle.sheet.specs.declared.Outcome.the-variants.{Accepted, Refused}
 use Rattle.sheet.specs.declared.Reading.{Reading}
 use Rattle.checker.specs.Verdict.{verdict}
@@ -17,7 +16,7 @@ use Rattle.checker.specs.declared.Verdict.the-variants.{Pass, Breach as Breache
 use Rattle.dispatch.specs.Said.{dueOn}
 use Rattle.dispatch.specs.declared.Dispatched.{Dispatched}
 use Rattle.dispatch.specs.declared.Dispatched.the-variants as P
-use Rattle.calls.specs.Call.{withoutLine}
+use Rattle.calls.specs.Call.{withoutLine, Tests}
 use Rattle.calls.specs.Play.{named, everHeard, eventsOf, isPass, eventsDueOn}
 use Rattle.calls.specs.declared.Due.{Due}
 use Rattle.calls.specs.declared.Due.the-variants as D
@@ -27,9 +26,9 @@ use Rattle.opening.proofs.Prologue.{handed-refused, handed-fails, hande
 module _ (sheet t : List ℕ) (m x : ℕ) (g : Reading) (e : g ≡ handedIn sheet (length t)) where
   abbrev rest : Network → Tests
   rest Γ =
-      (isPass (verdict Γ t), C.TableFails)
-      ∷ (named (dueOn Γ t m x), C.MisnamedSignal)
-      ∷ (everHeard (dueOn Γ t m x), C.NeverHeard)
+      (isPass (verdict Γ t), withoutLine C.TableFails)
+      ∷ (named (dueOn Γ t m x), withoutLine C.MisnamedSignal)
+      ∷ (everHeard (dueOn Γ t m x), withoutLine C.NeverHeard)
       ∷ []
 
   abbrev work : Network → Due
@@ -43,7 +42,7 @@ module _ (sheet t : List ℕ) (m x : ℕ) (g : Reading) (e : g ≡ handedIn shee
     pub due-fails : (b : Breach) → verdict (g .network) t ≡ Breached b
         → D.Refused (withoutLine C.TableFails) ≡ eventsDueOn sheet t m x
     unfolding eventsDueOn
-    due-fails b v = handed-fails sheet t g e D.Refused rest work a C.TableFails (inl (ap isPass v, refl))
+    due-fails b v = handed-fails sheet t g e D.Refused rest work a _ (inl (ap isPass v, refl))
 
     pub due-answers : verdict (g .network) t ≡ Pass → answerTo (dueOn (g .network) t m x) ≡ eventsDueOn sheet t m x
     unfolding eventsDueOn
@@ -57,7 +56,7 @@ module _ (sheet t : List ℕ) (m x : ℕ) (g : Reading) (e : g ≡ handedIn shee
             ap (λ (z : Dispatched). D.Events (eventsOf z)) (sym q)
             ∙ handed-works sheet t g e D.Refused rest work a (pass, (ap named q, (ap everHeard q, tt)))
         by-said P.Misnamed q =
-            handed-fails sheet t g e D.Refused rest work a C.MisnamedSignal (inr (pass, inl (ap named q, refl)))
+            handed-fails sheet t g e D.Refused rest work a _ (inr (pass, inl (ap named q, refl)))
         by-said P.NeverHeard q =
-            handed-fails sheet t g e D.Refused rest work a C.NeverHeard
+            handed-fails sheet t g e D.Refused rest work a _
             (inr (pass, inr (ap named q, inl (ap everHeard q, refl))))

@@ -18,14 +18,13 @@ use Rattle.network.specs.Limits as L
 use Rattle.network.specs.Build.{cells}
 use Rattle.network.specs.WellFormed.{WellFormed, Named}
 use Rattle.network.specs.declared.Network.{Network}
-use Rattle.line.specs.Tests.{Tests}
 use Rattle.sheet.specs.Reading.{Progress, Stop, Go, progress, answered, read}
 use Rattle.sheet.specs.declared.Outcome.{Outcome}
 use Rattle.sheet.specs.declared.Outcome.the-variants.{Accepted, Refused}
 use Rattle.sheet.specs.declared.Reading.{Reading}
 use Rattle.sheet.proofs.WellFormed.{accepted-well-formed}
 use Rattle.dispatch.specs.Heard.{Lettered}
-use Rattle.calls.specs.Call.{withoutLine, call}
+use Rattle.calls.specs.Call.{withoutLine, call, Tests}
 use Rattle.calls.specs.Lent.{asMinutes}
 use Rattle.calls.specs.Calls.{rightLength}
 use Rattle.calls.proofs.Call.{call-refused, call-fails, call-works}
@@ -42,7 +41,7 @@ afterTest-accepted (Refused r) b c e = zero-is-one cc
 module _ {A : Type 0} (refuse : Refusal → A) (sheet : List ℕ) (test : Network → Bool) (c : Cause)
     (rest : Network → Tests) (work : Network → A) where
   abbrev tests : Network → Tests
-  tests Γ = (test Γ, c) ∷ rest Γ
+  tests Γ = (test Γ, withoutLine c) ∷ rest Γ
 
   abbrev net : Network
   net = read sheet .network
@@ -56,7 +55,7 @@ module _ {A : Type 0} (refuse : Refusal → A) (sheet : List ℕ) (test : Networ
       by-outcome Accepted p true q e = zero-is-one cc
       by-outcome Accepted p false q e =
           let same : withoutLine c ≡ r = cc in
-          ap refuse (sym same) ∙ call-fails refuse sheet tests work (read sheet) refl p c (inl (q, refl))
+          ap refuse (sym same) ∙ call-fails refuse sheet tests work (read sheet) refl p (withoutLine c) (inl (q, refl))
       by-outcome (Refused x) p b q e =
           let same : x ≡ r = cc in
           ap refuse (sym same) ∙ call-refused refuse sheet tests work (read sheet) refl x p
@@ -107,13 +106,13 @@ module _ (sheet t : List ℕ) (g : Reading) (e : g ≡ handedIn sheet (length t)
 
   -- and the other tests of the call
   pub handed-fails : {A : Type 0} (refuse : Refusal → A) (rest : Network → Tests) (work : Network → A)
-      → g .outcome ≡ Accepted → (c : Cause) → FirstFails (rest (g .network)) c
-      → refuse (withoutLine c) ≡ call refuse sheet (λ Γ. rightLength (asMinutes t) Γ ∷ rest Γ) work
-  handed-fails refuse rest work a c f =
+      → g .outcome ≡ Accepted → (r : Refusal) → FirstFails (rest (g .network)) r
+      → refuse r ≡ call refuse sheet (λ Γ. rightLength (asMinutes t) Γ ∷ rest Γ) work
+  handed-fails refuse rest work a r f =
       let h = right a in
-      let f′ : FirstFails (rest (read sheet .network)) c = rw (h .same) at f in
+      let f′ : FirstFails (rest (read sheet .network)) r = rw (h .same) at f in
       let l : length t ≡ cells (read sheet .network) = rw (h .same) at (h .sized) in
-      call-fails refuse sheet (λ Γ. rightLength (asMinutes t) Γ ∷ rest Γ) work (read sheet) refl (h .accepted) c
+      call-fails refuse sheet (λ Γ. rightLength (asMinutes t) Γ ∷ rest Γ) work (read sheet) refl (h .accepted) r
       (inr (eq-eqb (length t) (cells (read sheet .network)) l, f′))
 
   pub handed-works : {A : Type 0} (refuse : Refusal → A) (rest : Network → Tests) (work : Network → A)

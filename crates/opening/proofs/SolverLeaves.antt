@@ -80,7 +80,7 @@ module _ {sheet m : List ℕ} {g : Reading} {n : ℕ} {o : Outcome} (t : Prepare
   solving-refused r p =
       kept m r
       (afterTest-refused (refusing (inPlace m)) sheet (λ Γ. leb (cells Γ) (length m)) BufferTooShort
-      (λ Γ. (rests (solve Γ .end), Inconsistent) ∷ []) (λ Γ. writing (inPlace m) (solve Γ .reached)) r
+      (λ Γ. (rests (solve Γ .end), withoutLine Inconsistent) ∷ []) (λ Γ. writing (inPlace m) (solve Γ .reached)) r
       (sym outcome-is ∙ p))
 
   module _ (p : o ≡ Accepted) where
@@ -110,6 +110,6 @@ module _ {sheet m : List ℕ} {g : Reading} {n : ℕ} {o : Outcome} (t : Prepare
           let r = none-passes net m x s is-read k q in
           leaves-as
           (call-fails (refusing (inPlace m)) sheet (solvingTests (inPlace m))
-          (λ Γ. writing (inPlace m) (solve Γ .reached)) (read sheet) refl (passed .0) Inconsistent
+          (λ Γ. writing (inPlace m) (solve Γ .reached)) (read sheet) refl (passed .0) _
           (inr (passed .1, inl (r .0, refl))))
           (record { answer = refl; memory = r .1 })

@@ -23,7 +23,7 @@ use Rattle.calls.specs.declared.Written.the-variants as W
 
 -- the outcome, and behind it one test of the call
 abbrev pub afterTest : Outcome → Bool → Cause → Outcome
-afterTest o passes c = tested o (firstFailing ((passes, c) ∷ []))
+afterTest o passes c = tested o (firstFailing ((passes, withoutLine c) ∷ []))
 
 -- the reading, for a call that is handed so many minutes
 abbrev pub handedIn : List ℕ → ℕ → Reading

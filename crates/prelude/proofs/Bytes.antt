@@ -39,3 +39,11 @@ module _ (f : ℕ → Bool) where
   every-true (a ∷ bs) h =
       and-both (f a) (every f bs) (h a (rw (eq-eqb a a refl)))
       (every-true bs λ b i. h b (rw i (or-true-right (eqb b a))))
+
+-- a test that holds wherever another does
+pub every-mono : (f g : ℕ → Bool) → ((b : ℕ) → f b ≡ true → g b ≡ true) → (s : List ℕ) → every f s ≡ true
+    → every g s ≡ true
+every-mono f g h [] e = refl
+every-mono f g h (b ∷ s) e =
+    let p = and-true (f b) (every f s) e in
+    and-both (g b) (every g s) (h b (p .0)) (every-mono f g h s (p .1))

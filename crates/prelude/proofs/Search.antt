@@ -85,6 +85,17 @@ module _ {A : Type 0} (f : ℕ → Option A) where
             )
       ]
 
+  firstFrom-some : (i n k : ℕ) (a : A) → i ≤ k → k < i + n → ((j : ℕ) → i ≤ j → j < k → f j ≡ none) → f k ≡ some a
+      → firstFrom i n f ≡ some a
+  firstFrom-some i zero k a b c none-below e = absurd (omega arith)
+  firstFrom-some i (suc n) k a b c none-below e =
+      elim (eq-or-ne i k) [
+        | inl q ↦ rw (q, e)
+        | inr q ↦
+            rw (none-below i (omega arith) (omega arith))
+            (firstFrom-some (suc i) n k a (omega arith) (omega arith) (λ j l. none-below j (omega arith)) e)
+      ]
+
   pub none-of-firstBelow : (n : ℕ) → firstBelow n f ≡ none → (k : ℕ) → k < n → f k ≡ none
   none-of-firstBelow n e k h = none-of-firstFrom 0 n e k (omega arith) (omega arith)
 
@@ -102,6 +113,10 @@ module _ {A : Type 0} (f : ℕ → Option A) where
   some-of-firstBelow n a e =
       let w = some-of-firstFrom 0 n a e in
       record { index = w .0; index-lt = omega (arith, w .2); answer = w .3; first = λ j h. w .4 j (omega arith) h }
+
+  pub firstBelow-some : (n : ℕ) (a : A) → FoundAt n a → firstBelow n f ≡ some a
+  firstBelow-some n a w =
+      firstFrom-some 0 n (w .index) a (omega arith) (omega (arith, w .index-lt)) (λ j _ h. w .first j h) (w .answer)
 
 module _ {A : Type 0} {f : ℕ → Option A} {n i : ℕ} (here : Searching f n i) where
   pub searching-on : i < n → f i ≡ none → Searching f n (i + 1)

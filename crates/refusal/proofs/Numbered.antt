@@ -23,3 +23,5 @@ numbered C.TableFails e = omega arith
 numbered C.MisnamedSignal e = omega arith
 numbered C.NeverHeard e = omega arith
 numbered C.TooManyRows e = omega arith
+numbered C.OtherForm e = omega arith
+numbered C.NoMinute e = omega arith

@@ -1,4 +1,4 @@
-// Why a call is refused: the cause, and the line of the sheet that decides.
+// Why a call is refused: the cause, and the line that decides, of the sheet or of a listing.
 ghost use mathlib.Core.Path.{_≡_};
 ghost use Rattle.refusal.specs.Refusal.{numberOf};
 
@@ -37,6 +37,10 @@ pub enum Cause {
     NeverHeard,
     // More rows than a sheet may have would be left in its house form.
     TooManyRows,
+    // A listing is longer than 4,096 bytes, or its header, cases, fields or line ends are not the sheet's.
+    OtherForm,
+    // A minute of a listing is ill-formed, negative or over 65,535.
+    NoMinute,
 }
 
 // A line is counted from 1; 0 where the refusal concerns no line.
@@ -67,5 +71,7 @@ pub fn number(cause: Cause) -> u8
         Cause::MisnamedSignal => 15,
         Cause::NeverHeard => 16,
         Cause::TooManyRows => 17,
+        Cause::OtherForm => 18,
+        Cause::NoMinute => 19,
     }
 }

@@ -4,7 +4,10 @@ pub mod Lines
 pub mod Fields
 pub mod Cutting
 pub mod ReadNumber
+pub mod ReadAs
 pub mod Decimal
 pub mod Spelled
 pub mod RoundTrip
+pub mod Numbers
+pub mod Written
 pub mod Examples

@@ -13,7 +13,7 @@ use lib.ListN.{length, getD, take, drop, length-drop, drop-of-length-le}
 use lib.Seq.{drop-cons, take-all}
 use Rattle.prelude.specs.Bytes.{isIn, same}
 use Rattle.prelude.proofs.Tests.{either, clash}
-use Rattle.text.specs.Lines.{upTo}
+use Rattle.text.specs.Lines.{lineFeed, upTo}
 
 -- a part that runs to the end of its slice, `&s[a..]`
 pub take-drop : (s : List ℕ) (a : ℕ) → take (length s - a) (drop a s) ≡ drop a s
@@ -103,3 +103,17 @@ same-length [] (y ∷ b) n = refl
 same-length (x ∷ a) [] n = refl
 same-length (x ∷ a) (y ∷ b) n =
     elim (either (eqb x y)) [ inl e ↦ rw (e, same-length a b (λ h. n (ap suc h))) | inr e ↦ rw e ]
+
+-- the end of a line: it is missing, or the line is what stands before it
+module _ (rest : List ℕ) (e : ℕ) (is : e ≡ length (upTo lineFeed rest)) where
+  pub line-missing : e ≡ length rest → isIn lineFeed rest ≡ false
+  line-missing h = not-isIn-of-upTo-le lineFeed rest (omega arith)
+
+  pub line-ends : (e ≡ length rest → ⊥) → isIn lineFeed rest ≡ true
+  line-ends n = isIn-of-upTo-lt lineFeed rest (let h = upTo-le lineFeed rest in omega arith)
+
+  pub line-le : e ≤ length rest
+  line-le = let h = upTo-le lineFeed rest in omega arith
+
+  pub line-is : take e rest ≡ upTo lineFeed rest
+  line-is = rw is (take-upTo lineFeed rest)

@@ -64,7 +64,7 @@ isNatural-decimal (suc v) =
     let p = first-decimal (suc v) (omega arith) in
     isNatural-first (decimal (suc v)) (every-decimal (suc v)) (p .0) (p .1)
 
-digit-bounds : (b : ℕ) → isDigit b ≡ true → (48 ≤ b) × (b ≤ 57)
+pub digit-bounds : (b : ℕ) → isDigit b ≡ true → (48 ≤ b) × (b ≤ 57)
 digit-bounds b e = let p = and-true (leb 48 b) (leb b 57) e in (leb-true 48 b (p .0), leb-true b 57 (p .1))
 
 -- one digit, and all digits, behind those of v, which is not 0

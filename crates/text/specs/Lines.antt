@@ -1,7 +1,7 @@
 -- Lines and their fields: "every line ends with a line feed (byte 10). Fields are separated by one comma" (01, The
 -- sheet).
-use mathlib.Core.Bool.{Bool, true, false}
-use mathlib.Core.List.{List, [], _∷_}
+use mathlib.Core.Bool.{Bool, true, false, _&&_, not}
+use mathlib.Core.List.{List, [], _∷_, _++_}
 use Prim.Native.Nat.{ℕ, _+_}
 use Prim.Native.Char.{code}
 use lib.Dec.{eqb}
@@ -13,6 +13,15 @@ lineFeed = 10
 
 abbrev pub comma : ℕ
 comma = code ","
+
+-- a byte of a field: neither a comma nor a line feed
+abbrev pub plain : ℕ → Bool
+plain b = not (eqb b comma) && not (eqb b lineFeed)
+
+-- a line as it is written: its first field and the others
+abbrev pub line : List ℕ → List (List ℕ) → List ℕ
+line f [] = f ++ lineFeed ∷ []
+line f (g ∷ gs) = f ++ comma ∷ line g gs
 
 -- what stands before the first byte d, or everything where there is none
 abbrev pub upTo : ℕ → List ℕ → List ℕ

@@ -7,11 +7,10 @@ use Prim.Native.Nat.{ℕ, _-_}
 use native.Mathlib.Omega.{arith}
 use denote.Ref.{now}
 use borrow.Author.Needs.{needs}
-use Rattle.text.specs.Lines.{lineFeed}
+use Rattle.text.specs.Lines.{lineFeed, line}
 use Rattle.page.proofs.Append.{append-both, append-as}
 use Rattle.page.proofs.Join.{Joining, join-none, join-next, join-all}
 use Rattle.network.specs.Build.{nameOf}
-use Rattle.layout.specs.Layout.{line}
 use Rattle.prelude.proofs.Mapped.{map-tabulate}
 use Rattle.canonical.proofs.Sections.{section-appended}
 use Rattle.canonical.proofs.push_events.Statement.{statement}

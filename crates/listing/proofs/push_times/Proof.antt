@@ -5,16 +5,15 @@ use Prim.Native.Nat.{_-_}
 use native.Mathlib.Omega.{arith}
 use borrow.Author.Needs.{needs}
 use Rattle.text.specs.Lines.{comma}
-use Rattle.text.specs.Decimal.{decimal}
-use Rattle.network.specs.Strategy.{time}
 use Rattle.page.proofs.Append.{append-then}
 use Rattle.page.proofs.Join.{Joining, join-none, join-next, join-all}
+use Rattle.listing.specs.Listing.{timeTexts}
 use Rattle.listing.proofs.push_times.Statement.{statement}
 use Rattle.listing.proofs.push_times.Tie as tie
 
 abbrev Inv-loop : tie.InvT-loop
 Inv-loop page₀ at table s events first next₀ u₀ page next u =
-    Joining 6 (λ i. comma ∷ decimal (time events table s i)) events page₀ at u page next
+    Joining 6 (λ i. comma ∷ timeTexts events table s i) events page₀ at u page next
 
 abbrev μ-loop : tie.MeasureT-loop
 μ-loop page₀ at table s events first next₀ u₀ page next u = events - u

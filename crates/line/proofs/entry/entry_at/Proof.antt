@@ -10,7 +10,7 @@ use Rattle.network.specs.declared.Network.{Network}
 use Rattle.line.specs.Answers.{partsOf, entryBy, entryAt}
 use Rattle.line.specs.declared.Section.{Section}
 use Rattle.line.specs.declared.Section.the-variants.{Events, Signals, Rules, Reactions}
-use Rattle.line.proofs.Refusals.{line-missing, line-le}
+use Rattle.text.proofs.Lines.{line-missing, line-le}
 use Rattle.line.proofs.Answered.{event-parts, signal-parts, rule-parts, reaction-parts, entry-ends}
 use Rattle.line.proofs.entry.entry_at.Statement.{statement}
 use Rattle.line.proofs.entry.entry_at.Tie as tie

@@ -4,7 +4,8 @@ use mathlib.Core.Path.{sym, _∙_, ap}
 use mathlib.Core.Bool.{true, false}
 use Rattle.network.specs.Limits as L
 use Rattle.line.specs.declared.Limit.the-variants as M
-use Rattle.line.proofs.Numbers.{number-plus, number-minus, limit-ill, limit-beyond}
+use Rattle.text.proofs.ReadAs.{number-plus, number-minus}
+use Rattle.line.proofs.Numbers.{limit-ill, limit-beyond}
 use Rattle.line.proofs.Numbers.{limit-plus, limit-minus, signed-plus, negated-fits, signed-minus}
 use Rattle.line.proofs.field.limit_of.Statement.{statement}
 use Rattle.line.proofs.field.limit_of.Tie as tie

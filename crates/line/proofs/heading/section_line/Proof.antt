@@ -2,7 +2,7 @@
 use borrow.Author.Needs.{needs}
 use mathlib.Core.Path.{sym, _∙_}
 use lib.Seq.{length-take-le}
-use Rattle.line.proofs.Refusals.{line-missing, line-ends, line-le, line-is}
+use Rattle.text.proofs.Lines.{line-missing, line-ends, line-le, line-is}
 use Rattle.line.proofs.heading.section_line.Statement.{statement}
 use Rattle.line.proofs.heading.section_line.Tie as tie
 

@@ -13,12 +13,8 @@ use lib.ListN.{length, drop}
 use lib.Seq.{drop-drop, drop-append-add}
 use Rattle.prelude.specs.Bytes.{isIn, every}
 use Rattle.prelude.proofs.Tests.{either, clash, and-true}
-use Rattle.text.specs.Lines.{comma, lineFeed, upTo, intoFirst, fields, lineAt, endsAt, afterLine}
-use Rattle.layout.specs.Layout.{line}
-
--- a byte of a field: neither a comma nor a line feed
-abbrev pub plain : ℕ → Bool
-plain b = not (eqb b comma) && not (eqb b lineFeed)
+use Rattle.text.specs.Lines.{comma, lineFeed, plain, line, upTo, intoFirst, fields, lineAt, endsAt, afterLine}
+use Rattle.text.proofs.Fields.{1-le-fields}
 
 abbrev pub Plain : List (List ℕ) → Type 0
 Plain [] = Unit {0}
@@ -98,18 +94,6 @@ is-read sheet at f gs rest p e =
     }
 
 -- joining the fields of a line gives the line back
-1-le-fields : (s : List ℕ) → 1 ≤ length (fields s)
-1-le-fields [] = omega arith
-1-le-fields (b ∷ s) =
-    elim (either (eqb b comma)) [
-      | inl e ↦ rw (e, fields) (omega arith)
-      | inr e ↦ rw (e, fields) (into b (fields s) (1-le-fields s))
-    ]
-  where
-    into : (b : ℕ) (fs : List (List ℕ)) → 1 ≤ length fs → 1 ≤ length (intoFirst b fs)
-    into b [] h = h
-    into b (f ∷ fs) h = h
-
 line-first : (b : ℕ) (fs : List (List ℕ)) → 1 ≤ length fs → lineOf (intoFirst b fs) ≡ b ∷ lineOf fs
 line-first b [] h = absurd (omega arith)
 line-first b (f ∷ []) h = refl
