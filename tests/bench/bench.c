@@ -1,6 +1,6 @@
-/* The workshop bench: calls the library as a C program does, and compares every answer and every lent byte with what document 01
- * and points 1, 2 and 3 of document 02 ask. The answers here were written by hand from the papers; where a table is
- * played, what the solver wrote is to come out.
+/* The workshop bench: calls the library as a C program does, and compares every answer and every lent byte with what
+ * document 01 and points 1 to 4 of document 02 ask. The answers here were written by hand from the papers; where a
+ * table is played, or its listing read back, what the solver wrote is to come out.
  *
  * cc -std=c11 -O2 -Wall -Wextra -Werror -o bench bench.c DIR/libopening.a
  *
@@ -143,7 +143,7 @@ static void judge_refused(const char *about, const char *sheet, size_t length, u
     judge_bytes(about, sheet, strlen(sheet), bytes, length, wanted);
 }
 
-/* ---------------------------------------------------------------- The player and the two writers */
+/* ---------------------------------------------------------------- The player, the writers and the listing's reader */
 
 /* What is handed in: a sheet, and for the player and the listing a table as bytes. */
 struct handed {
@@ -230,11 +230,68 @@ static void house(const char *about, const char *sheet, size_t sheet_len, size_t
     expect_memory(about, "sheet", &paper, &paper_before);
 }
 
-/* All three turn the same sheet away, whatever else they are handed. */
+/* A listing handed in, as any bytes. */
+struct printed {
+    const char *text;
+    size_t length;
+};
+
+static struct printed printed(const char *text)
+{
+    return (struct printed){text, strlen(text)};
+}
+
+/* Reads a listing back into a table of so many bytes. Wanted: a refusal with its line, or with number 0 this table;
+ * the whole answer is compared. Around the listing the guards are line feeds, as around a sheet. */
+static void reread(const char *about, const char *sheet, size_t sheet_len, struct printed listing, size_t table_len,
+                   unsigned number, unsigned line, const uint8_t *bytes, size_t length)
+{
+    static struct lent paper, paper_before, text, text_before, table, wanted;
+    lend(&paper, sheet, sheet_len, '\n');
+    lend(&text, listing.text, listing.length, '\n');
+    lend_room(&table, table_len);
+    paper_before = paper;
+    text_before = text;
+    wanted = table;
+    if (number == 0)
+        memcpy(slice(&wanted), bytes, length);
+
+    uint64_t answer = opening_read_listing(slice(&paper), sheet_len, slice(&text), listing.length, slice(&table),
+                                           table_len);
+    calls++;
+    expect(about, "the number", opening_number(answer), number);
+    expect(about, "the line", opening_line(answer), line);
+    expect(about, "the count of minutes", opening_minutes(answer), number == 0 ? length / 2 : 0);
+    expect(about, "the number in the unused bytes", answer >> 40, 0);
+    expect_memory(about, "table", &table, &wanted);
+    expect_memory(about, "listing", &text, &text_before);
+    expect_memory(about, "sheet", &paper, &paper_before);
+}
+
+/* Wanted: these minutes. */
+static void reread_minutes(const char *about, const char *sheet, const char *listing, size_t table_len,
+                           const uint16_t *minutes, size_t count)
+{
+    uint8_t bytes[OPENING_TABLE_MOST];
+    const size_t length = pairs(bytes, minutes, count);
+    reread(about, sheet, strlen(sheet), printed(listing), table_len, 0, 0, bytes, length);
+}
+
+/* Wanted: a refusal, whether the table is exact, longer, too short or empty. */
+static void misread(const char *about, const char *sheet, struct printed listing, unsigned number, unsigned line)
+{
+    static const size_t lengths[] = {12, OPENING_TABLE_MOST, 13, 11, 10, 1, 0};
+    for (size_t i = 0; i < sizeof lengths / sizeof lengths[0]; i++)
+        reread(about, sheet, strlen(sheet), listing, lengths[i], number, line, NULL, 0);
+}
+
+/* All four turn the same sheet away, whatever else they are handed. */
 static void refused_by_all(const char *about, const char *sheet, size_t sheet_len, unsigned number, unsigned line)
 {
     static const uint8_t bytes[64];
     static const size_t lengths[] = {12, 0, 7};
+    static const char *const texts[] = {"case,start,call,door\nF,0,5,6\nT,0,5,20\n", "", "case,start,call,door\n",
+                                        "case,start,call,door\nF,0,05,6\nT,0,5,20\n"};
     for (size_t i = 0; i < sizeof lengths / sizeof lengths[0]; i++) {
         const struct handed handed = {sheet, sheet_len, bytes, lengths[i]};
         due(about, handed, 0, "", 0, number, line, 0);
@@ -244,6 +301,10 @@ static void refused_by_all(const char *about, const char *sheet, size_t sheet_le
     }
     house(about, sheet, sheet_len, ROOM, number, line, NULL);
     house(about, sheet, sheet_len, 0, number, line, NULL);
+    for (size_t i = 0; i < sizeof texts / sizeof texts[0]; i++) {
+        reread(about, sheet, sheet_len, printed(texts[i]), 12, number, line, NULL, 0);
+        reread(about, sheet, sheet_len, printed(texts[i]), 0, number, line, NULL, 0);
+    }
 }
 
 /* ---------------------------------------------------------------- The sheets */
@@ -255,6 +316,8 @@ static void refused_by_all(const char *about, const char *sheet, size_t sheet_le
 static const char example[] = HEAD TWO "max,start,door,30,-\n";
 static const char no_table[] = HEAD TWO "max,start,door,19,-\n";
 static const uint16_t opened[] = {0, 5, 6, 0, 5, 20};
+#define NAMES "case,start,call,door\n"
+static const char example_listing[] = NAMES "F,0,5,6\nT,0,5,20\n";
 
 /* Numbers of bytes that its table has not. */
 static const size_t other_lengths[] = {0, 1, 10, 11, 13, 14};
@@ -267,6 +330,7 @@ static const char two_signals[] = "horizon,60\nevents,4\nstart\na\nb\ndoor\nsign
 static const char weights[] = "horizon,60\nevents,3\nstart\ncall\ndoor\nsignals,2\np,start\nq,call\nrules,2\n"
                               "min,start,call,2,-\nmin,call,door,5,p!q\n";
 static const uint16_t weights_opened[] = {0, 2, 1, 0, 2, 7, 0, 2, 1, 0, 2, 3};
+static const char weights_listing[] = NAMES "FF,0,2,1\nTF,0,2,7\nFT,0,2,1\nTT,0,2,3\n";
 static const char four_signals[] = "horizon,60\nevents,6\nstart\na\nb\nc\nd\ndoor\nsignals,4\nw,c\np,a\nz,d\nq,b\nrules,8\n"
                                    "min,start,a,3,-\nmin,a,b,2,p\nmin,a,b,1,!p\nmin,a,c,4,q\nmin,b,c,3,p!q\nmin,c,d,2,w\n"
                                    "min,d,door,5,p!z\nmin,c,door,9,!pwz\n";
@@ -714,9 +778,8 @@ static void questions_turned_away(void)
 
 static void listings(void)
 {
-    static const char text[] = "case,start,call,door\nF,0,5,6\nT,0,5,20\n";
-    static const char bad_text[] = "case,start,call,door\nF,65535,10,256\nT,9999,10000,0\n";
-    static const char two_letters[] = "case,start,call,door\nFF,0,2,1\nTF,0,2,7\nFT,0,2,1\nTT,0,2,3\n";
+    static const char *const text = example_listing;
+    static const char bad_text[] = NAMES "F,65535,10,256\nT,9999,10000,0\n";
     static const char high_text[] = "case,start,door\n-,0,1000\n";
     static const uint16_t bad[] = {65535, 10, 256, 9999, 10000, 0};
     const size_t exact = strlen(text);
@@ -739,7 +802,7 @@ static void listings(void)
         list("listing, 11 before 12", handed, 0, 11, 0, NULL);
     }
     handed = (struct handed){weights, strlen(weights), bytes, pairs(bytes, weights_opened, 12)};
-    list("listing, two letters", handed, strlen(two_letters), 0, 0, two_letters);
+    list("listing, two letters", handed, strlen(weights_listing), 0, 0, weights_listing);
     handed = (struct handed){high, strlen(high), bytes, pairs(bytes, high_opened, 2)};
     list("listing, no signal", handed, strlen(high_text), 0, 0, high_text);
 }
@@ -770,6 +833,153 @@ static void longest_listing(void)
     expect("longest listing", "its length", at, OPENING_LISTING_MOST);
     list("longest listing, exact", handed, OPENING_LISTING_MOST, 0, 0, text);
     list("longest listing, a byte less", handed, OPENING_LISTING_MOST - 1, 12, 0, NULL);
+    reread("longest listing, read back", sheet, end, printed(text), 512, 0, 0, bytes, 512);
+    reread("longest listing, read back, generous", sheet, end, printed(text), 600, 0, 0, bytes, 512);
+    reread("longest listing, read back, a byte less", sheet, end, printed(text), 511, 12, 0, NULL, 0);
+    reread("longest listing, read back, a pair less", sheet, end, printed(text), 510, 12, 0, NULL, 0);
+    reread("longest listing, a byte less of it", sheet, end, (struct printed){text, at - 1}, 512, 18, 17, NULL, 0);
+    text[at - 2] = 'x';
+    reread("longest listing, its last digit smudged", sheet, end, printed(text), 512, 19, 17, NULL, 0);
+}
+
+/* The solver's table of a sheet, listed and read back. */
+static void solve_list_and_reread(const char *sheet)
+{
+    static const char about[] = "solve, list and read back";
+    uint8_t table[OPENING_TABLE_MOST], text[OPENING_LISTING_MOST];
+    const uint8_t *bytes = (const uint8_t *)sheet;
+    uint64_t solved = opening_solve(bytes, strlen(sheet), table, sizeof table);
+    expect(about, "the solver's number", opening_number(solved), 0);
+    const size_t length = 2 * opening_minutes(solved);
+    uint64_t listed = opening_listing(bytes, strlen(sheet), table, length, text, sizeof text);
+    expect(about, "the writer's number", opening_number(listed), 0);
+    calls += 2;
+    const struct printed listing = {(const char *)text, opening_bytes(listed)};
+    reread(about, sheet, strlen(sheet), listing, length, 0, 0, table, length);
+    reread(about, sheet, strlen(sheet), listing, length + 1, 0, 0, table, length);
+    reread(about, sheet, strlen(sheet), listing, OPENING_TABLE_MOST, 0, 0, table, length);
+    reread(about, sheet, strlen(sheet), listing, length - 1, 12, 0, NULL, 0);
+    reread(about, sheet, strlen(sheet), listing, length - 2, 12, 0, NULL, 0);
+}
+
+/* Each table is recovered, whether it is good or not. */
+static void listings_read_back(void)
+{
+    static const char *const solved[] = {example, signal_last, two_signals, weights, four_signals, after_1,
+                                         after_2, after_15,    after_60,    slow_pair, high};
+    for (size_t i = 0; i < sizeof solved / sizeof solved[0]; i++)
+        solve_list_and_reread(solved[i]);
+    reread_minutes("read back, exact", example, example_listing, 12, opened, 6);
+    reread_minutes("read back, a byte more", example, example_listing, 13, opened, 6);
+    reread_minutes("read back, a pair more", example, example_listing, 14, opened, 6);
+    reread_minutes("read back, generous", example, example_listing, OPENING_TABLE_MOST, opened, 6);
+    for (size_t length = 0; length < 12; length++)
+        reread("read back, too short", example, strlen(example), printed(example_listing), length, 12, 0, NULL, 0);
+    reread_minutes("read back, no good table", no_table, example_listing, 12, opened, 6);
+    reread_minutes("read back, a table that is not good", example, NAMES "F,65535,10,256\nT,9999,10000,0\n", 12,
+                   (const uint16_t[]){65535, 10, 256, 9999, 10000, 0}, 6);
+    reread_minutes("read back, one to five digits", example, NAMES "F,9,99,999\nT,100,65534,1\n", 12,
+                   (const uint16_t[]){9, 99, 999, 100, 65534, 1}, 6);
+    reread_minutes("read back, no signal", high, "case,start,door\n-,0,1000\n", 4, high_opened, 2);
+    reread_minutes("read back, two letters", weights, weights_listing, 24, weights_opened, 12);
+}
+
+/* Listings of document 01's sheet that are turned away: 18 wherever it stands comes before 19. */
+static const struct {
+    unsigned number, line;
+    const char *listing;
+} misprinted[] = {
+    {18, 1, ""},
+    {18, 1, "\n"},
+    {18, 1, "case,start,call,door"},
+    {18, 1, "Case,start,call,door\nF,0,5,6\nT,0,5,20\n"},
+    {18, 1, "case,start,door,call\nF,0,5,6\nT,0,5,20\n"},
+    {18, 1, "case,start,call\nF,0,5,6\nT,0,5,20\n"},
+    {18, 1, "case,start,call,door,vault\nF,0,5,6\nT,0,5,20\n"},
+    {18, 1, "case,start,call,door\r\nF,0,5,6\r\nT,0,5,20\r\n"},
+    {18, 1, "F,0,5,6\nT,0,5,20\n"},
+    {18, 2, NAMES},
+    {18, 2, NAMES "\nF,0,5,6\nT,0,5,20\n"},
+    {18, 2, NAMES "T,0,5,20\nF,0,5,6\n"},
+    {18, 2, NAMES "f,0,5,6\nT,0,5,20\n"},
+    {18, 2, NAMES "FF,0,5,6\nT,0,5,20\n"},
+    {18, 2, NAMES "-,0,5,6\nT,0,5,20\n"},
+    {18, 2, NAMES ",0,5,6\nT,0,5,20\n"},
+    {18, 2, NAMES "F,0,5\nT,0,5,20\n"},
+    {18, 2, NAMES "F,0,5,6,\nT,0,5,20\n"},
+    {18, 3, NAMES "F,0,5,6\n"},
+    {18, 3, NAMES "F,0,5,6\nF,0,5,6\n"},
+    {18, 3, NAMES "F,0,05,6\nT,0,5,20"},
+    {18, 3, NAMES "F,0,05,6\nt,0,5,20\n"},
+    {18, 4, NAMES "F,0,5,6\nT,0,5,20\n\n"},
+    {18, 4, NAMES "F,0,05,6\nT,0,5,20\nT,0,5,20\n"},
+    {19, 2, NAMES "F,,5,6\nT,0,5,20\n"},
+    {19, 2, NAMES "F,0,05,6\nT,0,5,20\n"},
+    {19, 2, NAMES "F,-0,5,6\nT,0,5,20\n"},
+    {19, 2, NAMES "F,0,-5,6\nT,0,5,20\n"},
+    {19, 2, NAMES "F,0,+5,6\nT,0,5,20\n"},
+    {19, 2, NAMES "F,0, 5,6\nT,0,5,20\n"},
+    {19, 2, NAMES "F,0,5,6\r\nT,0,5,20\r\n"},
+    {19, 2, NAMES "F,0,5,65536\nT,0,5,020\n"},
+    {19, 3, NAMES "F,0,5,65535\nT,0,5,65536\n"},
+    {19, 3, NAMES "F,1,5,6\nT,0,18446744073709551621,20\n"},
+    {19, 3, NAMES "F,0,5,6\nT,0,5,\n"},
+};
+
+static void listings_turned_away(void)
+{
+    for (size_t i = 0; i < sizeof misprinted / sizeof misprinted[0]; i++) {
+        const unsigned number = misprinted[i].number, line = misprinted[i].line;
+        char about[64];
+        sprintf(about, "misprinted listing %u (refusal %u line %u)", (unsigned)i, number, line);
+        misread(about, example, printed(misprinted[i].listing), number, line);
+    }
+    misread("a NUL behind the last row", example, (struct printed){example_listing, sizeof example_listing}, 18, 4);
+    misread("the listing of another sheet", signal_last, printed(example_listing), 18, 1);
+    misread("the listing of a sheet with two signals", example, printed(weights_listing), 18, 2);
+    misread("the listing of a sheet with one signal", weights, printed(example_listing), 18, 2);
+}
+
+/* Each byte of the listing written over in turn: a digit of a minute is 19, all else is 18. And the listing cut behind
+ * each of its bytes: the line that is not whole, or is missing. */
+static void smudged_and_cut(void)
+{
+    const size_t header = strlen(NAMES), length = strlen(example_listing);
+    unsigned line = 1;
+    for (size_t i = 0; i < length; i++) {
+        static const char smudges[] = {'x', '\0', '\r', (char)200};
+        char about[64], text[sizeof example_listing];
+        const char byte = example_listing[i];
+        sprintf(about, "the listing cut behind %u bytes", (unsigned)i);
+        misread(about, example, (struct printed){example_listing, i}, 18, line);
+        for (size_t j = 0; j < sizeof smudges; j++) {
+            strcpy(text, example_listing);
+            text[i] = smudges[j];
+            sprintf(about, "byte %u of the listing smudged", (unsigned)i);
+            const unsigned number = i >= header && byte >= '0' && byte <= '9' ? 19 : 18;
+            misread(about, example, (struct printed){text, length}, number, line);
+        }
+        if (byte == '\n')
+            line++;
+    }
+}
+
+/* 4,096 bytes are read, 4,097 are not. */
+static void long_listings(void)
+{
+    static char text[OPENING_SHEET_MOST + 1];
+    const size_t length = strlen(example_listing);
+    memset(text, 'x', sizeof text);
+    memcpy(text, example_listing, length);
+    misread("a listing of 4,096 bytes", example, (struct printed){text, OPENING_SHEET_MOST}, 18, 4);
+    misread("a listing of 4,097 bytes", example, (struct printed){text, OPENING_SHEET_MOST + 1}, 18, 1);
+    memset(text, '0', sizeof text);
+    memcpy(text, example_listing, length - 1);
+    text[OPENING_SHEET_MOST - 1] = '\n';
+    misread("4,096 bytes, most of them digits", example, (struct printed){text, OPENING_SHEET_MOST}, 19, 3);
+    text[OPENING_SHEET_MOST - 1] = '0';
+    text[OPENING_SHEET_MOST] = '\n';
+    misread("4,097 bytes, most of them digits", example, (struct printed){text, OPENING_SHEET_MOST + 1}, 18, 1);
 }
 
 static void house_forms(void)
@@ -915,6 +1125,10 @@ int main(void)
     questions_turned_away();
     listings();
     longest_listing();
+    listings_read_back();
+    listings_turned_away();
+    smudged_and_cut();
+    long_listings();
     house_forms();
     house_forms_of_slow_signals();
     rows_left();

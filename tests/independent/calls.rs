@@ -1,4 +1,5 @@
-//! The mode without a word: the C calls of `libopening.a` on generated sheets, tables, minutes and texts, against the model.
+//! The mode without a word: the C calls of `libopening.a` on generated sheets, tables, minutes, texts and listings,
+//! against the model.
 
 use crate::gen::{self, Rng};
 use crate::lent::{lend_bytes, lend_room, lend_text, Lent};
@@ -132,7 +133,14 @@ pub fn compare_one(library: &Library, seed: u64, counts: &mut Counts) -> Result<
         ask_for_listing(&mut rng, library, &case, table, counts)?;
     }
     ask_for_house_form(&mut rng, library, &case, counts)?;
-    if rng.chance(15) { compare_long_texts(library, &mut rng, counts) } else { Ok(()) }
+    if rng.chance(15) {
+        compare_long_texts(library, &mut rng, counts)?;
+    }
+    for _ in 0..if case.reading.is_ok() { 3 } else { 1 } {
+        let listing = gen::listing(&mut rng, &sheet, case.reading.as_ref().ok(), case.solved.as_deref());
+        ask_to_read(&mut rng, library, &case, &listing, counts)?;
+    }
+    Ok(())
 }
 
 /// House forms of about 64 rows and more, and listings with minutes of five digits.
@@ -140,9 +148,10 @@ fn compare_long_texts(library: &Library, rng: &mut Rng, counts: &mut Counts) -> 
     let sheet = gen::text_sheet(rng);
     let case = Case::new(rng, &sheet, |_| None);
     if let Ok(net) = &case.reading {
-        let table = gen::bytes_of(&gen::wide_table(rng, net));
-        let table = lend_bytes(rng, &table);
+        let minutes = gen::wide_table(rng, net);
+        let table = lend_bytes(rng, &gen::bytes_of(&minutes));
         ask_for_listing(rng, library, &case, &table, counts)?;
+        ask_to_read(rng, library, &case, &model::listing(&sheet, net, &minutes), counts)?;
     }
     ask_for_house_form(rng, library, &case, counts)
 }
@@ -186,6 +195,30 @@ fn ask_for_house_form(rng: &mut Rng, library: &Library, case: &Case, counts: &mu
         compare_house(library, case, &text, &lend_room(rng, room), counts)?;
     }
     Ok(())
+}
+
+/// A listing is read into tables as they are lent to the solver, of which some are enough where it is refused; where
+/// it is not, what was read is printed.
+fn ask_to_read(
+    rng: &mut Rng, library: &Library, case: &Case, listing: &[u8], counts: &mut Counts,
+) -> Result<(), String> {
+    let listing = lend_text(rng, listing);
+    let net = case.reading.as_ref().map_err(|refusal| *refusal);
+    let recovered = net.and_then(|net| model::returned(case.sheet.slice(), net, listing.slice()));
+    count(counts, reader_kind(&case.reading, &recovered));
+    let mut lengths = solver_lengths(rng, &case.reading);
+    if recovered.is_err() {
+        lengths = vec![rng.pick(&lengths), rng.pick(&lengths), 600];
+    }
+    for length in lengths {
+        let table = lend_room(rng, length);
+        let right = recovered.clone().and_then(|minutes| model::fitting(minutes, length / 2));
+        compare_reader(library, case, &listing, &table, &right)?;
+    }
+    match recovered {
+        Ok(minutes) => compare_printed_back(library, case, &listing, 2 * minutes.len()),
+        Err(_) => Ok(()),
+    }
 }
 
 /// Two lengths to lend for a text: exact or a byte less, and another; for a refusal an empty room or a short one, and a long one.
@@ -277,6 +310,38 @@ fn compare_house(
         .map_err(|words| format!("{words}room for {} bytes\n{}", room.length, scene(case, None)))
 }
 
+/// One call of the reader of listings.
+fn compare_reader(
+    library: &Library, case: &Case, listing: &Lent, table: &Lent, right: &Result<Vec<u16>, Refusal>,
+) -> Result<(), String> {
+    let (sheet, text, mut lent) = (case.sheet.clone(), listing.clone(), table.clone());
+    let answer = (library.read_listing)(sheet.slice(), text.slice(), lent.slice_mut());
+    let (right, asked) = match right {
+        Err(refusal) => (refusal_answer(*refusal), table.clone()),
+        Ok(minutes) => (value_answer(minutes.len()), table.with(&gen::bytes_of(minutes))),
+    };
+    let memory = [("table", &asked, &lent), ("listing", listing, &text), ("sheet", &case.sheet, &sheet)];
+    check("reader of listings", (right, answer), &memory)
+        .map_err(|words| words + &listing_scene(listing) + &scene(case, Some(table)))
+}
+
+/// "a listing that is accepted prints back to its own bytes": what the library reads into a table of so many bytes, it
+/// writes.
+fn compare_printed_back(library: &Library, case: &Case, listing: &Lent, length: usize) -> Result<(), String> {
+    let (mut table, mut text) = (vec![0; length], vec![0; listing.length]);
+    (library.read_listing)(case.sheet.slice(), listing.slice(), &mut table);
+    let answer = (library.listing)(case.sheet.slice(), &table, &mut text);
+    if text == listing.slice() && answer == value_answer(text.len()) {
+        return Ok(());
+    }
+    let words = format!("a listing is read and printed as\n{}", text_of(&text));
+    Err(words + &listing_scene(listing) + &scene(case, None))
+}
+
+fn listing_scene(listing: &Lent) -> String {
+    format!("listing of {} bytes\n{}", listing.length, text_of(listing.slice()))
+}
+
 /// A call's answer, and each part of lent memory, its guards too: first what it is to be, then what it is.
 fn check(call: &str, (right, answer): (u64, u64), memory: &[(&str, &Lent, &Lent)]) -> Result<(), String> {
     if answer != right {
@@ -336,5 +401,14 @@ fn text_kind(what: &str, outcome: &Result<usize, Refusal>) -> String {
     match outcome {
         Ok(_) => format!("{what} written"),
         Err(refusal) => format!("{what} refused {:>2}", refusal.number),
+    }
+}
+
+/// The verdict on what is read, or the refusal, with its line where it is the listing's.
+fn reader_kind(reading: &Result<Net, Refusal>, recovered: &Result<Vec<u16>, Refusal>) -> String {
+    match (reading, recovered) {
+        (Ok(_), Err(refusal)) => format!("listing back refused {} line {:>2}", refusal.number, refusal.line),
+        (Ok(net), Ok(table)) => format!("listing back, {}", judge_kind(&Ok(model::judge(net, table)))),
+        (Err(refusal), _) => format!("listing back, sheet refused {:>2}", refusal.number),
     }
 }

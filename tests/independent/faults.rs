@@ -1,9 +1,12 @@
 //! Wrong libraries, to see that the comparison notices them: those of document 01's last section, and some like them
-//! for each call and for reactions (02, point 3).
+//! for each call, for reactions (02, point 3) and for listings read back (02, point 4).
 
-use crate::library::own::{self, handed, minutes_of, refused, refused_call, two_bytes, verdict, write, write_text};
+use crate::library::own::{
+    self, handed, minutes_of, pack, refused, refused_call, returned, two_bytes, verdict, write, write_text,
+};
 use crate::library::{Library, Question};
 use crate::model::{self, truth, Kind, Net, Refusal, Rule, Verdict};
+use crate::readers::{self, Slip as Back};
 use std::ops::RangeInclusive;
 
 const fn solver(solve: fn(&[u8], &mut [u8]) -> u64) -> Library {
@@ -26,15 +29,20 @@ const fn house(house: fn(&[u8], &mut [u8]) -> u64) -> Library {
     Library { house, ..own::LIBRARY }
 }
 
+const fn reader(read_listing: fn(&[u8], &[u8], &mut [u8]) -> u64) -> Library {
+    Library { read_listing, ..own::LIBRARY }
+}
+
 const REFUSES_ALL: Library = Library {
     solve: |_, _| refused_call(13),
     judge: |_, _| refused_call(11),
     due: |_| refused_call(16),
     listing: |_, _, _| refused_call(12),
     house: |_, _| refused_call(17),
+    read_listing: |_, _, _| refused_call(12),
 };
 
-pub const FAULTS: [(&str, Library); 159] = [
+pub const FAULTS: [(&str, Library); 260] = [
     ("13-at-once", solver(|sheet, table| with_solver(sheet, table, |_| None))),
     ("refuses-all", REFUSES_ALL),
     ("minute-0-throughout", solver(|sheet, table| with_solver(sheet, table, |net| model::solve(net).map(|good| vec![0; good.len()])))),
@@ -194,6 +202,107 @@ pub const FAULTS: [(&str, Library); 159] = [
     ("due-judged-without-reactions", due(judged_without_reactions)),
     ("house-reactions-dropped", house(|sheet, out| write_text(model::house(sheet).map(without_reactions), out))),
     ("house-room-without-reactions", house(room_without_reactions)),
+    ("read-18-and-19-exchanged", reader(|sheet, text, room| read_back(sheet, text, room, Back::NumbersExchanged))),
+    ("read-lines-in-turn", reader(|sheet, text, room| read_back(sheet, text, room, Back::LinesInTurn))),
+    ("read-19-before-18-on-a-line", reader(|sheet, text, room| read_back(sheet, text, room, Back::NineteenOnTheLine))),
+    ("read-19-before-18", reader(|sheet, text, room| read_back(sheet, text, room, Back::NineteenFirst))),
+    ("read-last-line-at-fault", reader(|sheet, text, room| read_back(sheet, text, room, Back::LastLineAtFault))),
+    ("read-last-19-told", reader(|sheet, text, room| read_back(sheet, text, room, Back::LastNineteen))),
+    ("read-line-from-0", reader(|sheet, text, room| read_back(sheet, text, room, Back::LineFrom0))),
+    ("read-line-lost", reader(|sheet, text, room| read_back(sheet, text, room, Back::LineLost))),
+    ("read-19-without-line", reader(|sheet, text, room| read_back(sheet, text, room, Back::NineteenWithoutLine))),
+    ("read-missing-is-last", reader(|sheet, text, room| read_back(sheet, text, room, Back::MissingIsLast))),
+    ("read-left-over-is-last", reader(|sheet, text, room| read_back(sheet, text, room, Back::LeftOverIsLast))),
+    ("read-left-over-is-19", reader(|sheet, text, room| read_back(sheet, text, room, Back::LeftOverIsNineteen))),
+    ("read-4096-refused", reader(|sheet, text, room| read_back(sheet, text, room, Back::Refused4096))),
+    ("read-4097-accepted", reader(|sheet, text, room| read_back(sheet, text, room, Back::Accepted4097))),
+    ("read-length-not-asked", reader(|sheet, text, room| read_back(sheet, text, room, Back::LengthNotAsked))),
+    ("read-long-without-line", reader(|sheet, text, room| read_back(sheet, text, room, Back::LongWithoutLine))),
+    ("read-only-4096-seen", reader(|sheet, text, room| read_back(sheet, text, room, Back::Only4096Seen))),
+    ("read-length-of-16-bits", reader(|sheet, text, room| read_back(sheet, text, room, Back::LengthOf16Bits))),
+    ("read-header-not-read", reader(|sheet, text, room| read_back(sheet, text, room, Back::HeaderNotRead))),
+    ("read-names-not-compared", reader(|sheet, text, room| read_back(sheet, text, room, Back::NamesNotCompared))),
+    ("read-names-in-any-order", reader(|sheet, text, room| read_back(sheet, text, room, Back::NamesInAnyOrder))),
+    ("read-names-may-go-on", reader(|sheet, text, room| read_back(sheet, text, room, Back::NamesMayGoOn))),
+    ("read-more-names-accepted", reader(|sheet, text, room| read_back(sheet, text, room, Back::MoreNamesAccepted))),
+    ("read-fewer-names-accepted", reader(|sheet, text, room| read_back(sheet, text, room, Back::FewerNamesAccepted))),
+    ("read-first-letters-only", reader(|sheet, text, room| read_back(sheet, text, room, Back::FirstLettersOnly))),
+    ("read-any-first-word", reader(|sheet, text, room| read_back(sheet, text, room, Back::AnyFirstWord))),
+    ("read-header-capitals", reader(|sheet, text, room| read_back(sheet, text, room, Back::HeaderCapitals))),
+    ("read-header-cr-accepted", reader(|sheet, text, room| read_back(sheet, text, room, Back::HeaderCrAccepted))),
+    ("read-header-may-be-missing", reader(|sheet, text, room| read_back(sheet, text, room, Back::HeaderMayBeMissing))),
+    ("read-left-over-accepted", reader(|sheet, text, room| read_back(sheet, text, room, Back::LeftOverAccepted))),
+    ("read-feed-behind-accepted", reader(|sheet, text, room| read_back(sheet, text, room, Back::FeedBehindAccepted))),
+    ("read-last-feed-optional", reader(|sheet, text, room| read_back(sheet, text, room, Back::LastFeedOptional))),
+    ("read-empty-lines-skipped", reader(|sheet, text, room| read_back(sheet, text, room, Back::EmptyLinesSkipped))),
+    ("read-cr-accepted", reader(|sheet, text, room| read_back(sheet, text, room, Back::CrAccepted))),
+    ("read-cr-is-18", reader(|sheet, text, room| read_back(sheet, text, room, Back::CrIsEighteen))),
+    ("read-nul-ends-the-listing", reader(|sheet, text, room| read_back(sheet, text, room, Back::NulEnds))),
+    ("read-seven-bits", reader(|sheet, text, room| read_back(sheet, text, room, Back::SevenBits))),
+    ("read-missing-is-zeros", reader(|sheet, text, room| read_back(sheet, text, room, Back::MissingIsZeros))),
+    ("read-marks-not-compared", reader(|sheet, text, room| read_back(sheet, text, room, Back::MarksNotCompared))),
+    ("read-marks-in-lower-case", reader(|sheet, text, room| read_back(sheet, text, room, Back::MarksInLowerCase))),
+    ("read-marks-reversed", reader(|sheet, text, room| read_back(sheet, text, room, Back::MarksReversed))),
+    ("read-mark-begins", reader(|sheet, text, room| read_back(sheet, text, room, Back::MarkBegins))),
+    ("read-dash-may-be-missing", reader(|sheet, text, room| read_back(sheet, text, room, Back::DashMayBeMissing))),
+    ("read-rows-in-any-order", reader(|sheet, text, room| read_back(sheet, text, room, Back::RowsInAnyOrder))),
+    ("read-second-into-first", reader(|sheet, text, room| read_back(sheet, text, room, Back::SecondIntoFirst))),
+    ("read-more-fields-ignored", reader(|sheet, text, room| read_back(sheet, text, room, Back::MoreFieldsIgnored))),
+    ("read-last-comma-ignored", reader(|sheet, text, room| read_back(sheet, text, room, Back::LastCommaIgnored))),
+    ("read-missing-field-is-0", reader(|sheet, text, room| read_back(sheet, text, room, Back::MissingFieldIsZero))),
+    ("read-fields-are-19", reader(|sheet, text, room| read_back(sheet, text, room, Back::FieldsAreNineteen))),
+    ("read-65535-refused", reader(|sheet, text, room| read_back(sheet, text, room, Back::Refused65535))),
+    ("read-65536-is-0", reader(|sheet, text, room| read_back(sheet, text, room, Back::Accepted65536))),
+    ("read-wraps-at-2-16", reader(|sheet, text, room| read_back(sheet, text, room, Back::WrapsAt16Bits))),
+    ("read-wraps-at-2-32", reader(|sheet, text, room| read_back(sheet, text, room, Back::WrapsAt32Bits))),
+    ("read-wraps-at-2-64", reader(|sheet, text, room| read_back(sheet, text, room, Back::WrapsAt64Bits))),
+    ("read-capped-at-65535", reader(|sheet, text, room| read_back(sheet, text, room, Back::Capped))),
+    ("read-10080-at-most", reader(|sheet, text, room| read_back(sheet, text, room, Back::AsFarAs10080))),
+    ("read-horizon-at-most", reader(|sheet, text, room| read_back(sheet, text, room, Back::AsFarAsHorizon))),
+    ("read-leading-0-accepted", reader(|sheet, text, room| read_back(sheet, text, room, Back::LeadingZero))),
+    ("read-minus-0-accepted", reader(|sheet, text, room| read_back(sheet, text, room, Back::MinusZero))),
+    ("read-plus-accepted", reader(|sheet, text, room| read_back(sheet, text, room, Back::Plus))),
+    ("read-minus-ignored", reader(|sheet, text, room| read_back(sheet, text, room, Back::MinusIgnored))),
+    ("read-spaces-accepted", reader(|sheet, text, room| read_back(sheet, text, room, Back::Spaces))),
+    ("read-empty-is-0", reader(|sheet, text, room| read_back(sheet, text, room, Back::EmptyIsZero))),
+    ("read-empty-is-18", reader(|sheet, text, room| read_back(sheet, text, room, Back::EmptyIsEighteen))),
+    ("read-negative-is-18", reader(|sheet, text, room| read_back(sheet, text, room, Back::NegativeIsEighteen))),
+    ("read-over-is-18", reader(|sheet, text, room| read_back(sheet, text, room, Back::OverIsEighteen))),
+    ("read-digits-then-anything", reader(|sheet, text, room| read_back(sheet, text, room, Back::DigitsThenAnything))),
+    ("read-colon-is-digit", reader(|sheet, text, room| read_back(sheet, text, room, Back::ColonIsDigit))),
+    ("read-last-minute-not-read", reader(|sheet, text, room| read_back(sheet, text, room, Back::LastMinuteNotRead))),
+    ("read-start-is-0", reader(|sheet, text, room| read_back(sheet, text, room, Back::StartIsZero))),
+    ("read-18-before-sheet", reader(listing_before_sheet)),
+    ("read-12-before-18", reader(|sheet, text, room| room_first(sheet, text, room, &[18, 19]))),
+    ("read-12-before-19", reader(|sheet, text, room| room_first(sheet, text, room, &[19]))),
+    ("read-12-before-sheet", reader(room_before_sheet)),
+    ("read-12-with-a-line", reader(|sheet, text, room| changed(sheet, text, room, &[(12, 256 + 12)]))),
+    ("read-11-for-12", reader(|sheet, text, room| changed(sheet, text, room, &[(12, 11)]))),
+    ("read-longer-refused", reader(|sheet, text, room| of_length(sheet, text, room, |room, need| room < need + 2))),
+    ("read-odd-refused", reader(|sheet, text, room| of_length(sheet, text, room, |room, _| room % 2 == 0))),
+    ("read-needs-a-pair-more", reader(|sheet, text, room| of_length(sheet, text, room, |room, need| room > need + 1))),
+    ("read-needs-the-largest", reader(|sheet, text, room| of_length(sheet, text, room, |room, _| room >= 512))),
+    ("read-not-the-largest", reader(|sheet, text, room| of_length(sheet, text, room, |_, need| need < 512))),
+    ("read-half-pair-counts", reader(|sheet, text, room| rounded_up(room, |it| own::read_listing(sheet, text, it)))),
+    ("read-bytes-swapped", reader(|sheet, text, room| swapped(own::read_listing(sheet, text, room), room))),
+    ("read-low-bytes-only", reader(low_bytes_only)),
+    ("read-untouched", reader(|sheet, text, room| own::read_listing(sheet, text, &mut room.to_vec()))),
+    ("read-by-events", reader(by_events)),
+    ("read-solved-instead", reader(solved_instead)),
+    ("read-good-tables-only", reader(good_tables_only)),
+    ("read-writes-behind", reader(|sheet, text, room| filled_behind(own::read_listing(sheet, text, room), room))),
+    ("read-writes-odd-byte", reader(|sheet, text, room| odd_byte_filled(own::read_listing(sheet, text, room), room))),
+    ("read-altered-on-1-to-10", reader(|sheet, text, room| altered_by(sheet, text, room, 1..=10))),
+    ("read-altered-on-12", reader(|sheet, text, room| altered_by(sheet, text, room, 12..=12))),
+    ("read-altered-on-18", reader(|sheet, text, room| altered_by(sheet, text, room, 18..=18))),
+    ("read-altered-on-19", reader(|sheet, text, room| altered_by(sheet, text, room, 19..=19))),
+    ("read-written-as-it-reads", reader(written_as_it_reads)),
+    ("read-as-many-as-fit", reader(as_many_as_fit)),
+    ("read-count-of-bytes", reader(|sheet, text, room| counted(sheet, text, room, |count| 2 * count))),
+    ("read-count-of-a-byte", reader(|sheet, text, room| counted(sheet, text, room, |count| count % 256))),
+    ("read-count-lost", reader(|sheet, text, room| counted(sheet, text, room, |_| 0))),
+    ("read-count-on-a-refusal", reader(count_on_a_refusal)),
+    ("read-verdict-beside", reader(verdict_beside)),
 ];
 
 // ---------------------------------------------------------------- Wrong solvers
@@ -292,7 +401,11 @@ fn horizon_excluded(net: &Net) -> Option<Vec<u16>> {
 }
 
 fn writes_behind(sheet: &[u8], table: &mut [u8]) -> u64 {
-    let answer = own::solve(sheet, table);
+    filled_behind(own::solve(sheet, table), table)
+}
+
+/// The bytes behind the minutes that were written become 0.
+fn filled_behind(answer: u64, table: &mut [u8]) -> u64 {
     if answer & 0xff == 0 {
         let written = 2 * (answer >> 24 & 0xffff) as usize;
         table[written..].fill(0);
@@ -301,7 +414,10 @@ fn writes_behind(sheet: &[u8], table: &mut [u8]) -> u64 {
 }
 
 fn writes_odd_byte(sheet: &[u8], table: &mut [u8]) -> u64 {
-    let answer = own::solve(sheet, table);
+    odd_byte_filled(own::solve(sheet, table), table)
+}
+
+fn odd_byte_filled(answer: u64, table: &mut [u8]) -> u64 {
     if answer & 0xff == 0 && table.len() % 2 == 1 {
         *table.last_mut().unwrap() = 0;
     }
@@ -326,16 +442,23 @@ fn writes_before_12(sheet: &[u8], table: &mut [u8]) -> u64 {
 }
 
 fn high_byte_first(sheet: &[u8], table: &mut [u8]) -> u64 {
-    let answer = own::solve(sheet, table);
+    swapped(own::solve(sheet, table), table)
+}
+
+fn swapped(answer: u64, table: &mut [u8]) -> u64 {
     let written = 2 * (answer >> 24 & 0xffff) as usize;
     table[..written].chunks_exact_mut(2).for_each(|pair| pair.swap(0, 1));
     answer
 }
 
-/// An odd length is rounded up: the last minute loses its high byte.
 fn half_pair_counts(sheet: &[u8], table: &mut [u8]) -> u64 {
+    rounded_up(table, |table| own::solve(sheet, table))
+}
+
+/// An odd length is rounded up: the last minute loses its high byte.
+fn rounded_up(table: &mut [u8], call: impl Fn(&mut [u8]) -> u64) -> u64 {
     let mut longer = [table, &[0][..]].concat();
-    let answer = own::solve(sheet, &mut longer);
+    let answer = call(&mut longer);
     let length = table.len();
     table.copy_from_slice(&longer[..length]);
     answer
@@ -910,5 +1033,120 @@ fn room_without_reactions(sheet: &[u8], out: &mut [u8]) -> u64 {
             two_bytes(form.len() as u16)
         }
         _ => own::house(sheet, out),
+    }
+}
+
+// ---------------------------------------------------------------- Wrong readers of listings
+
+/// The right call, with another reader.
+fn read_back(sheet: &[u8], listing: &[u8], table: &mut [u8], slip: Back) -> u64 {
+    returned(readers::read_with(sheet, listing, slip), table)
+}
+
+/// 18 for the listing's length before the sheet's own refusal.
+fn listing_before_sheet(sheet: &[u8], listing: &[u8], table: &mut [u8]) -> u64 {
+    if listing.len() > 4096 { pack(18, 1, [0; 5]) } else { own::read_listing(sheet, listing, table) }
+}
+
+/// 12 before refusals with these numbers.
+fn room_first(sheet: &[u8], listing: &[u8], table: &mut [u8], numbers: &[u64]) -> u64 {
+    let answer = own::read_listing(sheet, listing, table);
+    let short = model::read(sheet).is_ok_and(|net| table.len() / 2 < net.cells());
+    if short && numbers.contains(&(answer & 0xff)) { refused_call(12) } else { answer }
+}
+
+/// 12 at once where no table would fit.
+fn room_before_sheet(sheet: &[u8], listing: &[u8], table: &mut [u8]) -> u64 {
+    if table.len() < 2 { refused_call(12) } else { own::read_listing(sheet, listing, table) }
+}
+
+/// The right call, with some whole answers changed.
+fn changed(sheet: &[u8], listing: &[u8], table: &mut [u8], numbers: &[(u64, u64)]) -> u64 {
+    renumbered(own::read_listing(sheet, listing, table), numbers)
+}
+
+/// Another count beside a table.
+fn counted(sheet: &[u8], listing: &[u8], table: &mut [u8], change: fn(u16) -> u16) -> u64 {
+    revalued(own::read_listing(sheet, listing, table), change)
+}
+
+/// A table of so many bytes, where so many are needed, is taken only if it fits in this way too.
+fn of_length(sheet: &[u8], listing: &[u8], table: &mut [u8], fits: fn(usize, usize) -> bool) -> u64 {
+    match model::recover(sheet, listing, table.len() / 2) {
+        Ok(minutes) if !fits(table.len(), 2 * minutes.len()) => refused_call(12),
+        _ => own::read_listing(sheet, listing, table),
+    }
+}
+
+/// The high byte of each minute stays as it was.
+fn low_bytes_only(sheet: &[u8], listing: &[u8], table: &mut [u8]) -> u64 {
+    let before = table.to_vec();
+    let answer = own::read_listing(sheet, listing, table);
+    table.iter_mut().zip(before).skip(1).step_by(2).for_each(|(byte, old)| *byte = old);
+    answer
+}
+
+/// The minutes of the first event in all cases, then of the next.
+fn by_events(sheet: &[u8], listing: &[u8], table: &mut [u8]) -> u64 {
+    let turned = |net: Net, table: Vec<u16>| -> Vec<u16> {
+        let events = net.events.len();
+        (0..events).flat_map(|event| table.iter().skip(event).step_by(events).copied()).collect()
+    };
+    let read = |net: Net| model::returned(sheet, &net, listing).map(|table| turned(net, table));
+    returned(model::read(sheet).and_then(read), table)
+}
+
+/// Where the listing is accepted, the solver's table.
+fn solved_instead(sheet: &[u8], listing: &[u8], table: &mut [u8]) -> u64 {
+    let answer = own::read_listing(sheet, listing, table);
+    if answer & 0xff == 0 { own::solve(sheet, table) } else { answer }
+}
+
+fn good_tables_only(sheet: &[u8], listing: &[u8], table: &mut [u8]) -> u64 {
+    match model::judge_listing(sheet, listing) {
+        Ok(Verdict::Pass) | Err(_) => own::read_listing(sheet, listing, table),
+        Ok(_) => refused_call(14),
+    }
+}
+
+/// The lent table becomes 0 where the answer has one of these numbers.
+fn altered_by(sheet: &[u8], listing: &[u8], table: &mut [u8], numbers: RangeInclusive<u64>) -> u64 {
+    let answer = own::read_listing(sheet, listing, table);
+    if numbers.contains(&(answer & 0xff)) {
+        table.fill(0);
+    }
+    answer
+}
+
+/// The minutes of the rows before the one with a minute at fault are written.
+fn written_as_it_reads(sheet: &[u8], listing: &[u8], table: &mut [u8]) -> u64 {
+    let answer = own::read_listing(sheet, listing, table);
+    if answer & 0xff == 19 {
+        let rows = listing.split(|&byte| byte == b'\n').take((answer >> 8) as usize - 1).skip(1);
+        let fields = rows.flat_map(|row| row.split(|&byte| byte == b',').skip(1));
+        let minutes = fields.map(|field| String::from_utf8_lossy(field).parse().unwrap_or(0));
+        write(&minutes.collect::<Vec<u16>>(), table);
+    }
+    answer
+}
+
+fn as_many_as_fit(sheet: &[u8], listing: &[u8], table: &mut [u8]) -> u64 {
+    write(&model::recover(sheet, listing, usize::MAX).unwrap_or_default(), table);
+    own::read_listing(sheet, listing, table)
+}
+
+/// As many minutes as the table would have, beside 18 and 19.
+fn count_on_a_refusal(sheet: &[u8], listing: &[u8], table: &mut [u8]) -> u64 {
+    let answer = own::read_listing(sheet, listing, table);
+    let cells = model::read(sheet).map_or(0, |net| net.cells() as u64);
+    if matches!(answer & 0xff, 18 | 19) { answer | cells << 24 } else { answer }
+}
+
+/// The judge's word in a byte that is to be 0.
+fn verdict_beside(sheet: &[u8], listing: &[u8], table: &mut [u8]) -> u64 {
+    let answer = own::read_listing(sheet, listing, table);
+    match model::judge_listing(sheet, listing) {
+        Ok(breach) if breach != Verdict::Pass && answer & 0xff == 0 => answer | 1 << 40,
+        _ => answer,
     }
 }

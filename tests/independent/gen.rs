@@ -4,9 +4,10 @@
 //! and `table` the bytes of a table for a sheet that was accepted. `table_sheet` has the longest listings among its
 //! sheets; `house_sheet` makes sheets whose house forms are worth a look, `retyped` types the procedure of an
 //! accepted sheet another way, and `slowed` makes a procedure of it that differs in one reaction only. `minute` and
-//! `heard` make questions to the player of a table.
+//! `heard` make questions to the player of a table. `listing` makes listings to be read back, printed and damaged, and
+//! `files` a sheet and a listing for the program `judge`.
 
-use crate::model::{self, Kind, Net, Verdict};
+use crate::model::{self, Files, Kind, Net, Verdict};
 use std::collections::BTreeSet;
 
 // ---------------------------------------------------------------- Chance
@@ -1309,4 +1310,338 @@ fn damage_heard(rng: &mut Rng, own: &[u8], text: &mut Vec<u8>) {
         6 => *text = text.repeat(rng.pick(&[2, 26, 256])),
         _ => *text = any_bytes(rng),
     }
+}
+
+// ---------------------------------------------------------------- Listings to be read back
+
+/// The files of the program `judge`: most often an accepted sheet and a listing for it; at times one or both are
+/// missing, longer than any that is read, or exchanged.
+pub fn files(rng: &mut Rng) -> Files {
+    let sheet = if rng.chance(75) { valid(rng).bytes() } else { table_sheet(rng) };
+    let net = model::read(&sheet).ok();
+    let solved = net.as_ref().and_then(model::solve);
+    let listing = listing(rng, &sheet, net.as_ref(), solved.as_deref());
+    let mut files = Files { sheet: Some(sheet), listing: Some(listing) };
+    match rng.below(40) {
+        0 => files.sheet = None,
+        1 => files.listing = None,
+        2 => files = Files { sheet: None, listing: None },
+        3 => lengthen(rng, files.sheet.as_mut().expect("a sheet")),
+        4 => lengthen(rng, files.listing.as_mut().expect("a listing")),
+        5 => files = Files { sheet: files.listing, listing: files.sheet },
+        _ => {}
+    }
+    files
+}
+
+/// A listing for a sheet that was accepted, or for one that was refused; `solved` is its least good table, if it has
+/// one: printed, damaged, or of another sheet.
+pub fn listing(rng: &mut Rng, sheet: &[u8], net: Option<&Net>, solved: Option<&[u16]>) -> Vec<u8> {
+    let Some(net) = net else { return stray_listing(rng) };
+    let table = printed_table(rng, net, solved);
+    let text = model::listing(sheet, net, &table);
+    match rng.below(100) {
+        0..=41 => text,
+        42..=43 => stray_listing(rng),
+        44..=46 => listing_of_less(rng, sheet, net),
+        47..=48 => {
+            let mut text = text;
+            lengthen(rng, &mut text);
+            text
+        }
+        _ => damaged_listing(rng, text),
+    }
+}
+
+/// A listing of another sheet, or nothing, or any bytes.
+pub fn stray_listing(rng: &mut Rng) -> Vec<u8> {
+    match rng.below(6) {
+        0 => vec![],
+        1 => any_bytes(rng),
+        _ => {
+            let other = valid(rng).bytes();
+            let net = model::read(&other).expect("a valid sheet");
+            let mut text = model::listing(&other, &net, &wide_table(rng, &net));
+            if rng.chance(20) {
+                lengthen(rng, &mut text);
+            }
+            text
+        }
+    }
+}
+
+/// A listing of the same sheet without its last event, or without its last signal, as far as it has two events or one
+/// signal.
+fn listing_of_less(rng: &mut Rng, sheet: &[u8], net: &Net) -> Vec<u8> {
+    let mut less = net.clone();
+    if rng.chance(50) && less.events.len() > 1 {
+        less.events.pop();
+    } else {
+        less.signals.pop();
+    }
+    let table: Vec<u16> = (0..less.cells()).map(|_| rng.below(100) as u16).collect();
+    model::listing(sheet, &less, &table)
+}
+
+/// A table to be printed: the least good one, one near to it or otherwise of this sheet, or any minutes to 65,535.
+fn printed_table(rng: &mut Rng, net: &Net, solved: Option<&[u16]>) -> Vec<u16> {
+    match (rng.below(16), solved) {
+        (0..=3, Some(solved)) => solved.to_vec(),
+        (0..=12, _) => {
+            let (bytes, minute) = (table(rng, net, solved), |pair: &[u8]| u16::from_le_bytes([pair[0], pair[1]]));
+            let mut minutes: Vec<u16> = bytes.chunks_exact(2).map(minute).collect();
+            minutes.resize(net.cells(), 0);
+            minutes
+        }
+        (13, _) => {
+            let mut near = solved.map_or_else(|| heard_table(rng, net), <[u16]>::to_vec);
+            (0..rng.between(1, 2)).for_each(|_| edge_cell(rng, net, &mut near));
+            near
+        }
+        (14, _) => wide_table(rng, net),
+        _ => (0..net.cells()).map(|_| rng.next() as u16 >> rng.below(16)).collect(),
+    }
+}
+
+/// A listing cut into lines and fields.
+type Rows = Vec<Vec<Vec<u8>>>;
+
+fn rows_of(text: &[u8]) -> Rows {
+    let lines = text.split_inclusive(|&byte| byte == b'\n').map(|line| line.strip_suffix(b"\n").unwrap_or(line));
+    lines.map(|line| line.split(|&byte| byte == b',').map(<[u8]>::to_vec).collect()).collect()
+}
+
+fn text_of_rows(rows: &Rows) -> Vec<u8> {
+    rows.iter().flat_map(|row| [row.join(&b","[..]), b"\n".to_vec()].concat()).collect()
+}
+
+/// A printed listing with one or two things done to it; most of them are refused.
+fn damaged_listing(rng: &mut Rng, text: Vec<u8>) -> Vec<u8> {
+    let mut rows = rows_of(&text);
+    match rng.below(20) {
+        0..=2 => damage_header(rng, &mut rows),
+        3..=4 => move_rows(rng, &mut rows),
+        5..=11 => damage_one_row(rng, &mut rows),
+        12..=14 => damage_two_rows(rng, &mut rows),
+        _ => {
+            let mut bytes = text;
+            (0..rng.between(1, 2)).for_each(|_| damage_listing_bytes(rng, &mut bytes));
+            return bytes;
+        }
+    }
+    let mut bytes = text_of_rows(&rows);
+    if rng.chance(10) {
+        damage_listing_bytes(rng, &mut bytes);
+    }
+    bytes
+}
+
+/// The header with names exchanged, missing, doubled or misspelt, or with another first word or end.
+fn damage_header(rng: &mut Rng, rows: &mut Rows) {
+    let header = &mut rows[0];
+    let names = header.len() - 1;
+    let (one, two) = (1 + rng.below(names), 1 + rng.below(names));
+    match rng.below(11) {
+        0..=1 if names > 1 => header.swap(one, if one == two { 1 + one % names } else { two }),
+        2 => drop(header.remove(if rng.chance(50) { one } else { names })),
+        3 => header.insert(one, header[two].clone()),
+        4 => header.push(rng.pick(&["", "a", "zz"]).as_bytes().to_vec()),
+        5 => header[one] = if rng.chance(50) { odd_name(rng) } else { with_high_bit(rng, &header[one]) },
+        6 => header[one].make_ascii_uppercase(),
+        7 => header[0] = rng.pick(&["Case", "cases", "", "cas", " case", "case ", "CASE"]).as_bytes().to_vec(),
+        8 => header.last_mut().expect("a name").push(rng.pick(b"\r\r \0,")),
+        _ => misspell(rng, &mut header[one]),
+    }
+}
+
+/// A letter of a name changed, lost or added.
+fn misspell(rng: &mut Rng, name: &mut Vec<u8>) {
+    let place = rng.below(name.len());
+    let letter = rng.pick(b"abcxyz019");
+    match rng.below(4) {
+        0 => name[place] = letter,
+        1 => drop(name.remove(place)),
+        2 => name.push(letter),
+        _ => name[place] ^= 128,
+    }
+}
+
+/// Rows exchanged, doubled, missing or one more; the header may be among them.
+fn move_rows(rng: &mut Rng, rows: &mut Rows) {
+    let cases = rows.len() - 1;
+    let (one, two) = (1 + rng.below(cases), 1 + rng.below(cases));
+    match rng.below(10) {
+        0..=1 if cases > 1 => rows.swap(one, if one == two { 1 + one % cases } else { two }),
+        2 => rows.insert(one, rows[one].clone()),
+        3 => rows.push(rows[two].clone()),
+        4 => drop(rows.remove(one)),
+        5 => drop(rows.pop()),
+        6 => rows.truncate(rng.below(rows.len())),
+        7 => rows.insert(rng.below(rows.len() + 1), vec![vec![]]),
+        8 => rows.swap(0, one),
+        _ => rows.extend(rows.clone()),
+    }
+}
+
+/// One row with something wrong: a minute, its mark, or its count of fields; at times two of them.
+fn damage_one_row(rng: &mut Rng, rows: &mut Rows) {
+    let row = 1 + rng.below(rows.len() - 1);
+    match rng.below(12) {
+        0..=7 => put_minute(rng, &mut rows[row]),
+        8..=9 => put_mark(rng, &mut rows[row]),
+        10 => change_row_fields(rng, &mut rows[row]),
+        _ => {
+            put_minute(rng, &mut rows[row]);
+            if rng.chance(50) { put_mark(rng, &mut rows[row]) } else { change_row_fields(rng, &mut rows[row]) }
+        }
+    }
+}
+
+/// A minute at fault in one row, and in any row something that is tried before it or after it: "18 is tried over the
+/// whole listing first".
+fn damage_two_rows(rng: &mut Rng, rows: &mut Rows) {
+    let (one, two) = (1 + rng.below(rows.len() - 1), 1 + rng.below(rows.len() - 1));
+    put_minute(rng, &mut rows[one]);
+    match rng.below(6) {
+        0..=1 => put_minute(rng, &mut rows[two]),
+        2 => put_mark(rng, &mut rows[two]),
+        3 => change_row_fields(rng, &mut rows[two]),
+        4 => rows.push(rows[two].clone()),
+        _ => drop(rows.pop()),
+    }
+}
+
+fn put_minute(rng: &mut Rng, row: &mut [Vec<u8>]) {
+    if row.len() > 1 {
+        let field = 1 + rng.below(row.len() - 1);
+        row[field] = odd_minute(rng, &row[field]);
+    }
+}
+
+/// A minute that most often is ill-formed, negative or over 65,535; some are made of the one that stood there.
+fn odd_minute(rng: &mut Rng, old: &[u8]) -> Vec<u8> {
+    const MINUTES: [&str; 38] = [
+        "05", "00", "-0", "-0", "+5", "-5", "-1", "-", "", "", " ", "--5", "5-", "1.0", "1e3", "0x5", "T", "65535",
+        "65535", "65534", "65536", "65536", "65537", "65541", "70000", "99999", "100000", "131072", "655350", "-65535",
+        "-65536", "4294967296", "5:", "65:35", "/5", "5\0", "\u{ff15}", "\u{663}",
+    ];
+    let value: u128 = String::from_utf8_lossy(old).parse().unwrap_or(5);
+    let (before, behind) = (rng.pick(b"000--++ \t\0"), rng.pick(b"  \r\r::\0x,"));
+    match rng.below(20) {
+        0..=3 => [&[before][..], old].concat(),
+        4 => [old, &[behind][..]].concat(),
+        5 => (value + 65_536).to_string().into_bytes(),
+        6 => (value + (1 << 32)).to_string().into_bytes(),
+        7 => (value + (1 << 64)).to_string().into_bytes(),
+        8 => rng.pick(&["4", "9", "10"]).repeat(rng.pick(&[20, 40, 300])).into_bytes(),
+        9 => with_high_bit(rng, old),
+        10 => vec![rng.below(256) as u8],
+        _ => rng.pick(&MINUTES).as_bytes().to_vec(),
+    }
+}
+
+/// The same with a byte over 127, which an ASCII reader might take for another.
+fn with_high_bit(rng: &mut Rng, field: &[u8]) -> Vec<u8> {
+    let mut field = field.to_vec();
+    let place = rng.below(field.len().max(1));
+    field.iter_mut().skip(place).take(1).for_each(|byte| *byte |= 128);
+    field
+}
+
+/// Another mark: in lower case, with another truth, of another length, `-` for letters or letters for `-`.
+fn put_mark(rng: &mut Rng, row: &mut [Vec<u8>]) {
+    let mark = &mut row[0];
+    let place = rng.below(mark.len().max(1));
+    match rng.below(9) {
+        0..=1 if mark == b"-" => *mark = rng.pick(&["", "", "F", "T"]).as_bytes().to_vec(),
+        0..=1 => mark.make_ascii_lowercase(),
+        2 if !mark.is_empty() => mark[place] = rng.pick(b"FT-ft01\0"),
+        3 => mark.push(rng.pick(b"FT- \r\0")),
+        4 => drop(mark.pop()),
+        5 => mark.reverse(),
+        6 => mark.clear(),
+        7 => *mark = b"-".to_vec(),
+        8 => *mark = rng.pick(&["F", "T", "FF", "FT", "TF", "TT", "TTTTT", " -", "--"]).as_bytes().to_vec(),
+        _ => mark.insert(0, rng.pick(b"FT \0")),
+    }
+}
+
+fn change_row_fields(rng: &mut Rng, row: &mut Vec<Vec<u8>>) {
+    match rng.below(6) {
+        0 => row.push(vec![]),
+        1 => row.push(b"0".to_vec()),
+        2 => row.insert(1, b"0".to_vec()),
+        3 => drop(row.remove(0)),
+        4 => row.truncate(1),
+        _ => drop(row.pop()),
+    }
+    if row.is_empty() {
+        row.push(vec![]);
+    }
+}
+
+fn damage_listing_bytes(rng: &mut Rng, bytes: &mut Vec<u8>) {
+    match rng.below(20) {
+        0..=3 => change_behind_header(rng, bytes),
+        4..=5 => change_byte(rng, bytes),
+        6..=7 => one_line_ends_in_crlf(rng, bytes),
+        8 => all_lines_end_in_crlf(bytes),
+        9..=10 => drop(bytes.pop()),
+        11 => bytes.truncate(rng.below(bytes.len() + 1)),
+        12 => bytes.clear(),
+        13 => insert_line_feed(rng, bytes),
+        14..=15 => bytes.extend_from_slice(rng.pick(&["\n", "\n", "\r\n", " ", "\0", "x", "-,0\n", "T"]).as_bytes()),
+        16 => swap_bytes(rng, bytes),
+        17 => *bytes = with_high_bit(rng, bytes),
+        _ => pad_listing(rng, bytes),
+    }
+}
+
+/// A byte of a case's line changed, removed or inserted.
+fn change_behind_header(rng: &mut Rng, bytes: &mut Vec<u8>) {
+    let header = bytes.iter().position(|&byte| byte == b'\n').map_or(0, |feed| feed + 1);
+    let mut rows = bytes.split_off(header);
+    change_byte(rng, &mut rows);
+    bytes.extend(rows);
+}
+
+fn one_line_ends_in_crlf(rng: &mut Rng, bytes: &mut Vec<u8>) {
+    let feeds: Vec<usize> = (0..bytes.len()).filter(|&place| bytes[place] == b'\n').collect();
+    if !feeds.is_empty() {
+        bytes.insert(rng.pick(&feeds), b'\r');
+    }
+}
+
+fn swap_bytes(rng: &mut Rng, bytes: &mut [u8]) {
+    if bytes.len() > 1 {
+        let place = rng.below(bytes.len() - 1);
+        bytes.swap(place, place + 1);
+    }
+}
+
+/// Lengths at the edge of 4,096 bytes: padded within a minute, within the header, or behind the end; at times with a
+/// byte behind the last line besides.
+fn pad_listing(rng: &mut Rng, bytes: &mut Vec<u8>) {
+    let length: usize = rng.pick(&[4_095, 4_096, 4_096, 4_096, 4_097, 4_097, 4_098, 5_000]);
+    if rng.chance(25) {
+        bytes.push(rng.pick(b"\nx0"));
+    }
+    let missing = length.saturating_sub(bytes.len());
+    let commas: Vec<usize> = (0..bytes.len()).filter(|&place| bytes[place] == b',').collect();
+    match rng.below(4) {
+        0 => bytes.extend(std::iter::repeat(rng.pick(b"\nx0")).take(missing)),
+        _ if commas.is_empty() => bytes.resize(length, b','),
+        _ => {
+            let place = if rng.chance(50) { commas[commas.len() - 1] } else { rng.pick(&commas) } + 1;
+            bytes.splice(place..place, std::iter::repeat(b'1').take(missing));
+        }
+    }
+}
+
+/// A file, or a listing, that is longer than any that is read, the same bytes first: just too long, or so long that a
+/// length of 16 bits would forget it.
+fn lengthen(rng: &mut Rng, bytes: &mut Vec<u8>) {
+    let length = rng.pick(&[4_097, 4_097, 4_098, 5_000, 8_192, 8_193, 65_536 + bytes.len()]);
+    let byte = rng.pick(b"\nx0");
+    bytes.resize(length.max(bytes.len()), byte);
 }

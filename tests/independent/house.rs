@@ -8,7 +8,7 @@ use crate::{count, text_of, Counts};
 
 const KINDS: [&str; 4] = ["forms", "slow forms", "refused 17", "refused otherwise"];
 
-pub const HOUSE: Mode = Mode { word: "house", compare_one, kinds: &KINDS, tally };
+pub const HOUSE: Mode = Mode { word: "house", given: "sheets", compare_one, kinds: &KINDS, tally };
 
 /// The sheet of one seed; where it has a form, also the form itself and another typing of the same procedure, and for
 /// some a procedure that differs in one reaction.

@@ -9,6 +9,7 @@ pub struct Library {
     pub due: fn(question: Question) -> u64,
     pub listing: fn(sheet: &[u8], table: &[u8], out: &mut [u8]) -> u64,
     pub house: fn(sheet: &[u8], out: &mut [u8]) -> u64,
+    pub read_listing: fn(sheet: &[u8], listing: &[u8], table: &mut [u8]) -> u64,
 }
 
 /// What the player of a table is asked; `heard` is the text of the signals heard before the minute.
@@ -38,7 +39,7 @@ pub use own::{LIBRARY, TALLY};
 mod linked {
     use super::{Library, Question, Tally};
 
-    pub const LIBRARY: Library = Library { solve, judge, due, listing, house };
+    pub const LIBRARY: Library = Library { solve, judge, due, listing, house, read_listing };
     pub const TALLY: Tally = Tally { leaping, plain, turns };
 
     #[link(name = "opening", kind = "static")]
@@ -52,6 +53,10 @@ mod linked {
             sheet: *const u8, sheet_len: usize, table: *const u8, table_len: usize, out: *mut u8, out_len: usize,
         ) -> u64;
         fn opening_house(sheet: *const u8, sheet_len: usize, out: *mut u8, out_len: usize) -> u64;
+        fn opening_read_listing(
+            sheet: *const u8, sheet_len: usize, listing: *const u8, listing_len: usize, table: *mut u8,
+            table_len: usize,
+        ) -> u64;
     }
 
     #[link(name = "tally", kind = "static")]
@@ -81,6 +86,11 @@ mod linked {
         unsafe { opening_house(sheet.as_ptr(), sheet.len(), out.as_mut_ptr(), out.len()) }
     }
 
+    fn read_listing(sheet: &[u8], listing: &[u8], table: &mut [u8]) -> u64 {
+        let (lent, length) = (table.as_mut_ptr(), table.len());
+        unsafe { opening_read_listing(sheet.as_ptr(), sheet.len(), listing.as_ptr(), listing.len(), lent, length) }
+    }
+
     fn leaping(sheet: &[u8]) -> u64 {
         unsafe { tally_leaping(sheet.as_ptr(), sheet.len()) }
     }
@@ -100,7 +110,7 @@ pub mod own {
     use crate::model::{self, Net, Refusal, Verdict};
     use crate::{leaps, rounds};
 
-    pub const LIBRARY: Library = Library { solve, judge, due, listing, house };
+    pub const LIBRARY: Library = Library { solve, judge, due, listing, house, read_listing };
     pub const TALLY: Tally = Tally { leaping: leaps::leaping, plain, turns: leaps::turns };
 
     /// The bytes, lowest first: refusal number; line (two bytes); then five bytes that each call fills in its own way.
@@ -208,6 +218,19 @@ pub mod own {
     /// Refusals 1 to 10, then 17, then 12.
     pub fn house(sheet: &[u8], out: &mut [u8]) -> u64 {
         write_text(model::house(sheet), out)
+    }
+
+    /// Refusals 1 to 10, then 18, 19 and 12; whole pairs are counted, as for the solver.
+    pub fn read_listing(sheet: &[u8], listing: &[u8], table: &mut [u8]) -> u64 {
+        returned(model::recover(sheet, listing, usize::MAX), table)
+    }
+
+    /// Writes a table that was recovered, or answers with its refusal, or with 12.
+    pub fn returned(recovered: Result<Vec<u16>, Refusal>, table: &mut [u8]) -> u64 {
+        match recovered.and_then(|minutes| model::fitting(minutes, table.len() / 2)) {
+            Err(refusal) => refused(refusal),
+            Ok(minutes) => write(&minutes, table),
+        }
     }
 
     pub fn plain(sheet: &[u8]) -> u64 {

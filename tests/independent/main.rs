@@ -1,20 +1,26 @@
-//! The comparison of `libopening.a` and `libtally.a`, and of programs that print tables or house forms, with the model
-//! of documents 01 and 02.
+//! The comparison of `libopening.a` and `libtally.a`, and of programs that print tables, house forms or verdicts, with
+//! the model of documents 01 and 02.
 //!
-//! compare [SEED [COUNT]]                  generated sheets, tables and texts, every answer and every lent byte compared
+//! compare [SEED [COUNT]]                  generated sheets, tables, texts and listings, every answer and every lent
+//!                                         byte compared
 //! compare table PROGRAM [SEED [COUNT]]    generated sheets, what a program that prints tables prints for each compared
 //! compare house PROGRAM [SEED [COUNT]]    the same for a program that prints house forms
+//! compare judge PROGRAM [SEED [COUNT]]    generated sheets and listings, as files in a folder for a program that
+//!                                         judges a listing's table, what it prints for each pair compared
 //! compare count [SEED [COUNT]]            generated sheets of many rounds, the count of rounds and the table compared
 //! compare count-files FILE..              the same for given sheets, with a line for each
 //! compare expected DIR                    the answers that the papers ask for the trial files DIR/001.csv, 002.csv, ..
-//! compare selftest [SEED [COUNT]]         the model's solvers against each other, and forms against sheets, on tiny sheets
+//! compare selftest [SEED [COUNT]]         the model's solvers against each other, and forms against sheets, on tiny
+//!                                         sheets; its readers of listings against each other
 //!
 //! compare faults [SEED [COUNT]]           that the comparison notices each wrong program of faults.rs
 //! compare table-faults [SEED [COUNT]]     that `table` notices each wrong program of printers.rs, for tables
 //! compare house-faults [SEED [COUNT]]     that `house` notices each wrong program of printers.rs, for house forms
+//! compare judge-faults [SEED [COUNT]]     that `judge` notices each wrong program of verdicts.rs
 //! compare count-faults [SEED [COUNT]]     that `count` notices each wrong program of leaps.rs
 //! compare table-standin [FAULT]           the model as a program that prints tables, or one of the wrong ones
 //! compare house-standin [FAULT]           the same for house forms
+//! compare judge-standin [FAULT]           the same for verdicts on the listing in the folder that it is started in
 //!
 //! Build: rustc --edition 2021 -O -o compare main.rs -L native=DIR   (DIR has libopening.a and libtally.a)
 //!    or: rustc --edition 2021 -O -o compare main.rs --cfg standalone
@@ -23,6 +29,7 @@ mod calls;
 mod faults;
 mod gen;
 mod house;
+mod judge;
 mod leaps;
 mod lent;
 mod library;
@@ -30,24 +37,29 @@ mod long;
 mod model;
 mod printers;
 mod program;
+mod readers;
 mod rounds;
 mod table;
 mod tally;
+mod verdicts;
 
 use calls::{judge_outcome, minutes, of_call, of_size, played};
 use faults::FAULTS;
 use gen::Rng;
 use house::HOUSE;
+use judge::JUDGE;
 use leaps::COUNT_FAULTS;
 use library::own;
-use model::{Net, Refusal, Verdict};
+use model::{Files, Net, Refusal, Verdict};
 use printers::{Printer, HOUSE_FAULTS, TABLE_FAULTS};
 use program::Mode;
 use std::collections::BTreeMap;
 use std::io::{Read, Write};
 use std::ops::Range;
+use std::path::Path;
 use std::process::exit;
 use table::TABLE;
+use verdicts::{Judging, JUDGE_FAULTS};
 
 const SEED: u64 = 1;
 const COUNT: u64 = 20_000;
@@ -60,9 +72,10 @@ const LONG_FAULT_COUNT: u64 = 100;
 const FEW_ROUNDS: u32 = 300;
 
 const USAGE: &str = "usage: compare [SEED [COUNT]] | table PROGRAM [SEED [COUNT]] | house PROGRAM [SEED [COUNT]] | \
-    count [SEED [COUNT]] | count-files FILE.. | expected DIR | selftest [SEED [COUNT]] | \
-    faults [SEED [COUNT]] | table-faults [SEED [COUNT]] | house-faults [SEED [COUNT]] | count-faults [SEED [COUNT]] | \
-    table-standin [FAULT] | house-standin [FAULT]";
+    judge PROGRAM [SEED [COUNT]] | count [SEED [COUNT]] | count-files FILE.. | expected DIR | \
+    selftest [SEED [COUNT]] | faults [SEED [COUNT]] | table-faults [SEED [COUNT]] | house-faults [SEED [COUNT]] | \
+    judge-faults [SEED [COUNT]] | count-faults [SEED [COUNT]] | table-standin [FAULT] | house-standin [FAULT] | \
+    judge-standin [FAULT]";
 
 fn main() {
     let arguments: Vec<String> = std::env::args().skip(1).collect();
@@ -70,6 +83,7 @@ fn main() {
     match words[..] {
         ["table", program, ref numbers @ ..] => program::compare(&TABLE, program, seeds(numbers, PROGRAM_COUNT)),
         ["house", program, ref numbers @ ..] => program::compare(&HOUSE, program, seeds(numbers, PROGRAM_COUNT)),
+        ["judge", program, ref numbers @ ..] => judge::compare(program, seeds(numbers, PROGRAM_COUNT)),
         ["count", ref numbers @ ..] => tally::compare(number(numbers, 0, SEED), number(numbers, 1, LONG_COUNT)),
         ["count-files", ref paths @ ..] if !paths.is_empty() => tally::compare_files(paths),
         ["expected", directory] => print(&expected(directory)),
@@ -81,6 +95,7 @@ fn main() {
         ["house-faults", ref numbers @ ..] => {
             notice_printers(&HOUSE, printers::house_by_sorting, &HOUSE_FAULTS, seeds(numbers, PROGRAM_COUNT))
         }
+        ["judge-faults", ref numbers @ ..] => notice_judges(seeds(numbers, PROGRAM_COUNT)),
         ["count-faults", ref numbers @ ..] => {
             notice_count_faults(number(numbers, 0, SEED), number(numbers, 1, LONG_FAULT_COUNT))
         }
@@ -88,6 +103,8 @@ fn main() {
         ["table-standin", name] => standin(fault_named(&TABLE_FAULTS, name)),
         ["house-standin"] => standin(model::house),
         ["house-standin", name] => standin(fault_named(&HOUSE_FAULTS, name)),
+        ["judge-standin"] => judge_standin(verdicts::right),
+        ["judge-standin", name] => judge_standin(fault_named(&JUDGE_FAULTS, name)),
         ref numbers => calls::compare(number(numbers, 0, SEED), number(numbers, 1, COUNT)),
     }
 }
@@ -140,7 +157,8 @@ fn pace(net: &Net) -> &'static str {
 // ---------------------------------------------------------------- selftest and faults
 
 /// Raising, searching and rounds agree on tiny sheets, and so do a sheet and its house form, and its forms and those of another typing;
-/// raising and rounds agree on other sheets of few rounds, and two readers of reactions on all of those.
+/// raising and rounds agree on other sheets of few rounds, and two readers of reactions on all of those. The readers
+/// of listings agree on other sheets and listings.
 fn selftest(seed: u64, cases: u64) {
     let mut counts = Counts::new();
     for seed in seed..seed + cases {
@@ -154,7 +172,8 @@ fn selftest(seed: u64, cases: u64) {
         let other = gen::sheet(&mut Rng::new(seed));
         let alike_otherwise = selftest_house(&sheet, &net, seed).and_then(|_| selftest_rounds(&sheet));
         let others_alike = || selftest_rounds(&other).and_then(|_| selftest_reader(&other));
-        if let Err(words) = alike_otherwise.and_then(|_| others_alike()) {
+        let mut read_alike = || selftest_listings(&gen::files(&mut Rng::new(seed)), &mut counts);
+        if let Err(words) = alike_otherwise.and_then(|_| others_alike()).and_then(|_| read_alike()) {
             println!("{words}\n{}again: compare selftest {seed} 1", text_of(&sheet));
             exit(1);
         }
@@ -164,7 +183,8 @@ fn selftest(seed: u64, cases: u64) {
     for (kind, count) in &counts {
         println!("{count:>8}  {kind}");
     }
-    println!("{cases} tiny sheets from seed {seed}: raising, searching and rounds agree, sheets and house forms too");
+    let agree = "raising, searching and rounds agree, sheets and house forms too, and readers of as many listings";
+    println!("{cases} tiny sheets from seed {seed}: {agree}");
 }
 
 /// Rounds in arrays, rounds by the paper's words and raising, where a sheet is accepted and takes few rounds. The count "is at most
@@ -184,6 +204,28 @@ fn selftest_rounds(sheet: &[u8]) -> Result<(), String> {
 fn selftest_reader(sheet: &[u8]) -> Result<(), String> {
     let (one, other) = (model::read(sheet), faults::read_again(sheet));
     if one == other { Ok(()) } else { Err(format!("read {one:?}\nagain {other:?}\n{}", text_of(sheet))) }
+}
+
+/// The model's reader of listings, that of `readers.rs` without a slip, and printing, by which a listing is accepted
+/// if it is what some table prints to. "Any table of the right length that was printed is recovered number for
+/// number".
+fn selftest_listings(files: &Files, counts: &mut Counts) -> Result<(), String> {
+    let (sheet, listing) = files.bytes();
+    let (one, other) = (model::recover(sheet, listing, usize::MAX), readers::read_again(sheet, listing));
+    let scene = || format!("of {}with a listing of {}", program::told(sheet), program::told(listing));
+    if one != other {
+        return Err(format!("read {one:?}\nagain {other:?}\n{}", scene()));
+    }
+    let number = one.as_ref().map_or_else(|refusal| refusal.number, |_| 0);
+    count(counts, if number == 0 { "listing read back".to_string() } else { format!("listing refused {number:>2}") });
+    let Ok(net) = model::read(sheet) else { return Ok(()) };
+    let by_printing = readers::accepted_by_printing(sheet, &net, listing);
+    if one.as_ref().ok() != by_printing.as_ref() {
+        return Err(format!("read {one:?}\nby printing {by_printing:?}\n{}", scene()));
+    }
+    let wide = gen::wide_table(&mut Rng::new(listing.len() as u64), &net);
+    let back = model::returned(sheet, &net, &model::listing(sheet, &net, &wide));
+    if back.as_ref() == Ok(&wide) { Ok(()) } else { Err(format!("printed {wide:?}\nread {back:?}\n{}", scene())) }
 }
 
 /// "The form reads back to the same good tables, and a second pass changes no byte"; points 1 and 2, and the
@@ -249,14 +291,22 @@ fn notice_printers(mode: &Mode, right: Printer, faults: &[(&str, Printer)], seed
     });
 }
 
+fn notice_judges(seeds: Range<u64>) {
+    let right: Judging = verdicts::judge_by_faults;
+    notice("judge-faults", &right, &JUDGE_FAULTS, |judging| {
+        let program = |files: &Files| judging(files).into_bytes();
+        all_compared(seeds.clone(), |seed| (JUDGE.compare_one)(&program, seed, &mut Counts::new()))
+    });
+}
+
 fn notice_count_faults(seed: u64, sheets: u64) {
     notice("count-faults", &own::TALLY, &COUNT_FAULTS, |tally| tally::compare_sheets(tally, seed, sheets).map(drop));
 }
 
-fn fault_named(faults: &[(&str, Printer)], name: &str) -> Printer {
+fn fault_named<T: Copy>(faults: &[(&str, T)], name: &str) -> T {
     match faults.iter().find(|fault| fault.0 == name) {
         Some(fault) => fault.1,
-        None => fail(2, "this is no fault of printers.rs"),
+        None => fail(2, "this is no fault of printers.rs or verdicts.rs"),
     }
 }
 
@@ -265,6 +315,12 @@ fn standin(printer: Printer) {
     let mut sheet = vec![];
     std::io::stdin().read_to_end(&mut sheet).unwrap_or_else(|error| fail(2, &error.to_string()));
     print(&program::printed(printer(&sheet)));
+}
+
+/// Prints what a program prints of the files of the folder that it is started in.
+fn judge_standin(judging: Judging) {
+    let files = judge::read(Path::new(".")).unwrap_or_else(|error| fail(2, &error.to_string()));
+    print(judging(&files).as_bytes());
 }
 
 // ---------------------------------------------------------------- expected
@@ -276,11 +332,15 @@ fn expected(directory: &str) -> Vec<u8> {
     for number in 1.. {
         let Ok(sheet) = std::fs::read(format!("{directory}/{number:03}.csv")) else { break };
         let table = std::fs::read(format!("{directory}/{number:03}.tab")).unwrap_or_default();
+        let listing = std::fs::read(format!("{directory}/{number:03}.lst")).ok();
         text.extend(format!("{number:03} ").into_bytes());
         let reading = model::read(&sheet);
         text.extend(reading_line(&reading).into_bytes());
         text.extend(expected_house(&sheet, &mut last_form));
-        text.extend(expected_tables(&sheet, &reading, &table));
+        text.extend(match listing {
+            Some(listing) => expected_returned(&sheet, &reading, &listing),
+            None => expected_tables(&sheet, &reading, &table),
+        });
     }
     if text.is_empty() {
         fail(2, &format!("there is no {directory}/001.csv"));
@@ -324,11 +384,30 @@ fn expected_tables(sheet: &[u8], reading: &Result<Net, Refusal>, table: &[u8]) -
     text
 }
 
-/// A solved table: its listing; the same again, since playing each case minute by minute gives its row; and what is due for some lists.
+/// A listing read back: its refusal; or how many minutes it has, what the call says to a table that is one minute too
+/// short, the verdict on the table and its listing.
+fn expected_returned(sheet: &[u8], reading: &Result<Net, Refusal>, listing: &[u8]) -> Vec<u8> {
+    let table = match model::recover(sheet, listing, usize::MAX) {
+        Err(refusal) => return refused_line("returned ", refusal).into_bytes(),
+        Ok(table) => table,
+    };
+    let short = match model::recover(sheet, listing, table.len() - 1) {
+        Ok(table) => table.len().to_string(),
+        Err(refusal) => short_refusal(refusal),
+    };
+    let mut text = format!("returned {} short {short}\n", table.len()).into_bytes();
+    text.extend(judged_line(&judge_outcome(reading, &gen::bytes_of(&table))).into_bytes());
+    text.extend(listed(sheet, reading, &table));
+    text
+}
+
+/// A solved table: its listing, and whether that is read back to the same minutes; the listing again, since playing
+/// each case minute by minute gives its row; and what is due for some lists.
 fn solved(sheet: &[u8], net: &Net, table: &[u16]) -> Vec<u8> {
     let listing = model::listing(sheet, net, table);
     let mut text = listing.clone();
-    text.extend(b"played ");
+    let same = model::returned(sheet, net, &listing).as_deref() == Ok(table);
+    text.extend(if same { b"returned same\nplayed ".iter() } else { b"returned other\nplayed ".iter() });
     text.extend(listing);
     for minute in [0, 1, 6, net.horizon as u16, 65535] {
         text.extend(format!("asked {minute}").into_bytes());
@@ -398,13 +477,7 @@ fn reading_line(reading: &Result<Net, Refusal>) -> String {
 }
 
 fn judged_line(outcome: &Result<Verdict, Refusal>) -> String {
-    match outcome {
-        Ok(Verdict::Pass) => "judged pass\n".to_string(),
-        Ok(Verdict::Late { case, event }) => format!("judged late {case} {event}\n"),
-        Ok(Verdict::Rule { case, rule }) => format!("judged rule {case} {rule}\n"),
-        Ok(Verdict::Unheard { s, r, u }) => format!("judged unheard {s} {r} {u}\n"),
-        Err(refusal) => refused_line("judged ", *refusal),
-    }
+    format!("judged {}", model::judge_text(outcome))
 }
 
 /// The listing "prints any table of the right length"; another length is refusal 11, after the sheet's own.

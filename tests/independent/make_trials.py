@@ -1,6 +1,6 @@
 #!/usr/bin/env python3
-"""Writes the trial files of document 01 and of points 2 and 3 of document 02: crates/trials/data/NNN.csv, NNN.tab and
-titles.txt.
+"""Writes the trial files of document 01 and of points 2, 3 and 4 of document 02: crates/trials/data/NNN.csv, NNN.tab,
+NNN.lst and titles.txt.
 
     make_trials.py          writes the files
     make_trials.py titled   copies standard input, the output of `compare expected crates/trials/data`, with each trial's title beside its
@@ -8,10 +8,10 @@ titles.txt.
     make_trials.py check    compares crates/trials/stdout (that, with the lines of make_small.py behind it) with what is written
                             here by hand from the papers; a trailing `...` leaves the rest of an answer open, the lines
                             `played` are left out, and so are the lines `asked` and a house form where none is written
-                            here
+                            here; behind the listing of each solved table `returned same` is asked for
 
-A trial is: what it shows, the sheet, the answer, for some a table, for some a house form, and for some what is due at
-minutes that are asked about. Nothing here is computed by the model.
+A trial is: what it shows, the sheet, the answer, for some a table or a listing, for some a house form, and for some
+what is due at minutes that are asked about. Nothing here is computed by the model.
 """
 
 import pathlib
@@ -22,14 +22,15 @@ HOME = HERE.parent.parent / "crates" / "trials"
 TRIALS = []
 
 
-def trial(about, sheet, answer, table=None, tail=b"", house=None, asked=()):
+def trial(about, sheet, answer, table=None, tail=b"", house=None, asked=(), listing=None):
     """`table` is a list of minutes; `tail` are bytes put behind them; `house` is the house form, its refusal, or `as
     before`; `asked` are the beginnings of some of the lines `asked`: a minute, and what is due to those who have heard
-    nothing, p and !p."""
+    nothing, p and !p; `listing` is a listing to be read back, an empty one too."""
     sheet = sheet if isinstance(sheet, bytes) else sheet.encode("latin-1")
     table = None if table is None else b"".join(minute.to_bytes(2, "little") for minute in table) + tail
     house = answer if answer.startswith("refused") and house is None else house
-    TRIALS.append((about, sheet, answer, table, house, asked))
+    listing = listing.encode("latin-1") if isinstance(listing, str) else listing
+    TRIALS.append((about, sheet, answer, table, listing, house, asked))
 
 
 def sheet(events, signals=(), rules=(), horizon=60):
@@ -39,7 +40,7 @@ def sheet(events, signals=(), rules=(), horizon=60):
 
 
 def line(number, text, of=None):
-    """The example sheet (or another) with one line written anew; None drops it."""
+    """The example sheet (or another, or a listing) with one line written anew; None drops it."""
     lines = (of or EXAMPLE).split("\n")
     lines[number - 1 : number] = [] if text is None else [text]
     return "\n".join(lines)
@@ -597,17 +598,307 @@ def listed_reactions():
           house=form)
 
 
+# 1 the names  2 3 the rows
+PRINTED = "case,start,call,door\nF,0,5,6\nT,0,5,20\n"
+
+
+def returned():
+    """Listings that are read back (02, point 4)."""
+    printed_back()
+    many_rows()
+    ends_of_lines()
+    misread_names()
+    misread_cases()
+    misread_fields()
+    misread_minutes()
+    two_misprints()
+    long_listings()
+    refused_with_listings()
+
+
+def reread(about, listing, count, verdict, of=EXAMPLE, accepted="60 3 1 3", house="as before"):
+    """So many minutes are recovered; what is accepted prints back to its own bytes."""
+    answer = f"accepted {accepted}\nreturned {count} short r12.0\njudged {verdict}\n{listing[:-1]}"
+    trial("returned: " + about, of, answer, house=house, listing=listing)
+
+
+def misread(about, listing, number, at, of=EXAMPLE, accepted="60 3 1 3", house="as before"):
+    trial("returned: " + about, of, f"accepted {accepted}\nreturned refused {number} line {at}", house=house,
+          listing=listing)
+
+
+def printed_back():
+    rows = lambda false, true: f"case,start,call,door\nF,{false}\nT,{true}\n"
+    reread("as printed", PRINTED, 6, "pass", house=EXAMPLE_FORM)
+    reread("good, and not the least", rows("0,7,30", "0,7,30"), 6, "pass")
+    reread("the start at 1", rows("1,5,6", "0,5,20"), 6, "late 0 0")
+    reread("a minute over the horizon", rows("0,5,6", "0,5,61"), 6, "late 1 2")
+    reread("a rule broken", rows("0,5,6", "0,5,19"), 6, "rule 1 1")
+    reread("a signal not heard in its own minute", rows("0,5,5", "0,5,20"), 6, "unheard 0 1 2")
+    reread("65535, the last minute that is printed", rows("0,5,65535", "0,5,20"), 6, "late 0 2")
+    reread("65535 throughout", rows("65535,65535,65535", "65535,65535,65535"), 6, "late 0 0")
+    reread("one to four digits", rows("9,10,99", "100,999,1000"), 6, "late 0 0")
+    reread("both bytes of a minute", rows("255,256,257", "9999,10000,65534"), 6, "late 0 0")
+    retyped = sheet("start call door", ["p,call"], EXAMPLE_ROWS[::-1])
+    reread("the same sheet retyped", PRINTED, 6, "pass", of=retyped)
+    reread("the same sheet retyped, and the broken rule has another place", rows("0,5,6", "0,5,19"), 6, "rule 1 0",
+           of=retyped)
+    none = sheet("start call door", ["p,call"], ["max,start,door,19,-"] + EXAMPLE_ROWS[1:])
+    reread("a sheet without a good table", PRINTED, 6, "rule 1 2", of=line(11, "max,start,door,19,-"), house=none)
+    alone = sheet("start")
+    reread("start alone", "case,start\n-,0\n", 1, "pass", of=alone, accepted="60 1 0 0", house=alone)
+    reread("start alone, and late", "case,start\n-,1\n", 1, "late 0 0", of=alone, accepted="60 1 0 0")
+    words = sheet("case t f")
+    reread("words of the listing as names", "case,case,t,f\n-,0,3,60\n", 3, "pass", of=words, accepted="60 3 0 0",
+           house=words)
+    pair = "case,start,call,door\nFF,0,2,3\nTF,0,2,20\nFT,0,2,10\nTT,0,2,20\n"
+    reread("two signals", pair, 12, "pass", of=PAIR, accepted="60 3 2 3", house=PAIR_FORM)
+    slow_door()
+    eight = " ".join(f"e{i}" for i in range(8)) + " x"
+    ends = [f"max,e{i},e{j},{100 * i + j},-" for i in range(8) for j in range(8)]
+    over = sheet(eight, rules=ends[:-1] + ["fix,e7,x,0,-"])
+    reread("a sheet without a house form", zeros(eight)[1:] + "\n", 9, "pass", of=over, accepted="60 9 0 64",
+           house="refused 17 line 0")
+
+
+def slow_door():
+    """The sheet examples/door.csv; without the reaction of 8 the inner door would open at 4 where c is true."""
+    events, signals = "start contact guard inner vault", ["c,contact", "g,guard"]
+    rules = ["min,start,contact,3,-", "min,start,guard,10,-", "min,contact,inner,40,!c", "max,start,inner,90,-"]
+    rules += ["min,inner,vault,5,-", "min,guard,vault,60,!g"]
+    rows = ["max,start,inner,90,-", "max,contact,start,-3,-", "max,guard,start,-10,-", "max,inner,contact,-40,!c"]
+    rows += ["max,vault,guard,-60,!g", "max,vault,inner,-5,-"]
+    door = slow(sheet(events, signals, rules, horizon=120), "g,1", "c,8")
+    form = slow(sheet(events, signals, rows, horizon=120), "c,8")
+    text = "case,start,contact,guard,inner,vault\nFF,0,3,10,43,70\nTF,0,3,10,{0},70\n"
+    text += "FT,0,3,10,43,48\nTT,0,3,10,{0},16\n"
+    reread("the door whose contact counts after 8 minutes", text.format(11), 20, "pass", of=door, accepted="120 5 2 6",
+           house=form)
+    reread("the same door, too quick for the contact", text.format(4), 20, "unheard 1 0 3", of=door,
+           accepted="120 5 2 6")
+    misread("the same door, its reactions behind its listing", text.format(11) + "reactions,1\nc,8\n", 18, 6, of=door,
+            accepted="120 5 2 6")
+
+
+FOUR = sheet("start a b c d door", ["z,a", "y,b", "x,c", "w,d"])
+# the first signal of the sheet has weight 1; the door is at 10 in case 0, and a minute later in each next case
+FOUR_MARKS = "FFFF TFFF FTFF TTFF FFTF TFTF FTTF TTTF FFFT TFFT FTFT TTFT FFTT TFTT FTTT TTTT".split()
+FOUR_ROWS = [f"{mark},0,1,2,3,4,{minute}" for mark, minute in zip(FOUR_MARKS, range(10, 26))]
+
+
+def many_rows():
+    listing = lambda rows: "".join(text + "\n" for text in ["case,start,a,b,c,d,door", *rows])
+    of = {"of": FOUR, "accepted": "60 6 4 0"}
+    reread("16 rows", listing(FOUR_ROWS), 96, "pass", house=FOUR, **of)
+    misread("the first signal's letter behind", listing([row[3::-1] + row[4:] for row in FOUR_ROWS]), 18, 3, **of)
+    misread("from the last case to the first", listing(FOUR_ROWS[::-1]), 18, 2, **of)
+    misread("the last two of 16 rows exchanged", listing(FOUR_ROWS[:14] + FOUR_ROWS[:13:-1]), 18, 16, **of)
+    misread("15 of 16 rows", listing(FOUR_ROWS[:15]), 18, 17, **of)
+    misread("the seventh of 16 rows missing", listing(FOUR_ROWS[:6] + FOUR_ROWS[7:]), 18, 8, **of)
+    misread("17 rows, the last one twice", listing(FOUR_ROWS + FOUR_ROWS[15:]), 18, 18, **of)
+    misread("the last of 16 rows with a minute 025", listing(FOUR_ROWS[:15] + ["TTTT,0,1,2,3,4,025"]), 19, 17, **of)
+    misread("the first of 16 rows with a minute 010", listing(["FFFF,0,1,2,3,4,010"] + FOUR_ROWS[1:]), 19, 2, **of)
+    events = [f"event{i:03}" for i in range(16)]
+    most = sheet(" ".join(events), [f"{letter},event{i:03}" for i, letter in enumerate("wxyz")])
+    minutes = lambda case: ",".join(str(10000 + 1000 * case + place) for place in range(16))
+    rows = [f"{mark},{minutes(case)}" for case, mark in enumerate(FOUR_MARKS)]
+    longest = "".join(text + "\n" for text in ["case," + ",".join(events), *rows])
+    assert len(longest) == 1765
+    reread("the longest listing, 1,765 bytes", longest, 256, "late 0 0", of=most, accepted="60 16 4 0", house=most)
+
+
+def ends_of_lines():
+    misread("an empty listing", "", 18, 1, house=EXAMPLE_FORM)
+    misread("a lone line feed", "\n", 18, 1)
+    misread("the header alone", "case,start,call,door\n", 18, 2)
+    misread("the header alone, without its line feed", "case,start,call,door", 18, 1)
+    misread("a row without its line feed", "case,start,call,door\nF,0,5,6", 18, 2)
+    misread("no last line feed", PRINTED[:-1], 18, 3)
+    misread("the last row ends behind its mark", "case,start,call,door\nF,0,5,6\nT", 18, 3)
+    misread("a CR before the header's line feed", line(1, "case,start,call,door\r", PRINTED), 18, 1)
+    misread("a CR before a row's line feed", line(2, "F,0,5,6\r", PRINTED), 19, 2)
+    misread("a CR before the last line feed", line(3, "T,0,5,20\r", PRINTED), 19, 3)
+    misread("a CR behind a row's line feed", line(3, "\rT,0,5,20", PRINTED), 18, 3)
+    misread("lines that end in CR LF", PRINTED.replace("\n", "\r\n"), 18, 1)
+    misread("rows that end in CR LF", "case,start,call,door\nF,0,5,6\r\nT,0,5,20\r\n", 19, 2)
+    misread("lines that end in CR", PRINTED.replace("\n", "\r"), 18, 1)
+    misread("an empty line before the header", "\n" + PRINTED, 18, 1)
+    misread("an empty line behind the header", line(2, "\nF,0,5,6", PRINTED), 18, 2)
+    misread("an empty line between the rows", line(3, "\nT,0,5,20", PRINTED), 18, 3)
+    misread("an empty line at the end", PRINTED + "\n", 18, 4)
+    misread("a byte behind the last row", PRINTED + "x", 18, 4)
+    misread("a NUL behind the last row", PRINTED + "\0", 18, 4)
+    misread("the listing twice", PRINTED * 2, 18, 4)
+
+
+def misread_names():
+    header = lambda about, text: misread(about, line(1, text, PRINTED), 18, 1)
+    header("names exchanged", "case,start,door,call")
+    header("a name missing", "case,start,call")
+    header("the first name missing", "case,call,door")
+    header("a name more", "case,start,call,door,vault")
+    header("a name twice", "case,start,call,call,door")
+    header("a name misspelt", "case,start,call,dorr")
+    header("a name cut short", "case,start,call,doo")
+    header("a name with a letter more", "case,start,call,doors")
+    header("a name with a capital", "case,start,call,Door")
+    header("an empty name", "case,start,,door")
+    header("a comma behind the names", "case,start,call,door,")
+    header("a space behind a comma of the header", "case, start,call,door")
+    header("a space behind the names", "case,start,call,door ")
+    header("a comma less between the names", "case,startcall,door")
+    header("the word Case", "Case,start,call,door")
+    header("the word cases", "cases,start,call,door")
+    header("names without the word", "start,call,door")
+    header("semicolons for commas", "case;start;call;door")
+    header("three bytes over 127 before the header", "\xef\xbb\xbfcase,start,call,door")
+    misread("no header", line(1, None, PRINTED), 18, 1)
+    misread("the header behind the rows", "F,0,5,6\nT,0,5,20\ncase,start,call,door\n", 18, 1)
+    misread("the header twice", line(1, "case,start,call,door\ncase,start,call,door", PRINTED), 18, 2)
+    two = sheet("a ab")
+    misread("a comma between other letters of the names", "case,aa,b\n-,0,0\n", 18, 1, of=two, accepted="60 2 0 0",
+            house=two)
+
+
+def misread_cases():
+    first = lambda about, text, **of: misread(about, line(2, text, PRINTED), 18, 2, **of)
+    first("rows exchanged", "T,0,5,20\nF,0,5,6", house=EXAMPLE_FORM)
+    misread("marks exchanged", "case,start,call,door\nT,0,5,6\nF,0,5,20\n", 18, 2)
+    misread("the first row twice", line(2, "F,0,5,6\nF,0,5,6", PRINTED), 18, 3)
+    misread("the last row twice", line(3, "T,0,5,20\nT,0,5,20", PRINTED), 18, 4)
+    misread("the first row missing", line(2, None, PRINTED), 18, 2)
+    misread("the last row missing", line(3, None, PRINTED), 18, 3)
+    misread("a row more", PRINTED + "FT,0,5,20\n", 18, 4)
+    first("the mark f", "f,0,5,6")
+    misread("the mark t", line(3, "t,0,5,20", PRINTED), 18, 3)
+    first("the mark 0", "0,0,5,6")
+    first("the mark - where there is a signal", "-,0,5,6")
+    first("no mark", ",0,5,6")
+    first("a mark too long", "FF,0,5,6")
+    first("a mark with a space before it", " F,0,5,6")
+    first("a mark with a space behind it", "F ,0,5,6")
+    first("a signal's letter for the mark", "!p,0,5,6")
+    pair = lambda marks: "case,start,call,door\n" + "".join(f"{mark},0,2,20\n" for mark in marks.split())
+    of = {"of": PAIR, "accepted": "60 3 2 3"}
+    misread("a mark too short", pair("F TF FT TT"), 18, 2, house=PAIR_FORM, **of)
+    misread("a mark too short in the third row", pair("FF TF T TT"), 18, 4, **of)
+    misread("a mark too long in the last row", pair("FF TF FT TTT"), 18, 5, **of)
+    misread("FT before TF", pair("FF FT TF TT"), 18, 3, **of)
+    misread("the rows of one signal for two", pair("F T"), 18, 2, **of)
+    alone = sheet("start")
+    of = {"of": alone, "accepted": "60 1 0 0"}
+    misread("the mark T where there is no signal", "case,start\nT,0\n", 18, 2, house=alone, **of)
+    misread("the rows F and T where there is no signal", "case,start\nF,0\nT,0\n", 18, 2, **of)
+    misread("no mark where there is no signal", "case,start\n,0\n", 18, 2, **of)
+    misread("the mark -- where there is no signal", "case,start\n--,0\n", 18, 2, **of)
+    misread("a second row where there is no signal", "case,start\n-,0\n-,0\n", 18, 3, **of)
+
+
+def misread_fields():
+    first = lambda about, text, **of: misread(about, line(2, text, PRINTED), 18, 2, **of)
+    first("a field more", "F,0,5,6,7", house=EXAMPLE_FORM)
+    first("a comma behind the minutes", "F,0,5,6,")
+    first("a field less", "F,0,5")
+    misread("a field less in the last row", line(3, "T,0,5", PRINTED), 18, 3)
+    first("a mark alone", "F")
+    first("two commas for one", "F,0,,5,6")
+    first("a comma less", "F,05,6")
+    first("the comma behind the mark missing", "F0,5,6")
+    first("spaces for commas", "F 0 5 6")
+    first("a comma within a minute", "F,0,5,1,000")
+    first("a row in two lines", "F,0,5\n6")
+    misread("two rows in one line", "case,start,call,door\nF,0,5,6,T,0,5,20\n", 18, 2)
+    misread("minutes for two cases in one row", "case,start,call,door\nF,0,5,6,0,5,20\n", 18, 2)
+
+
+def misread_minutes():
+    of_call = lambda about, text: misread(about, line(2, f"F,0,{text},6", PRINTED), 19, 2)
+    for text in ["05", "00", "-0", "+5", "-5", "-1", " 5", "5 ", "-", "5-", "--5", "0x5", "5.0", "5e0", "five", "F"]:
+        of_call(f"the minute {text!a}", text)
+    for text in ["\xc8", "5\xc8", "\0", "5\0", "5\r", "\xb5"]:
+        of_call(f"the minute {text!a}", text)
+    of_call("an empty field", "")
+    for text in ["65536", "65541", "99999", "100000", "-65531", "4294967301", "18446744073709551621"]:
+        of_call(f"the minute {text}", text)
+    of_call("a minute of forty digits", "1234567890" * 4)
+    of_call("a minute of forty zeros", "0" * 40)
+    of_call("a minute of forty zeros and a 5", "0" * 40 + "5")
+    misread("the first minute ill-formed", line(2, "F,00,5,6", PRINTED), 19, 2)
+    misread("the last minute ill-formed", line(3, "T,0,5,2O", PRINTED), 19, 3)
+    misread("the first minute of the last row over 65535", line(3, "T,65536,5,20", PRINTED), 19, 3)
+    misread("the last minute over 65535", line(3, "T,0,5,65536", PRINTED), 19, 3)
+    misread("the last field empty", line(3, "T,0,5,", PRINTED), 19, 3)
+    misread("all fields empty but the marks", "case,start,call,door\nF,,,\nT,,,\n", 19, 2)
+    alone = sheet("start")
+    misread("start alone, at -0", "case,start\n-,-0\n", 19, 2, of=alone, accepted="60 1 0 0", house=alone)
+
+
+def two_misprints():
+    rows = lambda about, false, true, number, at, **of: misread(about, f"case,start,call,door\n{false}\n{true}\n",
+                                                                number, at, **of)
+    rows("a minute, and the next row's mark: 18", "F,0,05,6", "t,0,5,20", 18, 3, house=EXAMPLE_FORM)
+    rows("a minute over 65535, and a field less in the next row: 18", "F,0,5,65536", "T,0,5", 18, 3)
+    misread("a minute, and no last line feed: 18", "case,start,call,door\nF,0,05,6\nT,0,5,20", 18, 3)
+    misread("a minute, and a row missing: 18", "case,start,call,door\nF,0,05,6\n", 18, 3)
+    rows("a minute, and an empty line at the end: 18", "F,0,05,6", "T,0,5,20\n", 18, 4)
+    rows("a minute of the last row, and a byte behind it: 18", "F,0,5,6", "T,0,5,020\nx", 18, 4)
+    rows("one row, a mark and a minute: 18", "f,0,05,6", "T,0,5,20", 18, 2)
+    rows("one row, a field less and a minute: 18", "F,0,05", "T,0,5,20", 18, 2)
+    misread("one row, a minute and no line feed: 18", "case,start,call,door\nF,0,5,6\nT,0,5,020", 18, 3)
+    rows("a mark, and a minute in the next row: 18", "f,0,5,6", "T,0,5,020", 18, 2)
+    misread("the header, and a minute: 18", "case,start,call,Door\nF,0,05,6\nT,0,5,20\n", 18, 1)
+    rows("two rows, a minute in each: the first", "F,0,5,06", "T,00,5,20", 19, 2)
+    rows("two rows, a minute over 65535, then one ill-formed: the first", "F,0,5,65536", "T,+0,5,20", 19, 2)
+    rows("one row, two minutes", "F,0,5,6", "T,0,65536,020", 19, 3)
+    rows("two rows, a mark in each: the first", "f,0,5,6", "t,0,5,20", 18, 2)
+    rows("two rows, a field more, then a mark: the first", "F,0,5,6,7", "t,0,5,20", 18, 2)
+    misread("the header, and a row missing: the first", "case,start,call\nF,0,5,6\n", 18, 1)
+    rows("a late start, and a minute in the next row: 19", "F,1,5,6", "T,0,5,020", 19, 3)
+
+
+def long_listings():
+    digits = lambda length: PRINTED[:-1] + "0" * (length - len(PRINTED)) + "\n"
+    behind = lambda length: PRINTED + "x" * (length - len(PRINTED))
+    ahead = lambda length: line(2, "F,0," + "0" * (length - len(PRINTED)) + "5,6", PRINTED)
+    assert [len(text(4096)) for text in (digits, behind, ahead)] == [4096] * 3
+    misread("4,096 bytes, the last minute of nearly all", digits(4096), 19, 3)
+    misread("4,097 bytes, the last minute of nearly all", digits(4097), 18, 1)
+    misread("4,096 bytes, most of them behind the last row", behind(4096), 18, 4)
+    misread("4,097 bytes, most of them behind the last row", behind(4097), 18, 1)
+    misread("4,096 bytes, most of them zeros before a minute", ahead(4096), 19, 2)
+    misread("4,097 bytes, most of them zeros before a minute", ahead(4097), 18, 1)
+    misread("4,096 bytes, most of them line feeds at the end", PRINTED + "\n" * (4096 - len(PRINTED)), 18, 4)
+
+
+def refused_with_listings():
+    own = lambda about, of, refusal, listing: trial("returned: " + about, of, f"{refusal}\nreturned {refusal}",
+                                                    listing=listing)
+    own("a refused sheet, and its listing", line(4, "start"), "refused 7 line 4", PRINTED)
+    own("a refused sheet before a misread header", line(10, "min,call,door,15,p!p"), "refused 9 line 10",
+        line(1, "Case,start,call,door", PRINTED))
+    own("a refused sheet before a misread minute", line(11, "max,start,door,-0,-"), "refused 4 line 11",
+        line(2, "F,0,05,6", PRINTED))
+    own("a refused sheet before 4,097 bytes of listing", EXAMPLE[:-1], "refused 2 line 11", "x" * 4097)
+    own("4,097 bytes of sheet, and its listing", EXAMPLE + "x" * (4097 - len(EXAMPLE)), "refused 1 line 0", PRINTED)
+    own("bytes behind the reactions, and an empty listing: 10", slow(EXAMPLE, "p,2") + "x", "refused 10 line 14", "")
+    own("neither a sheet nor a listing", "", "refused 2 line 1", "")
+    own("the listing in the sheet's place, and the sheet in its", PRINTED, "refused 3 line 1", EXAMPLE)
+    misread("the sheet in the listing's place", EXAMPLE, 18, 1)
+
+
 def write():
     data = HOME / "data"
     data.mkdir(parents=True, exist_ok=True)
     for old in data.glob("[0-9]*"):
         old.unlink()
-    for number, (_, text, _, table, *_) in enumerate(TRIALS, 1):
-        (data / f"{number:03}.csv").write_bytes(text)
-        if table is not None:
-            (data / f"{number:03}.tab").write_bytes(table)
+    for number, (_, text, _, table, listing, *_) in enumerate(TRIALS, 1):
+        for kind, contents in (("csv", text), ("tab", table), ("lst", listing)):
+            if contents is not None:
+                (data / f"{number:03}.{kind}").write_bytes(contents)
     (data / "titles.txt").write_text("".join(about + "\n" for about, *_ in TRIALS))
-    print(f"{len(TRIALS)} sheets, {sum(table is not None for _, _, _, table, *_ in TRIALS)} tables")
+    tables = sum(table is not None for _, _, _, table, *_ in TRIALS)
+    listings = sum(listing is not None for *_, listing, _, _ in TRIALS)
+    print(f"{len(TRIALS)} sheets, {tables} tables, {listings} listings")
 
 
 def titled():
@@ -653,10 +944,17 @@ def house_lines(house):
     return ("house as before\n" if house == "as before" else "house\n" + house) + "again same short r12.0"
 
 
+def with_returned(answer, table, listing):
+    """What is written by hand, and `returned same` behind the listing of a solved table."""
+    solved = table is None and listing is None and answer.startswith("accepted") and not answer.endswith(NO_TABLE)
+    return answer + "\nreturned same" if solved else answer
+
+
 def check():
     found = answers()
     wrong = abs(len(found) - len(TRIALS))
-    for number, ((about, _, answer, _, house, asked), text) in enumerate(zip(TRIALS, found), 1):
+    for number, ((about, _, answer, table, listing, house, asked), text) in enumerate(zip(TRIALS, found), 1):
+        answer = with_returned(answer, table, listing)
         for begins in asked:
             if not any(printed.startswith(f"asked {begins} ") for printed in text.split("\n")):
                 wrong += 1
@@ -690,6 +988,7 @@ full_sheets()
 tables()
 house_forms()
 reactions()
+returned()
 
 if sys.argv[1:] == ["check"]:
     check()

@@ -1,7 +1,8 @@
-//! Document 01, and points 1, 2, 3 and 8 of document 02, in plain Rust, written from the papers alone.
+//! Document 01, and points 1, 2, 3, 4 and 8 of document 02, in plain Rust, written from the papers alone.
 //!
 //! Nothing here is fast or clever on purpose: each function renders one rule of the paper, and its comment says which.
-//! Quoted words are those of the papers. "Readings" are those of docs/DECISIONS.md, 8, 16, 20 and 44.
+//! Quoted words are those of the papers. "Readings" are those of docs/DECISIONS.md, 8, 16, 20 and 44, and for point 4
+//! those that came with the papers.
 
 use std::collections::{BTreeMap, VecDeque};
 use std::ops::Range;
@@ -22,6 +23,10 @@ pub const REACTIONS_MOST: i64 = 4;
 pub const REACTION_MOST: i64 = 60;
 /// An event name has "1 to 8 bytes".
 pub const NAME_MOST: usize = 8;
+/// Refusal 18: "the listing is longer than 4,096 bytes".
+pub const LISTING_MOST: usize = 4096;
+/// In a listing "Minutes run to 65,535 as the writer allows."
+pub const MINUTE_MOST: i64 = 65_535;
 
 /// "A refusal gives its number and a line, the first line being 1."
 #[derive(Clone, Copy, Debug, PartialEq, Eq)]
@@ -719,24 +724,35 @@ fn by_signals(net: &Net, before: &[i64], s: usize, u: usize) -> Vec<i64> {
 /// The listing of "any table of the right length"; the names are taken out of the sheet.
 pub fn listing(sheet: &[u8], net: &Net, table: &[u16]) -> Vec<u8> {
     assert_eq!(table.len(), net.cells());
-    let mut text = b"case".to_vec();
-    for name in &net.events {
-        text.push(b',');
-        text.extend_from_slice(&sheet[name.clone()]);
-    }
-    text.push(b'\n');
+    let mut text = header(sheet, net);
     for case in 0..net.cases() {
         text.extend(case_line(net, table, case).into_bytes());
     }
     text
 }
 
-/// "one `T` or `F` per signal in sheet order (`-` if there is none), then a comma and a minute per event".
-fn case_line(net: &Net, table: &[u16], case: usize) -> String {
-    let mut line: String = (0..net.signals.len()).map(|signal| if truth(case, signal) { 'T' } else { 'F' }).collect();
-    if net.signals.is_empty() {
-        line.push('-');
+/// "First line: `case`, then a comma and a name for each event", with its line feed.
+fn header(sheet: &[u8], net: &Net) -> Vec<u8> {
+    let mut text = b"case".to_vec();
+    for name in &net.events {
+        text.push(b',');
+        text.extend_from_slice(&sheet[name.clone()]);
     }
+    text.push(b'\n');
+    text
+}
+
+/// "one `T` or `F` per signal in sheet order (`-` if there is none)".
+fn mark(net: &Net, case: usize) -> String {
+    match net.signals.len() {
+        0 => "-".to_string(),
+        signals => (0..signals).map(|signal| if truth(case, signal) { 'T' } else { 'F' }).collect(),
+    }
+}
+
+/// The mark, "then a comma and a minute per event".
+fn case_line(net: &Net, table: &[u16], case: usize) -> String {
+    let mut line = mark(net, case);
     for event in 0..net.events.len() {
         line.push_str(&format!(",{}", table[net.cell(case, event)]));
     }
@@ -754,6 +770,96 @@ pub fn table(sheet: &[u8]) -> Result<Vec<u8>, Refusal> {
 /// A text to be written into a lent buffer of so many bytes: 12 where that is "too short for what would be written".
 pub fn within(text: Vec<u8>, room: usize) -> Result<Vec<u8>, Refusal> {
     if text.len() <= room { Ok(text) } else { Err(Refusal { number: 12, line: 0 }) }
+}
+
+// ---------------------------------------------------------------- Reading a printed table back
+
+/// Document 02, point 4, for an accepted sheet: the table that a listing has; or 18, which "is tried over the whole
+/// listing first"; or 19, "a minute is ill-formed, negative or over 65,535", with the first line that has one.
+pub fn returned(sheet: &[u8], net: &Net, listing: &[u8]) -> Result<Vec<u16>, Refusal> {
+    let rows = case_rows(sheet, net, listing).map_err(|line| Refusal { number: 18, line })?;
+    let mut table = vec![];
+    for (case, minutes) in rows.into_iter().enumerate() {
+        for field in minutes {
+            let minute = number(field, 0, MINUTE_MOST).map_err(|_| Refusal { number: 19, line: line_of(case) })?;
+            table.push(minute as u16);
+        }
+    }
+    Ok(table)
+}
+
+/// The listing's first line is the header, so case 0 has the second.
+fn line_of(case: usize) -> usize {
+    case + 2
+}
+
+/// The fields of minutes, case by case; or the line of refusal 18: "the listing is longer than 4,096 bytes (line 1),
+/// or its header, cases, fields or line ends are not this sheet's, a line missing or left over included". Readings: "A
+/// missing line has the number that it would have."
+fn case_rows<'a>(sheet: &[u8], net: &Net, listing: &'a [u8]) -> Result<Vec<Vec<&'a [u8]>>, usize> {
+    if listing.len() > LISTING_MOST {
+        return Err(1);
+    }
+    let mut rest = listing.strip_prefix(&header(sheet, net)[..]).ok_or(1usize)?;
+    let mut rows = vec![];
+    for case in 0..net.cases() {
+        let (row, behind) = one_row(net, case, rest).ok_or(line_of(case))?;
+        rows.push(row);
+        rest = behind;
+    }
+    if rest.is_empty() { Ok(rows) } else { Err(line_of(net.cases())) }
+}
+
+/// The minutes of the line that stands here, and what is behind its line feed; or nothing if it has none, or another
+/// mark than this case's, or another count of fields.
+fn one_row<'a>(net: &Net, case: usize, rest: &'a [u8]) -> Option<(Vec<&'a [u8]>, &'a [u8])> {
+    let length = rest.iter().position(|&byte| byte == b'\n')?;
+    let mut fields = fields(&rest[..length]);
+    let fits = fields.len() == 1 + net.events.len() && fields.remove(0) == mark(net, case).as_bytes();
+    if fits { Some((fields, &rest[length + 1..])) } else { None }
+}
+
+/// The call over a lent table of so many numbers: refusals 1 to 10, 18 and 19, then 12; or the minutes to be written.
+pub fn recover(sheet: &[u8], listing: &[u8], numbers: usize) -> Result<Vec<u16>, Refusal> {
+    let net = read(sheet)?;
+    fitting(returned(sheet, &net, listing)?, numbers)
+}
+
+/// A table to be written into a lent one of so many numbers: 12 where these are fewer.
+pub fn fitting(table: Vec<u16>, numbers: usize) -> Result<Vec<u16>, Refusal> {
+    if table.len() <= numbers { Ok(table) } else { Err(Refusal { number: 12, line: 0 }) }
+}
+
+/// The files `sheet.csv` and `listing.csv`, each as far as it can be opened.
+#[derive(Clone, Debug, PartialEq)]
+pub struct Files {
+    pub sheet: Option<Vec<u8>>,
+    pub listing: Option<Vec<u8>>,
+}
+
+impl Files {
+    /// Both files' bytes: "A file that can't be opened counts as empty."
+    pub fn bytes(&self) -> (&[u8], &[u8]) {
+        (self.sheet.as_deref().unwrap_or_default(), self.listing.as_deref().unwrap_or_default())
+    }
+}
+
+/// The verdict on the table that a listing has, or the refusal of the sheet or of the listing.
+pub fn judge_listing(sheet: &[u8], listing: &[u8]) -> Result<Verdict, Refusal> {
+    let net = read(sheet)?;
+    returned(sheet, &net, listing).map(|table| judge(&net, &table))
+}
+
+/// What the program `judge` prints: "`pass`, `late` with case and event, `rule` with case and rule, `unheard` with
+/// both cases and the event (numbers from 0, spaces between), or the line that `table` prints for a refusal".
+pub fn judge_text(outcome: &Result<Verdict, Refusal>) -> String {
+    match outcome {
+        Ok(Verdict::Pass) => "pass\n".to_string(),
+        Ok(Verdict::Late { case, event }) => format!("late {case} {event}\n"),
+        Ok(Verdict::Rule { case, rule }) => format!("rule {case} {rule}\n"),
+        Ok(Verdict::Unheard { s, r, u }) => format!("unheard {s} {r} {u}\n"),
+        Err(Refusal { number, line }) => format!("refused {number} line {line}\n"),
+    }
 }
 
 // ---------------------------------------------------------------- What is due this minute

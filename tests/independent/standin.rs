@@ -10,6 +10,7 @@ mod faults;
 mod leaps;
 mod library;
 mod model;
+mod readers;
 mod rounds;
 
 use std::slice::{from_raw_parts, from_raw_parts_mut};
@@ -68,6 +69,16 @@ pub unsafe extern "C" fn opening_listing(
 #[no_mangle]
 pub unsafe extern "C" fn opening_house(sheet: *const u8, sheet_len: usize, out: *mut u8, out_len: usize) -> u64 {
     (chosen().house)(from_raw_parts(sheet, sheet_len), from_raw_parts_mut(out, out_len))
+}
+
+/// # Safety
+/// The slices are valid, and the last does not overlap the others.
+#[no_mangle]
+pub unsafe extern "C" fn opening_read_listing(
+    sheet: *const u8, sheet_len: usize, listing: *const u8, listing_len: usize, table: *mut u8, table_len: usize,
+) -> u64 {
+    let (sheet, listing) = (from_raw_parts(sheet, sheet_len), from_raw_parts(listing, listing_len));
+    (chosen().read_listing)(sheet, listing, from_raw_parts_mut(table, table_len))
 }
 
 /// # Safety

@@ -13,7 +13,7 @@ const KINDS: [&str; 14] = [
     "refused 10", "refused 13", "slow and refused 13", "listed", "slow and listed",
 ];
 
-pub const TABLE: Mode = Mode { word: "table", compare_one, kinds: &KINDS, tally };
+pub const TABLE: Mode = Mode { word: "table", given: "sheets", compare_one, kinds: &KINDS, tally };
 
 /// The sheet of one seed.
 fn compare_one(program: Program, seed: u64, counts: &mut Counts) -> Result<(), String> {

@@ -17,16 +17,17 @@ use Rattle.calls.specs.Values.{Values}
 use Rattle.calls.specs.Lent.{asBytes, inPairs}
 use Rattle.calls.specs.Calls.{writtenValues, judgingTests, housed}
 use Rattle.calls.specs.Play.{dueValues}
+use Rattle.calls.specs.Recover.{benchRecovering}
 use Rattle.calls.specs.Bench.{benchJudgement, benchSolving, benchListed, benchDue, Finding, noFinding}
 use Rattle.calls.specs.Bench.{judgementValues, refused, packed, Small, packedCount}
 use Rattle.calls.specs.Answers.{Own, OneOf, Answers}
-use Rattle.calls.specs.Numbers.{bytes, judges, solves, lists, houses, plays, misnamedIn, unheardBy}
+use Rattle.calls.specs.Numbers.{bytes, judges, solves, lists, houses, recovers, plays, misnamedIn, unheardBy}
 use Rattle.calls.specs.Header.{JudgeHolds, CountHolds}
 use Rattle.calls.specs.declared.Judgement.{Judgement}
 use Rattle.calls.specs.declared.Judgement.the-variants as J
 use Rattle.calls.proofs.Call.{Ends, faulty, failed, worked, ends}
 use Rattle.calls.proofs.Small.{verdict-small, solving-small, listing-small, house-small, playing-small}
-use Rattle.calls.proofs.Small.{text-small}
+use Rattle.calls.proofs.Small.{recovering-small, text-small}
 use Rattle.calls.proofs.Numbers.{numbers}
 
 -- the numbers of a call's own refusals fit a byte
@@ -121,6 +122,12 @@ module _ (sheet b : List ℕ) where
       (dueValues (benchDue sheet b m text)) refl (numbers .bench-player sheet b m text)
       (playing-small sheet (asBytes b) (λ Γ. dueText Γ (minutesOf b) m text)
       (λ a. text-small (read sheet .network) (accepted-well-formed sheet a .0) (minutesOf b) m text))
+
+pub header-recoverer : (sheet bytes b : List ℕ)
+    → let v = writtenValues (benchRecovering sheet bytes b .answer) in CountHolds (packedCount v) v
+header-recoverer sheet bytes b =
+    count-holds sheet (recovers sheet bytes _) (writtenValues (benchRecovering sheet bytes b .answer)) refl
+    (numbers .bench-recoverer sheet bytes b .answers) (recovering-small sheet bytes (inPairs b))
 
 pub header-house : (sheet m : List ℕ)
     → let v = writtenValues (housed sheet m .answer) in CountHolds (packedCount v) v

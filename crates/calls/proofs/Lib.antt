@@ -11,6 +11,8 @@ pub mod Fit
 pub mod Judging
 pub mod Solving
 pub mod Writing
+pub mod Recovering
+pub mod ReadingBack
 pub mod Alike
 pub mod Play
 pub mod Player

@@ -23,6 +23,7 @@ use Rattle.calls.proofs.Handed.{minutes-rightly, bytes-rightly}
 use Rattle.calls.proofs.Judging.{judge-answers}
 use Rattle.calls.proofs.Solving.{solver-writes}
 use Rattle.calls.proofs.Writing.{lister-writes, house-writes}
+use Rattle.calls.proofs.Recovering.{recoverer-writes}
 use Rattle.calls.proofs.Player.{player-answers, list-says, mask-says, text-says}
 use Rattle.calls.proofs.Play.{lettered}
 
@@ -63,10 +64,12 @@ numbers = record {
   solver = λ sheet m. solver-writes sheet (inPlace m);
   lister = λ sheet t m. lister-writes sheet (asMinutes t) (minutes t) m (λ _. minutes-rightly t (read sheet .network));
   house-writer = house-writes;
+  recoverer = λ sheet bytes m. recoverer-writes sheet bytes (inPlace m);
   player = player;
   player-on = player-on;
   bench-judge = λ sheet b. judge-answers sheet (asBytes b) (bytes b) (λ _. bytes-rightly b (read sheet .network));
   bench-solver = λ sheet b. solver-writes sheet (inPairs b);
   bench-lister = λ sheet b m. lister-writes sheet (asBytes b) (bytes b) m (λ _. bytes-rightly b (read sheet .network));
+  bench-recoverer = λ sheet bytes b. recoverer-writes sheet bytes (inPairs b);
   bench-player = bench-player;
 }

@@ -4,7 +4,7 @@ use mathlib.Core.Logic.{_↔_}
 use mathlib.Core.Bool.{Bool, true, false, cond}
 use mathlib.Core.Option.{Option}
 use mathlib.Core.List.{List, [], _∷_}
-use Prim.Native.Nat.{ℕ}
+use Prim.Native.Nat.{ℕ, _*_, _^_, _<_}
 use lib.ListN.{length}
 use Rattle.prelude.specs.Checks.{firstFailing}
 use Rattle.prelude.proofs.Mapped.{tabulate-value}
@@ -29,8 +29,9 @@ use Rattle.dispatch.specs.Said.{dueOn}
 use Rattle.dispatch.specs.HeardText.{isHeard, heardIn, dueText}
 use Rattle.dispatch.specs.declared.Dispatched.{Dispatched}
 use Rattle.dispatch.specs.declared.Dispatched.the-variants.{Misnamed}
-use Rattle.listing.specs.Listing.{listing}
-use Rattle.listing.proofs.Same.{listing-same}
+use Rattle.listing.specs.Listing.{header, listing}
+use Rattle.listing.proofs.Same.{header-same, listing-same}
+use Rattle.readback.specs.Rows.{misfit, fault, recovered}
 use Rattle.tighten.proofs.Tables.{cells-agree, solutions-by-remaining}
 use Rattle.canonical.specs.House.{houseText}
 use Rattle.canonical.specs.Same.{Same}
@@ -43,6 +44,7 @@ use Rattle.calls.specs.Calls.{refusing, rests, solvingTests, solvingInto
 use Rattle.calls.specs.Calls.{listingTests, listingOf, fit, houseTests, housed}
 use Rattle.calls.specs.Play.{named, everHeard, eventsOf, isPass, playingTests, playing, eventsDue, eventsDueOn}
 use Rattle.calls.specs.Bench.{benchDue}
+use Rattle.calls.specs.Recover.{faultless, recoveredIn, recoveringTests, recoveringInto}
 use Rattle.calls.specs.Reacting.{SameAnswers}
 use Rattle.calls.specs.declared.Summary.the-variants as S
 use Rattle.calls.specs.declared.Judgement.the-variants as J
@@ -120,12 +122,30 @@ module _ (sheet other : List ℕ) (a : read sheet .outcome ≡ Accepted) (b : re
           firstFailing ((t .has n, withoutLine C.WrongTableLength) ∷ (isPass v, withoutLine C.TableFails) ∷ (named d, withoutLine C.MisnamedSignal)
           ∷ (everHeard d, withoutLine C.NeverHeard) ∷ [])
 
+  names : (u : ℕ) → u < Γ .events → nameOf Γ sheet u ≡ nameOf Δ other u
+  names = tabulate-value (nameOf Γ sheet) (nameOf Δ other) (Γ .events) (Δ .events) (s .events)
+
+  -- a listing is read by the header and the counts of signals and events
+  recoveries : (bytes : List ℕ) (m : Lent) → recoveringInto sheet bytes m ≡ recoveringInto other bytes m
+  recoveries bytes m =
+      calls-alike (refusing m) sheet other (recoveringTests sheet bytes m) (recoveringTests other bytes m)
+      (λ Γ. writing m (recoveredIn sheet bytes Γ)) (λ Γ. writing m (recoveredIn other bytes Γ)) a b
+      (alike (λ h k n. firstFailing (faultless (misfit h k n bytes) C.OtherForm ∷ faultless (fault h k n bytes) C.NoMinute
+      ∷ enough m (n * 2 ^ k) ∷ [])))
+      (λ _. alike (λ h k n. writing m (recovered h k n bytes)))
+    where
+      alike : {A : Type 0} (f : List ℕ → ℕ → ℕ → A)
+          → f (header sheet Γ) (Γ .signals) (Γ .events) ≡ f (header other Δ) (Δ .signals) (Δ .events)
+      alike f =
+          ap (λ (h : List ℕ). f h (Γ .signals) (Γ .events))
+          (header-same sheet Γ other Δ (w .agrees .events) (w .agrees .signals) names)
+          ∙ ap₂ (λ (k n : ℕ). f (header other Δ) k n) (w .agrees .signals) (w .agrees .events)
+
   listings : (t : Handed) (out : List ℕ) → listingOf sheet t out ≡ listingOf other t out
   listings t out =
       let m = inPlace out in
       let σ = t .minutes in
-      let text = listing-same sheet Γ other Δ (w .agrees .events) (w .agrees .signals)
-      (tabulate-value (nameOf Γ sheet) (nameOf Δ other) (Γ .events) (Δ .events) (s .events)) σ in
+      let text = listing-same sheet Γ other Δ (w .agrees .events) (w .agrees .signals) names σ in
       calls-alike (refusing m) sheet other (listingTests sheet t m) (listingTests other t m)
       (λ Γ. writing m (listing sheet Γ σ)) (λ Γ. writing m (listing other Γ σ)) a b
       (ap₂ (λ (n : ℕ) (x : List ℕ). firstFailing ((t .has n, withoutLine C.WrongTableLength) ∷ enough m (length x) ∷ [])) size text)
@@ -153,5 +173,6 @@ module _ (sheet other : List ℕ) (a : read sheet .outcome ≡ Accepted) (b : re
         plays (asBytes t) (λ Γ. dueText Γ (minutesOf t) m text)
         (ap (λ (d : Dispatched). cond (isHeard text) d Misnamed) (due-same w (minutesOf t) m (heardIn text)));
     listings = listings;
+    recoveries = recoveries;
     forms = forms;
   }

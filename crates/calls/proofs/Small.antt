@@ -34,8 +34,9 @@ use Rattle.dispatch.specs.HeardText.{isHeard, heardIn, dueText}
 use Rattle.dispatch.specs.declared.Dispatched.{Dispatched}
 use Rattle.dispatch.specs.declared.Dispatched.the-variants.{Misnamed}
 use Rattle.dispatch.proofs.Bits.{mask-small}
-use Rattle.listing.specs.Listing.{listing}
+use Rattle.listing.specs.Listing.{header, listing}
 use Rattle.listing.proofs.Short.{listing-short}
+use Rattle.readback.proofs.RoundTrip.{length-recovered}
 use Rattle.tighten.specs.Tightest.{remainingOf}
 use Rattle.canonical.specs.House.{houseText}
 use Rattle.canonical.proofs.Again.{form-short}
@@ -43,9 +44,9 @@ use Rattle.calls.specs.Values.{Values, turnedAway}
 use Rattle.calls.specs.Call.{Tests, call, Left}
 use Rattle.calls.specs.Lent.{Handed, Lent, inPlace}
 use Rattle.calls.specs.Calls.{judgingTests, judging, writtenValues, writing, refusing, solvingTests, solvingInto}
-use Rattle.calls.specs.Calls.{listingTests}
-use Rattle.calls.specs.Calls.{listingOf, houseTests, housed}
+use Rattle.calls.specs.Calls.{listingTests, listingOf, houseTests, housed}
 use Rattle.calls.specs.Play.{eventsOf, playingTests, playing, dueValues}
+use Rattle.calls.specs.Recover.{recoveredIn, recoveringTests, recoveringInto}
 use Rattle.calls.specs.Bench.{Small, verdictValues, breachValues}
 use Rattle.calls.specs.declared.Due.the-variants as D
 use Rattle.calls.specs.declared.Judgement.the-variants as J
@@ -130,6 +131,17 @@ module _ (sheet : List ℕ) where
       omega (
         arith,
         listing-short sheet net (t .minutes) (w .0) (w .1) (λ s u _ _. times a (h .0) (s * net .events + u)),
+      ))
+
+  pub recovering-small : (bytes : List ℕ) (m : Lent) → count (recoveringInto sheet bytes m) .value < 65536
+  recovering-small bytes m =
+      value-small count (refusing m) (λ r. refl) sheet (recoveringTests sheet bytes m)
+      (λ Γ. writing m (recoveredIn sheet bytes Γ))
+      (λ a h.
+      omega (
+        arith,
+        length-recovered (header sheet net) (net .signals) (net .events) bytes,
+        cells-few (accepted-well-formed sheet a .0),
       ))
 
   pub house-small : (m : List ℕ) → count (housed sheet m) .value < 65536

@@ -1,5 +1,5 @@
 -- Demand 1: each public call's own refusals in checking order, with their causes, and that it answers by them (01,
--- Refused sheets and calls; 02, points 1 and 2). A later call is one list and one field more.
+-- Refused sheets and calls; 02, points 1, 2 and 4). A later call is one list and one field more.
 use mathlib.Core.Path.{_≡_}
 use mathlib.Core.List.{List, [], _∷_}
 use Prim.Native.Nat.{ℕ, _*_, _/_, _<_}
@@ -15,13 +15,15 @@ use Rattle.dispatch.specs.History.{History}
 use Rattle.dispatch.specs.Said.{saidFrom}
 use Rattle.dispatch.specs.HeardText.{heardIn, WellWritten}
 use Rattle.dispatch.specs.declared.Heard.{Heard}
-use Rattle.listing.specs.Listing.{listing}
+use Rattle.listing.specs.Listing.{header, listing}
+use Rattle.readback.specs.Form.{Formed, Minutes}
 use Rattle.tighten.specs.Tightest.{remainingOf}
 use Rattle.canonical.specs.House.{houseText}
 use Rattle.calls.specs.Calls.{summary, noCounts, summaryValues, judgement, writtenValues, solving, listed}
 use Rattle.calls.specs.Calls.{housed}
 use Rattle.calls.specs.Bench.{noFinding, judgementValues, benchJudgement, benchSolving, benchListed, benchDue}
 use Rattle.calls.specs.Play.{eventsDue, eventsDueOn, dueValues}
+use Rattle.calls.specs.Recover.{recovering, benchRecovering}
 use Rattle.calls.specs.Answers.{Own, Answers, Writes}
 
 -- "A table handed in has not exactly n × 2^k numbers"; as bytes it has two for each, so that "an odd number of bytes is
@@ -60,6 +62,23 @@ houses sheet m =
     ∷ tooShort (length m) (λ Γ. length (houseText sheet Γ))
     ∷ []
 
+-- 18: the listing is "longer than 4,096 bytes", or for no texts in the places of its minutes the lines of this sheet;
+-- 19: it is, and "a minute is ill-formed, negative or over 65,535"
+abbrev pub otherForm : List ℕ → List ℕ → Network → Type 0
+otherForm sheet bytes Γ = Formed (header sheet Γ) (Γ .signals) (Γ .events) bytes → ⊥
+
+abbrev pub noMinute : List ℕ → List ℕ → Network → Type 0
+noMinute sheet bytes Γ =
+    (x : Formed (header sheet Γ) (Γ .signals) (Γ .events) bytes)
+    × (((s : ℕ) → s < scenarios Γ → Minutes (Γ .events) (x .fitting .texts) s) → ⊥)
+
+abbrev pub recovers : List ℕ → List ℕ → ℕ → List Own
+recovers sheet bytes lent =
+    record { number = 18; cause = otherForm sheet bytes }
+    ∷ record { number = 19; cause = noMinute sheet bytes }
+    ∷ tooShort lent cells
+    ∷ []
+
 -- "14, the table does not pass the judge; 15, a letter in the list is undefined or stands twice; 16, no case has heard
 -- exactly this list"
 abbrev pub plays : (Network → Type 0) → List ℕ → (Network → Type 0) → (Network → Type 0) → List Own
@@ -94,6 +113,8 @@ pub record Numbers : Type 0 where
   pub solver : (sheet m : List ℕ) → Writes sheet (solves (length m)) writtenValues 0 (solving sheet m) m
   pub lister : (sheet t m : List ℕ) → Writes sheet (lists (minutes t) sheet t m) writtenValues 0 (listed sheet t m) m
   pub house-writer : (sheet m : List ℕ) → Writes sheet (houses sheet m) writtenValues 0 (housed sheet m) m
+  pub recoverer : (sheet bytes m : List ℕ)
+      → Writes sheet (recovers sheet bytes (length m)) writtenValues 0 (recovering sheet bytes m) m
   pub player : (sheet t : List ℕ) (m : ℕ) (hs : List Heard)
       → Answers sheet (plays (minutes t) t (misnamedBy hs) (unheardBy t m hs)) 0 (dueValues (eventsDue sheet t m hs))
   pub player-on : (sheet t : List ℕ) (m x : ℕ)
@@ -104,6 +125,8 @@ pub record Numbers : Type 0 where
   pub bench-solver : (sheet b : List ℕ) → Writes sheet (solves (length b / 2)) writtenValues 0 (benchSolving sheet b) b
   pub bench-lister : (sheet b m : List ℕ)
       → Writes sheet (lists (bytes b) sheet (minutesOf b) m) writtenValues 0 (benchListed sheet b m) m
+  pub bench-recoverer : (sheet bytes b : List ℕ)
+      → Writes sheet (recovers sheet bytes (length b / 2)) writtenValues 0 (benchRecovering sheet bytes b) b
   pub bench-player : (sheet b : List ℕ) (m : ℕ) (text : List ℕ)
       → let t = minutesOf b in
       Answers sheet (plays (bytes b) t (misnamedIn text) (unheardBy t m (heardIn text))) 0

@@ -3,15 +3,21 @@ use mathlib.Core.Path.{_≡_}
 use mathlib.Core.List.{List}
 use Prim.Native.Nat.{ℕ, _<_}
 use lib.ListN.{length}
+use Rattle.refusal.specs.Refusal.{refusal}
+use Rattle.refusal.specs.declared.Cause.the-variants.{OtherForm, NoMinute}
 use Rattle.refusal.specs.declared.Refusal.{Refusal}
 use Rattle.network.specs.Limits as L
 use Rattle.network.specs.Least.{Least, Inconsistent}
 use Rattle.network.specs.declared.Network.{Network}
 use Rattle.sheet.specs.Fault.{Fault}
-use Rattle.listing.specs.Listing.{listing}
+use Rattle.listing.specs.Listing.{header, listing}
+use Rattle.readback.specs.Form.{Misfit, Unread}
 use Rattle.tighten.specs.Tightest.{remainingOf}
 use Rattle.calls.specs.Values.{turnedAway, refusedAs}
-use Rattle.calls.specs.Table.{refusedText, tableText, formText}
+use Rattle.calls.specs.Calls.{judgement}
+use Rattle.calls.specs.Bench.{judgementValues}
+use Rattle.calls.specs.Table.{refusedText, verdictText, tableText, formText, judgeText}
+use Rattle.calls.specs.ReadingBack.{Table}
 use Rattle.calls.specs.Answers.{Reads}
 use Rattle.calls.specs.Housing.{Form}
 
@@ -27,3 +33,15 @@ pub record Printing : Type 0 where
   pub table : (sheet σ : List ℕ) (Γ : Network) → Reads sheet Γ → Least Γ σ → tableText sheet ≡ listing sheet Γ σ
   -- the sheet in its house form
   pub house : (sheet f : List ℕ) (Γ : Network) → Form sheet Γ f → formText sheet ≡ f
+  -- of `judge`: "the line that `table` prints for a refusal", the sheet's own first, then 18 and 19
+  pub judge-refused : (sheet bytes : List ℕ) (r : Refusal) → Fault sheet r
+      → judgeText sheet bytes ≡ refusedText (turnedAway 0 r)
+  pub judge-misfit : (sheet bytes : List ℕ) (Γ : Network) (l : ℕ) → Reads sheet Γ
+      → Misfit (header sheet Γ) (Γ .signals) (Γ .events) bytes l
+      → judgeText sheet bytes ≡ refusedText (turnedAway 0 (refusal OtherForm l))
+  pub judge-unread : (sheet bytes : List ℕ) (Γ : Network) (l : ℕ) → Reads sheet Γ
+      → Unread (header sheet Γ) (Γ .signals) (Γ .events) bytes l
+      → judgeText sheet bytes ≡ refusedText (turnedAway 0 (refusal NoMinute l))
+  -- otherwise the bytes are the listing of a table, and the verdict on it is printed
+  pub judge : (sheet σ : List ℕ) (Γ : Network) → Reads sheet Γ → Table Γ σ
+      → judgeText sheet (listing sheet Γ σ) ≡ verdictText (judgementValues (judgement sheet σ))

@@ -18,6 +18,7 @@ use Rattle.calls.specs.Answers.{Reads}
 use Rattle.calls.specs.Lent.{Handed, Lent}
 use Rattle.calls.specs.Calls.{summary, judging, solvingInto, listingOf, housed}
 use Rattle.calls.specs.Play.{eventsDue, eventsDueOn}
+use Rattle.calls.specs.Recover.{recoveringInto}
 use Rattle.calls.specs.Bench.{benchDue}
 use Rattle.calls.specs.Former.{Former}
 
@@ -37,7 +38,7 @@ pub record Besides (c d : Contents) : Type 0 where
   pub rules : c .rules ≡ d .rules
 
 -- they are answered the same, with tables of minutes and of bytes: the counts, the verdict, the table, what is due, the
--- listing and the house form, and what is left in lent memory
+-- listing, the table of a listing and the house form, and what is left in lent memory
 pub record SameAnswers (sheet other : List ℕ) : Type 0 where
   pub summaries : summary sheet ≡ summary other
   pub verdicts : (t : Handed) → judging sheet t ≡ judging other t
@@ -46,6 +47,7 @@ pub record SameAnswers (sheet other : List ℕ) : Type 0 where
   pub due-on : (t : List ℕ) (m x : ℕ) → eventsDueOn sheet t m x ≡ eventsDueOn other t m x
   pub bench-due : (b : List ℕ) (m : ℕ) (text : List ℕ) → benchDue sheet b m text ≡ benchDue other b m text
   pub listings : (t : Handed) (m : List ℕ) → listingOf sheet t m ≡ listingOf other t m
+  pub recoveries : (bytes : List ℕ) (m : Lent) → recoveringInto sheet bytes m ≡ recoveringInto other bytes m
   pub forms : (m : List ℕ) → housed sheet m ≡ housed other m
 
 pub record Reacting : Type 0 where

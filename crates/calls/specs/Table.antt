@@ -1,9 +1,9 @@
 -- What the programs print, by the calls that they make: `table` prints "the solver's listing, or `refused N line L`
--- with the number and the line" (01, The printed listing), and `house` the house form (02, point 2). Each lends the
--- calls memory that is long enough.
+-- with the number and the line" (01, The printed listing), `house` the house form (02, point 2), and `judge` the verdict
+-- on the table of a listing (02, point 4). Each lends the calls memory that is long enough.
 use mathlib.Core.Bool.{true, false}
 use mathlib.Core.List.{List, [], _∷_, _++_}
-use Prim.Native.Nat.{ℕ}
+use Prim.Native.Nat.{ℕ, zero, suc}
 use lib.Dec.{eqb}
 use lib.ListN.{take, replicate}
 use Rattle.prelude.specs.Bytes.{ascii}
@@ -14,7 +14,9 @@ use Rattle.sheet.specs.Reading.{longest}
 use Rattle.listing.specs.Most.{mostListing}
 use Rattle.calls.specs.Values.{Values}
 use Rattle.calls.specs.Call.{Left}
-use Rattle.calls.specs.Calls.{writtenValues, solving, listed, housed}
+use Rattle.calls.specs.Calls.{judgement, writtenValues, solving, listed, housed}
+use Rattle.calls.specs.Bench.{Finding, judgementValues}
+use Rattle.calls.specs.Recover.{recovering}
 use Rattle.calls.specs.declared.Written.{Written}
 
 abbrev pub refusedText : Values ℕ → List ℕ
@@ -37,9 +39,35 @@ tableOn m page sheet = orRefused (solving sheet m) (listingOn page sheet)
 abbrev pub formOn : List ℕ → List ℕ → List ℕ
 formOn page sheet = orRefused (housed sheet page) (λ text. text)
 
+-- "`pass`, `late` with case and event, `rule` with case and rule, `unheard` with both cases and the event (numbers from 0,
+-- spaces between)", by the values of a verdict
+abbrev pub then : ℕ → List ℕ
+then n = ascii " " ++ decimal n
+
+abbrev pub findingText : ℕ → ℕ → ℕ → ℕ → List ℕ
+findingText zero a b c = ascii "pass"
+findingText (suc zero) a b c = ascii "late" ++ then a ++ then b
+findingText (suc (suc zero)) a b c = ascii "rule" ++ then a ++ then b
+findingText (suc (suc (suc w))) a b c = ascii "unheard" ++ then a ++ then b ++ then c
+
+abbrev pub verdictText : Values Finding → List ℕ
+verdictText v =
+    let x = v .value in
+    elim (eqb (v .number) 0) [
+      | true ↦ findingText (x .word) (x .first) (x .second) (x .third) ++ lineFeed ∷ []
+      | false ↦ refusedText (record { number = v .number; line = v .line; value = 0 })
+    ]
+
+abbrev pub judgeOn : List ℕ → List ℕ → List ℕ → List ℕ
+judgeOn m sheet bytes =
+    orRefused (recovering sheet bytes m) (λ t. verdictText (judgementValues (judgement sheet t)))
+
 -- as the programs lend them
 abbrev pub tableText : List ℕ → List ℕ
 tableText sheet = tableOn (replicate L.cells 0) (replicate mostListing 0) sheet
 
 abbrev pub formText : List ℕ → List ℕ
 formText sheet = formOn (replicate longest 0) sheet
+
+abbrev pub judgeText : List ℕ → List ℕ → List ℕ
+judgeText sheet bytes = judgeOn (replicate L.cells 0) sheet bytes

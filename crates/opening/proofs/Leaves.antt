@@ -22,6 +22,7 @@ use Rattle.calls.specs.Call.{withoutLine, Left, Leaves, Tests}
 use Rattle.calls.specs.Lent.{inPlace}
 use Rattle.calls.specs.Calls.{enough, writing, refusing, listed, fit}
 use Rattle.calls.specs.Calls.{houseTests, housed}
+use Rattle.calls.specs.Bench.{packedLeft}
 use Rattle.calls.specs.declared.Written.{Written}
 use Rattle.calls.specs.declared.Written.the-variants as W
 use Rattle.calls.proofs.Call.{call-refused, call-fails, call-works}
@@ -31,6 +32,10 @@ use Rattle.opening.proofs.Prologue.{handed-refused, handed-fails, hande
 -- what was promised of one definition is promised of an equal one
 pub leaves-as : {l k : Left Written} {r : Written} {m : List ℕ} → l ≡ k → Leaves l r m → Leaves k r m
 leaves-as e h = rw (← e) h
+
+pub packed-as : {l k : Left Written} {r : ℕ} {m : List ℕ} → l ≡ k → Leaves (packedLeft l) r m
+    → Leaves (packedLeft k) r m
+packed-as e h = rw (← e) h
 
 -- and so of an equal answer
 pub answered-as : {l : Left Written} {r r′ : Written} {m : List ℕ} → Leaves l r m → r ≡ r′ → Leaves l r′ m

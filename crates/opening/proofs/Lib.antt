@@ -3,6 +3,7 @@
 pub mod Prologue
 pub mod Leaves
 pub mod SolverLeaves
+pub mod ReaderLeaves
 pub mod Playing
 pub mod Taken
 pub mod Pairs

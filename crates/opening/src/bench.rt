@@ -9,8 +9,10 @@ ghost use Rattle.calls.specs.Values.{turnedAway, done};
 ghost use Rattle.calls.specs.Call.{Leaves};
 ghost use Rattle.calls.specs.Calls.{writtenValues, housed};
 ghost use Rattle.calls.specs.Play.{dueValues};
+ghost use Rattle.calls.specs.Recover.{benchRecovering};
 ghost use Rattle.calls.specs.Bench as B;
 ghost use Rattle.opening.specs.Taken.{Taken};
+ghost use Rattle.opening.specs.Packed.{HasRoom, packedTable};
 use calls::Due;
 use calls::Judgement;
 use calls::Written;
@@ -75,6 +77,20 @@ fn packed_written(written: Written) -> u64
     }
 }
 
+// The answer of a call that writes minutes, and as many of them in the table's bytes.
+fn packed_table(written: Written, minutes: &[u16], table: &mut [u8]) -> u64
+    requires { ⌜ HasRoom written (now minutes) (now table) ⌝ }
+    ensures { λ r. ⌜ Leaves (packedTable written (now (minutes .entry)) (now (table .entry))) r (now (table .exit)) ⌝ }
+{
+    match written {
+        Written::Refused(refusal) => packed_refusal(refusal),
+        Written::Count(count) => {
+            pairs::pack(&minutes[..count], table);
+            packed_count(count)
+        }
+    }
+}
+
 // A word with its three values, behind a number and a line of 0.
 fn packed_word(word: u8, first: u8, second: u8, third: u8) -> u64
     ensures { λ r. ⌜ r ≡ B.packed (B.judged word first second third) ⌝ }
@@ -135,13 +151,7 @@ pub extern "C" fn opening_solve(sheet: &[u8], table: &mut [u8]) -> u64
     let mut minutes = [0u16; Network::CELLS];
     let lent = room(table.len());
     let written = crate::solve_sheet(sheet, &mut minutes[..lent]);
-    match written {
-        Written::Refused(refusal) => packed_refusal(refusal),
-        Written::Count(count) => {
-            pairs::pack(&minutes[..count], table);
-            packed_count(count)
-        }
-    }
+    packed_table(written, &minutes, table)
 }
 
 // The listing for C.
@@ -153,6 +163,18 @@ pub extern "C" fn opening_listing(sheet: &[u8], table: &[u8], out: &mut [u8]) ->
     let mut minutes = [0u16; TAKEN];
     let count = take(table, &mut minutes);
     packed_written(crate::write_listing(sheet, &minutes[..count], out))
+}
+
+// The reader of listings for C.
+#[no_mangle]
+pub extern "C" fn opening_read_listing(sheet: &[u8], printed: &[u8], table: &mut [u8]) -> u64
+    ensures { λ r. ⌜ Leaves (B.packedLeft (benchRecovering (now (sheet .entry)) (now (printed .entry))
+        (now (table .entry)))) r (now (table .exit)) ⌝ }
+{
+    let mut minutes = [0u16; Network::CELLS];
+    let lent = room(table.len());
+    let written = crate::read_listing(sheet, printed, &mut minutes[..lent]);
+    packed_table(written, &minutes, table)
 }
 
 // The house form for C.

@@ -4,7 +4,8 @@ ghost use mathlib.Core.Path.{_≡_};
 ghost use Rattle.calls.specs.Call.{withoutLine, Leaves};
 ghost use Rattle.calls.specs.Calls.{summary, judgement, solving, listed, housed};
 ghost use Rattle.calls.specs.Play.{eventsDue, eventsDueOn};
-ghost use Rattle.opening.specs.Prologue.{afterTest, handedIn, handedOut, answerTo};
+ghost use Rattle.calls.specs.Recover.{recovering};
+ghost use Rattle.opening.specs.Prologue.{afterTest, handedIn, handedOut, readBack, answerTo};
 use calls::Counts;
 use calls::Due;
 use calls::Judgement;
@@ -14,6 +15,7 @@ use checker::Verdict;
 use dispatch::Dispatched;
 use dispatch::Heard;
 use network::Network;
+use readback::Answer;
 use refusal::Cause;
 use refusal::Refusal;
 use sheet::Outcome;
@@ -22,13 +24,15 @@ use solver::Solved;
 
 pub mod bench;
 
-// Lent memory of these lengths is long enough for every sheet: a table's minutes, a listing's bytes, and the bytes of a
-// sheet, also in its house form.
+// Lent memory of these lengths is long enough for every sheet: a table's minutes, a listing's bytes as it is written, and
+// the bytes of a sheet, also in its house form. No listing that is longer than the last is read back.
 pub const TABLE_MINUTES: usize = Network::CELLS;
 
 pub const LISTING_BYTES: usize = listing::LONGEST;
 
 pub const SHEET_BYTES: usize = sheet::LONGEST;
+
+pub const PRINTED_BYTES: usize = readback::LONGEST;
 
 // A refusal that concerns no line of the sheet.
 fn without_line(cause: Cause) -> Refusal
@@ -135,6 +139,38 @@ pub fn write_listing(sheet: &[u8], table: &[u16], out: &mut [u8]) -> Written
     match outcome {
         Outcome::Refused(refusal) => Written::Refused(refusal),
         Outcome::Accepted => handed_out(listing::write(sheet, network, table, out)),
+    }
+}
+
+// What the reader of listings answers, as the call's answer.
+fn read_back(answer: Answer) -> Written
+    ensures { λ r. ⌜ r ≡ readBack answer ⌝ }
+{
+    match answer {
+        Answer::Recovered(n) => Written::Count(n),
+        Answer::OtherForm(line) => Written::Refused(Refusal {
+            cause: Cause::OtherForm,
+            line,
+        }),
+        Answer::NoMinute(line) => Written::Refused(Refusal {
+            cause: Cause::NoMinute,
+            line,
+        }),
+        Answer::TooShort => Written::Refused(without_line(Cause::BufferTooShort)),
+    }
+}
+
+// The table of a listing, into the first cells of the table.
+pub fn read_listing(sheet: &[u8], printed: &[u8], table: &mut [u16]) -> Written
+    ensures { λ r. ⌜ Leaves (recovering (now (sheet .entry)) (now (printed .entry)) (now (table .entry))) r
+        (now (table .exit)) ⌝ }
+{
+    let reading = sheet::read(sheet);
+    let outcome = reading.outcome;
+    let network = reading.network;
+    match outcome {
+        Outcome::Refused(refusal) => Written::Refused(refusal),
+        Outcome::Accepted => read_back(readback::read(sheet, network, printed, table)),
     }
 }
 

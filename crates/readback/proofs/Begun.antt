@@ -1,5 +1,5 @@
--- The header and the first rows of any bytes: those that stand there over texts fit and have these texts (`stands-to`),
--- and those that fit stand there over their own texts (`begins`). Assumes nothing.
+-- The header and the first rows of any bytes: those that stand there over texts fit and have these texts
+-- (`stands-to`), and those that fit stand there over their own texts (`begins`). Assumes nothing.
 use mathlib.Core.Path.{_≡_, sym, _∙_, ap}
 use mathlib.Core.Logic.{inl, inr}
 use mathlib.Core.Bool.{Bool, true}

@@ -7,14 +7,15 @@ use mathlib.Core.Option.{Option, none}
 use mathlib.Core.List.{List, [], _++_, append-nil}
 use Prim.Native.Nat.{ℕ, _^_, _≤_, _<_}
 use native.Mathlib.Omega.{arith}
-use borrow.Author.Tests.{leb-true, le-leb, le-ltb, ltb-false}
+use borrow.Author.Tests.{leb-true, le-ltb, ltb-false}
 use lib.Dec.{leb, ltb}
 use lib.ListN.{length, length-drop, drop-of-length-le}
 use Rattle.prelude.specs.Search.{firstBelow, unless}
-use Rattle.prelude.proofs.Search.{firstBelow-none, none-of-firstBelow, orElse-none, true-of-unless, unless-true, when-none}
+use Rattle.prelude.proofs.Search.{orElse-none, true-of-unless, when-none}
 use Rattle.listing.specs.Listing.{listingOver}
 use Rattle.readback.specs.Form.{longest, Fitting, Formed}
 use Rattle.readback.specs.Rows.{lineNumber, placeOf, rowFits, rowMisfit, rowsMisfit, headerFits, textOf, misfit}
+use Rattle.readback.proofs.Passes.{all-pass, none-fails, rows-decide}
 use Rattle.readback.proofs.Begun.{FitsTo, StandsTo, stands-to, begins, texts-plain}
 
 module _ (head : List ℕ) (k n : ℕ) (bytes : List ℕ) where
@@ -46,17 +47,17 @@ module _ (head : List ℕ) (k n : ℕ) (bytes : List ℕ) where
         short = leb-true (length bytes) longest (true-of-unless (leb (length bytes) longest) 1 (a .0));
         fit = record {
           header = true-of-unless (headerFits head bytes) 1 (b .0);
-          rows = λ s h. true-of-unless (fits s) (lineNumber s) (none-of-firstBelow misfits (2 ^ k) (d .0) s h);
+          rows = all-pass fits (2 ^ k) (d .0);
         };
         ended = ltb-false (place (2 ^ k)) (length bytes)
             (when-none (ltb (place (2 ^ k)) (length bytes)) (lineNumber (2 ^ k)) (d .1));
       }
 
   none-of-right : Right → misfit head k n bytes ≡ none
-  unfolding misfit rowsMisfit
+  unfolding rowsMisfit
   none-of-right r =
-      let all = firstBelow-none misfits (2 ^ k) (λ s h. unless-true (fits s) (lineNumber s) (r .fit .rows s h)) in
-      rw (le-leb (length bytes) longest (r .short), r .fit .header, all, le-ltb (place (2 ^ k)) (length bytes) (r .ended))
+      rows-decide head k n bytes (r .short) (r .fit .header)
+      ∙ rw (none-fails fits (2 ^ k) (r .fit .rows), le-ltb (place (2 ^ k)) (length bytes) (r .ended))
 
   -- rows that all fit, and nothing behind them: a listing over its own texts
   listed : FitsTo head k n bytes (2 ^ k) → length bytes ≤ place (2 ^ k)

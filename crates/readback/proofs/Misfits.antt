@@ -1,22 +1,24 @@
--- 18 comes with the first line that is not this sheet's: `misfit-iff`. Assumes nothing.
-use mathlib.Core.Path.{_≡_, refl, sym, _∙_, ap}
+-- 18 comes with the first line that is not this sheet's: `misfit-iff`. The tests lead to that line (`first-misfit`),
+-- and there is only one (`once`). Assumes nothing.
+use mathlib.Core.Path.{_≡_, sym, _∙_, ap}
 use mathlib.Core.Logic.{inl, inr, _↔_}
 use mathlib.Core.Bool.{Bool, true, false}
 use mathlib.Core.Option.{Option, some}
 use mathlib.Core.List.{List}
-use Prim.Native.Nat.{ℕ, zero, suc, _+_, _^_, _≤_, _<_}
+use Prim.Native.Nat.{ℕ, zero, suc, _^_, _≤_, _<_}
 use native.Mathlib.Omega.{arith}
-use borrow.Author.Tests.{leb-true, leb-false, le-leb, lt-leb, lt-ltb, ltb-true}
+use borrow.Author.Tests.{leb-true, leb-false, ltb-true}
 use lib.Dec.{leb, ltb}
 use lib.ListN.{length}
 use Rattle.prelude.specs.Search.{orElse, firstBelow, unless}
-use Rattle.prelude.proofs.Tests.{either, clash, lt-or-ge}
-use Rattle.prelude.proofs.Search.{firstBelow-some, firstBelow-none, FoundAt, some-of-firstBelow, none-of-firstBelow}
-use Rattle.prelude.proofs.Search.{orElse-some, true-of-unless, unless-true, unless-some, when-some}
-use Rattle.readback.specs.Form.{longest, FirstMisfit, Misfit}
+use Rattle.prelude.proofs.Tests.{clash, lt-or-ge}
+use Rattle.prelude.proofs.Search.{some-or-none, FoundAt, some-of-firstBelow}
+use Rattle.prelude.proofs.Search.{orElse-some, true-of-unless, unless-some, when-some}
+use Rattle.readback.specs.Form.{longest, Fitting, Stand, Next, FirstMisfit, Misfit}
 use Rattle.readback.specs.Rows.{lineNumber, placeOf, rowFits, rowMisfit, rowsMisfit, headerFits, misfit}
+use Rattle.readback.proofs.Passes.{all-pass, length-decides}
 use Rattle.readback.proofs.Begun.{FitsTo, begins-at, fits-to}
-use Rattle.readback.proofs.Formed.{fitting, ended-of}
+use Rattle.readback.proofs.Formed.{stands-all, ended-of, formed-iff}
 
 module _ (head : List ℕ) (k n : ℕ) (bytes : List ℕ) where
   abbrev first : ℕ
@@ -70,7 +72,10 @@ module _ (head : List ℕ) (k n : ℕ) (bytes : List ℕ) where
       is-line = omega (arith, q);
       within = omega arith;
       pass = begins-at head k n bytes (2 ^ k) fit;
-      fault = λ x. elim x [ inl b ↦ absurd (omega (arith, b .0)) | inr b ↦ omega (arith, h, ended-of head k n bytes (b .1)) ];
+      fault = λ x. elim x [
+        | inl b ↦ absurd (omega (arith, b .0))
+        | inr b ↦ omega (arith, h, ended-of head k n bytes (b .1))
+      ];
     }
 
     of-rows : headerFits head bytes ≡ true → rowsMisfit bytes first k n ≡ some l → FirstMisfit head k n bytes l
@@ -80,11 +85,7 @@ module _ (head : List ℕ) (k n : ℕ) (bytes : List ℕ) where
           | inl a ↦ no-row g (some-of-firstBelow misfits (2 ^ k) l a)
           | inr a ↦
               let p = when-some (ltb (place (2 ^ k)) (length bytes)) (lineNumber (2 ^ k)) l (a .1) in
-              left-over (record {
-                header = g;
-                rows = λ s h.
-                    true-of-unless (fits s) (lineNumber s) (none-of-firstBelow misfits (2 ^ k) (a .0) s h);
-              })
+              left-over (record { header = g; rows = all-pass fits (2 ^ k) (a .0) })
               (ltb-true (place (2 ^ k)) (length bytes) (p .0)) (p .1)
         ]
 
@@ -110,80 +111,48 @@ module _ (head : List ℕ) (k n : ℕ) (bytes : List ℕ) where
               )
         ]
 
+  -- where the header and m rows fit, what is due behind fewer lines is there
+  due : (j m : ℕ) → j ≤ m → j ≤ 2 ^ k → FitsTo head k n bytes m → Next head k n bytes j
+  due j m h g fit =
+      let fewer : FitsTo head k n bytes j = record { header = fit .header; rows = λ s l. fit .rows s (omega arith) } in
+      inl (g, begins-at head k n bytes j fewer)
+
+  -- so the line of a first misfit is none of those above another, and there is no first misfit in a listing
+  not-above : {i j : ℕ} (x : FirstMisfit head k n bytes i) (y : FirstMisfit head k n bytes j) → x .above < y .above → ⊥
+  not-above x y h = below (y .above) h (y .within) (y .pass)
+    where
+      below : (m : ℕ) → x .above < m → m ≤ suc (2 ^ k) → Stand head k n bytes m → ⊥
+      below zero h w p = absurd (omega arith)
+      below (suc m) h w p = x .fault (due (x .above) m (omega arith) (omega arith) (fits-to head k n bytes m p))
+
+  not-fitting : {i : ℕ} → FirstMisfit head k n bytes i → Fitting head k n bytes → ⊥
+  not-fitting x w =
+      x .fault (elim (lt-or-ge (2 ^ k) (x .above)) [
+        | inl h ↦ inr (omega (arith, x .within), w)
+        | inr h ↦ due (x .above) (2 ^ k) h h (stands-all head k n bytes w .fit)
+      ])
+
+  once : {i j : ℕ} → FirstMisfit head k n bytes i → FirstMisfit head k n bytes j → i ≡ j
+  once x y =
+      elim (lt-or-ge (x .above) (y .above)) [
+        | inl h ↦ absurd (not-above x y h)
+        | inr h ↦ elim (lt-or-ge (y .above) (x .above)) [
+          | inl g ↦ absurd (not-above y x g)
+          | inr g ↦ omega (arith, x .is-line, y .is-line)
+        ]
+      ]
+
   -- and there is no other answer
-  module _ (h : length bytes ≤ longest) where
-    header-decides : headerFits head bytes ≡ false → misfit head k n bytes ≡ some 1
-    unfolding misfit
-    header-decides e = rw (le-leb (length bytes) longest h, e)
-
-    rows-decide : headerFits head bytes ≡ true → misfit head k n bytes ≡ rowsMisfit bytes first k n
-    unfolding misfit
-    rows-decide e = rw (le-leb (length bytes) longest h, e)
-
-    row-decides : (s : ℕ) → s < 2 ^ k → FitsTo head k n bytes s → fits s ≡ false
-        → misfit head k n bytes ≡ some (lineNumber s)
-    unfolding rowsMisfit
-    row-decides s l fit e =
-        let found : firstBelow (2 ^ k) misfits ≡ some (lineNumber s) =
-        firstBelow-some misfits (2 ^ k) (lineNumber s) (record {
-          index = s;
-          index-lt = l;
-          answer = rw e;
-          first = λ j g. unless-true (fits j) (lineNumber j) (fit .rows j g);
-        }) in
-        rows-decide (fit .header) ∙ rw found
-
-    end-decides : FitsTo head k n bytes (2 ^ k) → place (2 ^ k) < length bytes
-        → misfit head k n bytes ≡ some (lineNumber (2 ^ k))
-    unfolding rowsMisfit
-    end-decides fit l =
-        let all = firstBelow-none misfits (2 ^ k) (λ s g. unless-true (fits s) (lineNumber s) (fit .rows s g)) in
-        rows-decide (fit .header) ∙ rw (all, lt-ltb (place (2 ^ k)) (length bytes) l)
-
-    at-line : (above : ℕ) (x : FirstMisfit head k n bytes (suc above)) → x .above ≡ above
-        → misfit head k n bytes ≡ some (suc above)
-    at-line zero x q =
-        elim (either (headerFits head bytes)) [
-          | inl e ↦
-              let fit : FitsTo head k n bytes 0 = record { header = e; rows = λ s l. absurd (omega arith) } in
-              absurd (x .fault (rw q (inl (omega arith, begins-at head k n bytes 0 fit))))
-          | inr e ↦ header-decides e
-        ]
-    at-line (suc m) x q =
-        let fit = fits-to head k n bytes m (rw q at (x .pass)) in
-        elim (lt-or-ge m (2 ^ k)) [
-          | inl l ↦ elim (either (fits m)) [
-            | inl e ↦ absurd (x .fault (rw q (inl (omega arith, begins-at head k n bytes (suc m) (one-more m fit e)))))
-            | inr e ↦ row-decides m l fit e ∙ ap some (let z : m + 2 ≡ suc (suc m) = omega arith in z)
-          ]
-          | inr l ↦
-              let all : m ≡ 2 ^ k = omega (arith, x .within, q) in
-              behind-all m x q all (rw all at fit)
-        ]
-      where
-        one-more : (m : ℕ) → FitsTo head k n bytes m → fits m ≡ true → FitsTo head k n bytes (suc m)
-        one-more m fit e = record {
-          header = fit .header;
-          rows = λ s l. elim (lt-or-ge s m) [
-            | inl g ↦ fit .rows s g
-            | inr g ↦ let z : s ≡ m = omega arith in rw z e
-          ];
-        }
-
-        behind-all : (m : ℕ) (x : FirstMisfit head k n bytes (suc (suc m))) → x .above ≡ suc m → m ≡ 2 ^ k
-            → FitsTo head k n bytes (2 ^ k) → misfit head k n bytes ≡ some (suc (suc m))
-        behind-all m x q all fit =
-            elim (lt-or-ge (place (2 ^ k)) (length bytes)) [
-              | inl l ↦ end-decides fit l ∙ ap some (let z : 2 ^ k + 2 ≡ suc (suc m) = omega arith in z)
-              | inr l ↦ absurd (x .fault (rw q (inr (ap suc all, fitting head k n bytes fit l))))
-            ]
-
   misfit-first : (l : ℕ) → Misfit head k n bytes l → misfit head k n bytes ≡ some l
-  unfolding misfit
-  misfit-first l (inl p) = rw (lt-leb (length bytes) longest (p .0), p .1)
+  misfit-first l (inl p) = rw (p .1) (length-decides head k n bytes (p .0))
   misfit-first l (inr p) =
-      let x = p .1 in
-      rw (x .is-line) (at-line (p .0) (x .above) (rw (x .is-line) at x) refl)
+      elim (some-or-none (misfit head k n bytes)) [
+        | inl q ↦ elim (first-misfit (q .0) (q .1)) [
+          | inl r ↦ absurd (omega (arith, p .0, r .0))
+          | inr r ↦ q .1 ∙ ap some (once (r .1) (p .1))
+        ]
+        | inr q ↦ absurd (not-fitting (p .1) (formed-iff head k n bytes .0 q .fitting))
+      ]
 
   pub misfit-iff : (l : ℕ) → (misfit head k n bytes ≡ some l) ↔ Misfit head k n bytes l
   misfit-iff l = (first-misfit l, misfit-first l)

@@ -1,5 +1,5 @@
--- Both round trips: a table that is printed is recovered (`recovers`), and a listing that is read without a fault is printed
--- as it was (`prints-back`). Assumes nothing.
+-- Both round trips: a table that is printed is recovered (`recovers`), and a listing that is read without a fault is
+-- printed as it was (`prints-back`). Assumes nothing.
 use mathlib.Core.Path.{_≡_, refl, sym, _∙_, ap}
 use mathlib.Core.Logic.{inl, inr}
 use mathlib.Core.Option.{none}

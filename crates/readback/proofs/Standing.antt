@@ -1,5 +1,6 @@
--- A row as it is written and as it is read: where the line of a scenario stands over texts without comma and line feed, it fits and
--- has these texts; and a line that fits stands there over its own texts. Assumes nothing.
+-- A row as it is written and as it is read: where the line of a scenario stands over texts without comma and line
+-- feed, it fits and has these texts (`row-stands`); and a line that fits stands there over its own texts
+-- (`row-read`). Assumes nothing.
 use mathlib.Core.Path.{_≡_, refl, sym, _∙_, ap}
 use mathlib.Core.Logic.{inl, inr}
 use mathlib.Core.Bool.{Bool, true, _&&_, cond}
@@ -12,7 +13,7 @@ use lib.ListN.{length, getD, drop}
 use Rattle.prelude.specs.Bytes.{every, same}
 use Rattle.prelude.specs.Bounded.{tabulateFrom, tabulate}
 use Rattle.prelude.proofs.Tests.{either, and-true, and-both, eq-or-ne, by-cond}
-use Rattle.prelude.proofs.Bytes.{same-true, same-of-eq}
+use Rattle.prelude.proofs.Bytes.{same-true, same-refl}
 use Rattle.prelude.proofs.Bounded.{length-tabulate, getD-tabulate}
 use Rattle.prelude.proofs.Lists.{all-of}
 use Rattle.text.specs.Lines.{comma, lineFeed, plain, line, upTo, intoFirst, fields, field, lineAt, endsAt, afterLine}
@@ -24,21 +25,23 @@ use Rattle.listing.specs.Listing.{fieldsOf, scenarioText, lineOver}
 use Rattle.readback.specs.Rows.{textIn, isRow}
 use Rattle.readback.proofs.Passes.{count-of-row, row-mark}
 
--- a first field and n behind it, as a line
-line-from : (f : List ℕ) (g : ℕ → List ℕ) (i n : ℕ)
+-- a first field and n behind it are a line
+line-tabulateFrom : (f : List ℕ) (g : ℕ → List ℕ) (i n : ℕ)
     → f ++ (joinFrom i n (λ j. comma ∷ g j) ++ lineFeed ∷ []) ≡ line f (tabulateFrom i n g)
-line-from f g i zero = refl
-line-from f g i (suc n) =
+line-tabulateFrom f g i zero = refl
+line-tabulateFrom f g i (suc n) =
     ap (λ (t : List ℕ). f ++ comma ∷ t)
-    (append-assoc (g i) (joinFrom (suc i) n (λ j. comma ∷ g j)) (lineFeed ∷ []) ∙ line-from (g i) g (suc i) n)
+    (append-assoc (g i) (joinFrom (suc i) n (λ j. comma ∷ g j)) (lineFeed ∷ []) ∙ line-tabulateFrom (g i) g (suc i) n)
 
-pub line-is : (f : List ℕ) (n : ℕ) (g : ℕ → List ℕ) → f ++ fieldsOf n g ≡ line f (tabulate n g)
-line-is f n g = line-from f g 0 n
+line-tabulate : (f : List ℕ) (n : ℕ) (g : ℕ → List ℕ) → f ++ fieldsOf n g ≡ line f (tabulate n g)
+line-tabulate f n g = line-tabulateFrom f g 0 n
 
--- texts are plain
-plain-from : (g : ℕ → List ℕ) (i n : ℕ) → ((j : ℕ) → i ≤ j → j < i + n → every plain (g j) ≡ true) → Plain (tabulateFrom i n g)
-plain-from g i zero h = tt
-plain-from g i (suc n) h = (h i (omega arith) (omega arith), plain-from g (suc i) n (λ j a b. h j (omega arith) (omega arith)))
+-- what is written is plain: texts that are, and marks
+plain-tabulateFrom : (g : ℕ → List ℕ) (i n : ℕ) → ((j : ℕ) → i ≤ j → j < i + n → every plain (g j) ≡ true)
+    → Plain (tabulateFrom i n g)
+plain-tabulateFrom g i zero h = tt
+plain-tabulateFrom g i (suc n) h =
+    (h i (omega arith) (omega arith), plain-tabulateFrom g (suc i) n (λ j a b. h j (omega arith) (omega arith)))
 
 mark-plain : (f : ℕ → Bool) (i n : ℕ) → every plain (tabulateFrom i n (λ p. cond (f p) 84 70)) ≡ true
 mark-plain f i zero = refl
@@ -47,47 +50,37 @@ mark-plain f i (suc n) =
     (by-cond (λ b. plain b ≡ true) (f i) 84 70 (λ e. refl) (λ e. refl))
     (mark-plain f (suc i) n)
 
-pub plain-scenario : (k s : ℕ) → every plain (scenarioText k s) ≡ true
+plain-scenario : (k s : ℕ) → every plain (scenarioText k s) ≡ true
 plain-scenario k s =
     elim (either (eqb k 0)) [
       | inl e ↦ rw (e, scenarioText)
       | inr e ↦ rw (e, scenarioText) (mark-plain (truth s) 0 k)
     ]
 
--- each field of a line is plain
-pub record EachPlain (fs : List (List ℕ)) : Type 0 where
-  pub each : (u : ℕ) → every plain (getD fs u []) ≡ true
+-- what is read is plain: the fields of a line have no comma in them, and the line no line feed
+plain-into : (b : ℕ) (fs : List (List ℕ)) → plain b ≡ true → Plain fs → Plain (intoFirst b fs)
+plain-into b [] e p = tt
+plain-into b (f ∷ fs) e p = (and-both (plain b) (every plain f) e (p .0), p .1)
 
-plain-none : EachPlain []
-plain-none = record { each = λ u. refl }
-
-plain-cons : (f : List ℕ) (fs : List (List ℕ)) → every plain f ≡ true → EachPlain fs → EachPlain (f ∷ fs)
-plain-cons f fs e p = record { each = at }
-  where
-    at : (u : ℕ) → every plain (getD (f ∷ fs) u []) ≡ true
-    at zero = e
-    at (suc u) = p .each u
-
-plain-tail : (f : List ℕ) (fs : List (List ℕ)) → EachPlain (f ∷ fs) → EachPlain fs
-plain-tail f fs p = record { each = λ u. p .each (suc u) }
-
-plain-into : (b : ℕ) (fs : List (List ℕ)) → plain b ≡ true → EachPlain fs → EachPlain (intoFirst b fs)
-plain-into b [] e p = p
-plain-into b (f ∷ fs) e p = plain-cons (b ∷ f) fs (and-both (plain b) (every plain f) e (p .each 0)) (plain-tail f fs p)
-
-plain-fields : (s : List ℕ) → EachPlain (fields (upTo lineFeed s))
-plain-fields [] = plain-cons [] [] refl plain-none
+plain-fields : (s : List ℕ) → Plain (fields (upTo lineFeed s))
+plain-fields [] = (refl, tt)
 plain-fields (b ∷ s) =
+    let l = upTo lineFeed s in
     elim (either (eqb b lineFeed)) [
-      | inl e ↦ rw (e, upTo) (plain-cons [] [] refl plain-none)
+      | inl e ↦ rw (e, upTo) (refl, tt)
       | inr e ↦ rw (e, upTo) (elim (eq-or-ne b comma) [
-        | inl p ↦ rw (fields-comma b (upTo lineFeed s) p) (plain-cons [] (fields (upTo lineFeed s)) refl (plain-fields s))
-        | inr n ↦ rw (fields-byte b (upTo lineFeed s) n) (plain-into b (fields (upTo lineFeed s)) (rw (ne-eqb b comma n, e)) (plain-fields s))
+        | inl p ↦ rw (fields-comma b l p) (refl, plain-fields s)
+        | inr n ↦ rw (fields-byte b l n) (plain-into b (fields l) (rw (ne-eqb b comma n, e)) (plain-fields s))
       ])
     ]
 
+plain-field : (u : ℕ) (fs : List (List ℕ)) → Plain fs → every plain (field u fs) ≡ true
+plain-field u [] p = refl
+plain-field zero (f ∷ fs) p = p .0
+plain-field (suc u) (f ∷ fs) p = plain-field u fs (p .1)
+
 pub plain-text : (bytes : List ℕ) (at u : ℕ) → every plain (textIn (lineAt bytes at) u) ≡ true
-plain-text bytes at u = plain-fields (drop at bytes) .each (suc u)
+plain-text bytes at u = plain-field (suc u) (fields (lineAt bytes at)) (plain-fields (drop at bytes))
 
 -- the first field and the others
 first-rest : (fs : List (List ℕ)) (n : ℕ) → length fs ≡ n + 1
@@ -106,18 +99,18 @@ module _ (k n : ℕ) (bytes : List ℕ) (s at : ℕ) where
 
   pub row-stands : (texts : ℕ → ℕ → List ℕ) (rest : List ℕ) → ((u : ℕ) → u < n → every plain (texts s u) ≡ true)
       → drop at bytes ≡ lineOver k n texts s ++ rest → RowStands texts rest
-  unfolding isRow
   row-stands texts rest p e =
       let gs = tabulate n (texts s) in
       let stands : drop at bytes ≡ lineOf (scenarioText k s ∷ gs) ++ rest =
-      e ∙ ap (λ (t : List ℕ). t ++ rest) (line-is (scenarioText k s) n (texts s)) in
+      e ∙ ap (λ (t : List ℕ). t ++ rest) (line-tabulate (scenarioText k s) n (texts s)) in
       let w = is-read bytes at (scenarioText k s) gs rest
-      (plain-scenario k s, plain-from (texts s) 0 n (λ j a b. p j (omega arith))) stands in
-      let count : length (fields (lineAt bytes at)) ≡ n + 1 = rw (w .fields-are) (omega (arith, length-tabulate (texts s) n)) in
-      let mark : same (field 0 (fields (lineAt bytes at))) (scenarioText k s) ≡ true =
-      rw (w .fields-are) (same-of-eq (scenarioText k s) (scenarioText k s) refl) in
+      (plain-scenario k s, plain-tabulateFrom (texts s) 0 n (λ j a b. p j (omega arith))) stands in
+      let l = lineAt bytes at in
+      let count : length (fields l) ≡ n + 1 = rw (w .fields-are) (omega (arith, length-tabulate (texts s) n)) in
+      let mark : same (field 0 (fields l)) (scenarioText k s) ≡ true =
+      rw (w .fields-are) (same-refl (scenarioText k s)) in
       record {
-        fits = and-both (endsAt bytes at) (isRow k n s (lineAt bytes at)) (w .ends) (row-mark k n s (lineAt bytes at) count ∙ mark);
+        fits = and-both (endsAt bytes at) (isRow k n s l) (w .ends) (row-mark k n s l count ∙ mark);
         same-texts = λ u h. rw (w .fields-are) (getD-tabulate (texts s) n u [] h);
         behind = w .behind;
       }
@@ -133,4 +126,4 @@ module _ (k n : ℕ) (bytes : List ℕ) (s at : ℕ) where
       ∙ ap (λ (t : List ℕ). t ++ drop (afterLine bytes at) bytes)
       (first-rest (fields l) n (q .0)
       ∙ ap (λ (f : List ℕ). line f (tabulate n (textIn l))) (same-true (field 0 (fields l)) (scenarioText k s) (q .1))
-      ∙ sym (line-is (scenarioText k s) n (textIn l)))
+      ∙ sym (line-tabulate (scenarioText k s) n (textIn l)))

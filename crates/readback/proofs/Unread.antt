@@ -1,6 +1,6 @@
--- 19 comes exactly where the bytes are a listing of this sheet and a text is no minute, with the first line that has one:
--- `unread-iff`, and `faultless-iff` where there is none. Assumes nothing.
-use mathlib.Core.Path.{_≡_, sym, _∙_, ap}
+-- 19 comes exactly where the bytes are a listing of this sheet and a text is no minute, with the first line that has
+-- one: `unread-iff`, and `faultless-iff` where there is none. Assumes nothing.
+use mathlib.Core.Path.{_≡_, ap}
 use mathlib.Core.Logic.{_↔_}
 use mathlib.Core.Bool.{Bool, true}
 use mathlib.Core.Option.{Option, none, some}
@@ -10,11 +10,12 @@ use native.Mathlib.Omega.{arith}
 use lib.ListN.{length}
 use Rattle.prelude.proofs.Tests.{clash, false-of-not-true}
 use Rattle.prelude.proofs.Bounded.{true-of-allBelow, allBelow-true}
-use Rattle.prelude.proofs.Search.{firstBelow-none, none-of-firstBelow, firstBelow-some, some-of-firstBelow}
+use Rattle.prelude.proofs.Search.{firstBelow-some, some-of-firstBelow}
 use Rattle.prelude.proofs.Search.{true-of-unless, unless-true, unless-some}
 use Rattle.readback.specs.Minute.{isMinute}
 use Rattle.readback.specs.Form.{Formed, Minutes, Unread}
 use Rattle.readback.specs.Rows.{areMinutes, lineNumber, rowOf, rowFault, rowsFault, textOf, misfit, fault}
+use Rattle.readback.proofs.Passes.{all-pass, none-fails}
 use Rattle.readback.proofs.Formed.{formed-iff, texts-read}
 
 module _ (head : List ℕ) (k n : ℕ) (bytes : List ℕ) where
@@ -34,8 +35,7 @@ module _ (head : List ℕ) (k n : ℕ) (bytes : List ℕ) where
   -- by the texts that are read
   pub faultless-read : fault head k n bytes ≡ none → (s : ℕ) → s < 2 ^ k → Minutes n (textOf head k n bytes) s
   unfolding rowsFault
-  faultless-read e s h =
-      good-iff s .0 (true-of-unless (good s) (lineNumber s) (none-of-firstBelow faults (2 ^ k) e s h))
+  faultless-read e s h = good-iff s .0 (all-pass good (2 ^ k) e s h)
 
   -- by any texts over which the bytes are a listing
   module _ (x : Formed head k n bytes) where
@@ -51,9 +51,8 @@ module _ (head : List ℕ) (k n : ℕ) (bytes : List ℕ) where
     pub faultless-iff : (fault head k n bytes ≡ none) ↔ ((s : ℕ) → s < 2 ^ k → Minutes n texts s)
     unfolding rowsFault
     faultless-iff = (
-      λ e s h.
-          texts-iff s h .0 (true-of-unless (good s) (lineNumber s) (none-of-firstBelow faults (2 ^ k) e s h)),
-      λ m. firstBelow-none faults (2 ^ k) (λ s h. unless-true (good s) (lineNumber s) (texts-iff s h .1 (m s h))),
+      λ e s h. texts-iff s h .0 (all-pass good (2 ^ k) e s h),
+      λ m. none-fails good (2 ^ k) (λ s h. texts-iff s h .1 (m s h)),
     )
 
   first-unread : (l : ℕ) → misfit head k n bytes ≡ none → fault head k n bytes ≡ some l → Unread head k n bytes l

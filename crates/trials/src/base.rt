@@ -1,8 +1,6 @@
 // The base: what is read of a sheet, and the verdict on a table that is handed in, with its listing.
-use calls::Judgement;
 use calls::Summary;
-use checker::Breach;
-use checker::Verdict;
+use calls::Written;
 use refusal::Refusal;
 
 // A refusal in one word, as r13.0.
@@ -14,17 +12,12 @@ pub fn print_short(refusal: Refusal) {
     report::print_number(refusal.line as u64);
 }
 
-// A space and the number.
-fn and(n: usize) {
-    report::print(b" ");
-    report::print_number(n as u64);
-}
-
-// A word and two numbers.
-fn print_two(word: &[u8], a: usize, b: usize) {
-    report::print(word);
-    and(a);
-    and(b);
+// What a call that writes answers, in one word.
+pub fn print_written(written: Written) {
+    match written {
+        Written::Refused(refusal) => print_short(refusal),
+        Written::Count(n) => report::print_number(n as u64),
+    }
 }
 
 pub fn read(sheet: &[u8]) {
@@ -32,37 +25,10 @@ pub fn read(sheet: &[u8]) {
     match summary {
         Summary::Refused(refusal) => report::print_refusal(refusal),
         Summary::Accepted(counts) => {
-            print_two(b"accepted", counts.horizon as usize, counts.events);
-            and(counts.signals);
-            and(counts.rules);
+            report::print_two(b"accepted", counts.horizon as usize, counts.events);
+            report::print_two(b"", counts.signals, counts.rules);
             report::print(b"\n");
         }
-    }
-}
-
-fn print_breach(breach: Breach) {
-    match breach {
-        Breach::Late { scenario, event } => print_two(b"late", scenario, event),
-        Breach::Rule {
-            scenario,
-            constraint,
-        } => print_two(b"rule", scenario, constraint),
-        Breach::Unheard {
-            scenario,
-            other,
-            event,
-        } => {
-            print_two(b"unheard", scenario, other);
-            and(event);
-        }
-    }
-    report::print(b"\n");
-}
-
-fn print_verdict(verdict: Verdict) {
-    match verdict {
-        Verdict::Pass => report::print(b"pass\n"),
-        Verdict::Breach(breach) => print_breach(breach),
     }
 }
 
@@ -75,11 +41,7 @@ fn verdict(sheet: &[u8], bytes: &[u8], table: &[u16]) {
         report::print_refused(answer % 256, answer / 256);
         return;
     }
-    let judgement = opening::judge_table(sheet, table);
-    match judgement {
-        Judgement::Refused(refusal) => report::print_refusal(refusal),
-        Judgement::Judged(verdict) => print_verdict(verdict),
-    }
+    report::judge(sheet, table);
 }
 
 // The verdict on a table, which is handed in as these bytes, and its listing.

@@ -2,7 +2,6 @@
 // the form is its own form, and what is answered where the lent buffer is one byte too short for it.
 ghost use Prim.Native.Nat.{_<_, _≤_};
 use crate::base;
-use calls::Written;
 
 // A form's page has zeros behind it, which no form has: pages are the same where the forms on them are.
 pub type Page = [u8; opening::SHEET_BYTES];
@@ -27,13 +26,6 @@ fn print_again(form: &[u8]) {
     report::print(b"again other");
 }
 
-fn print_written(written: Written) {
-    match written {
-        Written::Refused(refusal) => base::print_short(refusal),
-        Written::Count(n) => report::print_number(n as u64),
-    }
-}
-
 // The form of n bytes, in a buffer of one byte less.
 fn print_short(sheet: &[u8], n: usize)
     requires { ⌜ (0 < n) × (n ≤ 4096) ⌝ }
@@ -41,7 +33,7 @@ fn print_short(sheet: &[u8], n: usize)
     let mut page = [0u8; opening::SHEET_BYTES];
     let written = opening::write_house(sheet, &mut page[..n - 1]);
     report::print(b" short ");
-    print_written(written);
+    base::print_written(written);
     report::print(b"\n");
 }
 

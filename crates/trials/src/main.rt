@@ -2,6 +2,7 @@
 // with the exhaustive search on the small sheets. What it is to print was written by another program, which shares
 // nothing with this one. What each request asks of a sheet is a file of its own, which trial.rt calls; reactions are in
 // the sheets, and the player of due.rt waits for them.
+mod back;
 mod base;
 mod due;
 mod house;
@@ -10,19 +11,15 @@ mod trial;
 
 ghost use Prim.Native.Nat.{_≤_};
 ghost use lib.ListN.{length};
-ghost use Rattle.io.specs.Counts.{Counts};
 
-// Reads a file of data/ into buf; one that can't be opened counts as empty.
-fn read_file(path: &[u8], buf: &mut [u8]) -> usize
-    ensures { λ r. ⌜ Counts r (now (buf .exit)) ⌝ }
-{
+// Whether there is such a file in data/.
+fn is_there(path: &[u8]) -> bool {
     let fd = os::open_read(path);
     if fd < 0 {
-        return 0;
+        return false;
     }
-    let n = io::read_full(fd, buf);
     libc::close(fd);
-    n
+    true
 }
 
 // Where the piece of the text that begins at `at` ends: at the next byte d, or with the text.
@@ -33,13 +30,37 @@ fn end_of(text: &[u8], at: usize, d: u8) -> usize
     at + text::until(&text[at..], d)
 }
 
-// One byte more than a sheet may have, so that a longer one is seen to be longer.
-fn from_files(csv: &[u8], tab: &[u8], last: house::Page) -> house::Page {
-    let mut sheet = [0u8; opening::SHEET_BYTES + 1];
+// One byte more than a listing may have, so that a longer one is seen to be longer.
+fn listed(sheet: &[u8], lst: &[u8]) {
+    let mut printed = [0u8; opening::PRINTED_BYTES + 1];
+    let n = report::read_file(lst, &mut printed);
+    back::tell(sheet, &printed[..n]);
+}
+
+fn tabled(sheet: &[u8], tab: &[u8]) {
     let mut bytes = [0u8; 1024];
-    let n = read_file(csv, &mut sheet);
-    let k = read_file(tab, &mut bytes);
-    trial::tell(&sheet[..n], &bytes[..k], last)
+    let n = report::read_file(tab, &mut bytes);
+    trial::tell(sheet, &bytes[..n]);
+}
+
+// Takes the page of the last house form before this trial, and answers that of the last behind it. A listing that is
+// handed in is read back, also an empty one; otherwise there is a table.
+fn told(sheet: &[u8], tab: &[u8], lst: &[u8], last: house::Page) -> house::Page {
+    base::read(sheet);
+    let next = house::tell(sheet, last);
+    if is_there(lst) {
+        listed(sheet, lst);
+    } else {
+        tabled(sheet, tab);
+    }
+    next
+}
+
+// One byte more than a sheet may have.
+fn from_files(csv: &[u8], tab: &[u8], lst: &[u8], last: house::Page) -> house::Page {
+    let mut sheet = [0u8; opening::SHEET_BYTES + 1];
+    let n = report::read_file(csv, &mut sheet);
+    told(&sheet[..n], tab, lst, last)
 }
 
 // The last digit of a number.
@@ -47,7 +68,7 @@ fn digit(n: usize) -> u8 {
     b'0' + (n % 10) as u8
 }
 
-// The sheet in data/NNN.csv and the table in data/NNN.tab, where there is one.
+// The sheet in data/NNN.csv, and the listing in data/NNN.lst or the table in data/NNN.tab, where there is one.
 fn numbered(number: usize, title: &[u8], last: house::Page) -> house::Page {
     let a = digit(number / 100);
     let b = digit(number / 10);
@@ -55,10 +76,11 @@ fn numbered(number: usize, title: &[u8], last: house::Page) -> house::Page {
     let name = [a, b, c, b' '];
     let csv = [a, b, c, b'.', b'c', b's', b'v'];
     let tab = [a, b, c, b'.', b't', b'a', b'b'];
+    let lst = [a, b, c, b'.', b'l', b's', b't'];
     report::print(&name);
     report::print(title);
     report::print(b"\n");
-    from_files(&csv, &tab, last)
+    from_files(&csv, &tab, &lst, last)
 }
 
 // Each line is the title of a trial.
@@ -77,8 +99,8 @@ fn trials(titles: &[u8]) {
 
 fn main() {
     let mut text = io::large_buffer();
-    let n = read_file(b"titles.txt", &mut text);
+    let n = report::read_file(b"titles.txt", &mut text);
     trials(&text[..n]);
-    let k = read_file(b"small.csv", &mut text);
+    let k = report::read_file(b"small.csv", &mut text);
     small::all(&text[..k]);
 }

@@ -1,10 +1,10 @@
-// One trial: what each request's file makes of the sheet and of a table, the one that is handed in or the solver's.
+// What each request's file makes of a sheet and of a table, the one that is handed in or the solver's.
 ghost use Prim.Native.Nat.{_≤_};
 ghost use lib.ListN.{length};
 ghost use Rattle.network.specs.WellFormed.{WellFormed};
+use crate::back;
 use crate::base;
 use crate::due;
-use crate::house;
 use network::Network;
 use sheet::Outcome;
 
@@ -27,6 +27,7 @@ fn solved(sheet: &[u8], network: Network)
     let n = report::solve(b"solved ", sheet, &mut table);
     if 0 < n {
         report::list(b"listed ", sheet, &table[..n]);
+        back::again(sheet, &table[..n]);
         due::play(sheet, network, &table[..n]);
         due::ask(sheet, network, &table[..n]);
     }
@@ -43,17 +44,13 @@ fn solve(sheet: &[u8]) {
     }
 }
 
-// Takes the page of the last house form before this trial, and answers that of the last behind it. Where no table is
-// handed in, there are no bytes.
-pub fn tell(sheet: &[u8], bytes: &[u8], last: house::Page) -> house::Page
+// A table that is handed in, or the solver's. Where none is handed in, there are no bytes.
+pub fn tell(sheet: &[u8], bytes: &[u8])
     requires { ⌜ length (now bytes) ≤ 1024 ⌝ }
 {
-    base::read(sheet);
-    let next = house::tell(sheet, last);
     if 0 < bytes.len() {
         handed_in(sheet, bytes);
     } else {
         solve(sheet);
     }
-    next
 }

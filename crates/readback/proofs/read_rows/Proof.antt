@@ -1,158 +1,104 @@
--- `readback::read_rows` meets its contract. The invariant: the rows below s have minutes only, which stand in their cells, and the row of s
--- begins at `at`. The measure is the count of rows left. Assumes nothing.
-use Prim.Native.Nat.{_-_, _<_, _^_}
+-- `readback::read_rows` meets its contract: the rows fit, so that the ends that are found are theirs, and the first
+-- that has a text that is no minute ends the pass. The invariant, `Reading-rows`: the rows below s have minutes only,
+-- which stand in their cells, and the row of s begins at `at`. The measure is the count of rows left. Assumes
+-- nothing.
+use Prim.Native.Nat.{_+_, _-_, _*_, _^_, _≤_, _<_}
 use native.Mathlib.Omega.{arith}
+use denote.Ref.{now}
 use borrow.Author.Tests.{not-true, not-false}
 use borrow.Author.Needs.{needs}
-use Rattle.readback.proofs.Tables.{cells-room, Reading-rows, rows-start, row-at, rows-next, rows-fault, rows-all}
+use Rattle.network.specs.Limits as L
 use Rattle.listing.proofs.Truths.{few-scenarios}
+use Rattle.readback.proofs.Tables.{cells-room, Reading-rows, RowAt, rows-start, row-at, rows-next, rows-fault}
+use Rattle.readback.proofs.Tables.{rows-all}
 use Rattle.readback.proofs.read_rows.Statement.{statement}
 use Rattle.readback.proofs.read_rows.Tie as tie
 
 abbrev Inv-loop : tie.InvT-loop
-Inv-loop printed first signals events times₀ count at₀ s₀ times at s = Reading-rows printed first signals events times s at
+Inv-loop printed first signals events times₀ count at₀ s₀ times at s =
+    Reading-rows printed first signals events times s at
 
 abbrev μ-loop : tie.MeasureT-loop
 μ-loop printed first signals events times₀ count at₀ s₀ times at s = count - s
 
-scenario-count-requires : tie.Need-scenario-count-requires Inv-loop μ-loop
-scenario-count-requires c κs = search needs
+-- The places of a turn, each seen from the next: inside the loop, where the row's end is looked for, and where the
+-- row is read.
+abbrev start : tie.In-loop Inv-loop μ-loop → tie.Start Inv-loop μ-loop
+start d = d .before .before .before .before .before
+
+abbrev loop-in : tie.After-until Inv-loop μ-loop → tie.In-loop Inv-loop μ-loop
+loop-in d = d .before .before
+
+abbrev until-at : tie.After-read-row Inv-loop μ-loop → tie.After-until Inv-loop μ-loop
+until-at d = d .before .before .before
+
+-- there is a row left, and room for its cells
+more : (d : tie.In-loop Inv-loop μ-loop) → d .before .loop .s < 2 ^ start d .args .signals
+more d = omega (arith, d .loop-test .taken, d .before .before .scenario-count .ensures)
+
+room : (d : tie.In-loop Inv-loop μ-loop)
+    → let events = start d .args .events in
+    d .before .loop .s * events + events ≤ L.cells
+room d =
+    let begun = start d in
+    cells-room (begun .args .signals) (begun .args .events) (begun .pre .0) (begun .pre .1) _ (more d)
+
+-- the row up to the end that was found
+row : (d : tie.After-until Inv-loop μ-loop)
+    → let loop = loop-in d .before .loop in
+    let args = start (loop-in d) .args in
+    RowAt (now (args .printed)) (args .first) (args .events) (loop .s) (loop .at) (d .until .result)
+row d =
+    let in-loop = loop-in d in
+    row-at (in-loop .before .loop .inv) (start in-loop .pre .4) (more in-loop) _ (d .until .ensures)
 
 loop-holds : tie.Need-loop-holds Inv-loop μ-loop
-loop-holds c = let start = c .before .before .before in rows-start _ _ _ _ _ (start .pre .2) (start .pre .5)
-
-sub-until : tie.Need-sub-until Inv-loop μ-loop
-sub-until c = search needs
-
-part-until-start : tie.Need-part-until-start Inv-loop μ-loop
-part-until-start c = search needs
-
-part-until-end : tie.Need-part-until-end Inv-loop μ-loop
-part-until-end c = search needs
-
-until-requires : tie.Need-until-requires Inv-loop μ-loop
-until-requires c κs = search needs
-
-add-end : tie.Need-add-end Inv-loop μ-loop
-add-end c =
-    let here = c .before .before .before .loop in
-    let count = c .before .before .before .before .scenario-count in
-    let start = c .before .before .before .before .before .before .before in
-    let more : here .s < 2 ^ start .args .signals = omega (arith, c .before .before .loop-test .taken, count .ensures) in
-    let row = row-at (here .inv) (start .pre .4) more _ (c .until .ensures) in
-    omega (arith, row .inside)
-
-sub-read-row : tie.Need-sub-read-row Inv-loop μ-loop
-sub-read-row c = search needs
-
-part-read-row-start : tie.Need-part-read-row-start Inv-loop μ-loop
-part-read-row-start c = search needs
-
-part-read-row-end : tie.Need-part-read-row-end Inv-loop μ-loop
-part-read-row-end c =
-    let here = c .before .before .before .loop in
-    let count = c .before .before .before .before .scenario-count in
-    let start = c .before .before .before .before .before .before .before in
-    let more : here .s < 2 ^ start .args .signals = omega (arith, c .before .before .loop-test .taken, count .ensures) in
-    let row = row-at (here .inv) (start .pre .4) more _ (c .until .ensures) in
-    omega (arith, row .inside)
-
-mul-read-row : tie.Need-mul-read-row Inv-loop μ-loop
-mul-read-row c =
-    let here = c .before .before .before .before .before .loop in
-    let count = c .before .before .before .before .before .before .scenario-count in
-    let start = c .before .before .before .before .before .before .before .before .before in
-    let more : here .s < 2 ^ start .args .signals = omega (arith, c .before .before .before .before .loop-test .taken, count .ensures) in
-    omega (arith, cells-room (start .args .signals) (start .args .events) (here .s) (start .pre .0) (start .pre .1) more)
+loop-holds c = let begun = c .before .before .before in rows-start _ _ _ _ _ (begun .pre .2) (begun .pre .5)
 
 read-row-requires : tie.Need-read-row-requires Inv-loop μ-loop
 read-row-requires c κs =
-    let here = c .before .before .before .before .before .loop in
-    let count = c .before .before .before .before .before .before .scenario-count in
-    let start = c .before .before .before .before .before .before .before .before .before in
-    let more : here .s < 2 ^ start .args .signals = omega (arith, c .before .before .before .before .loop-test .taken, count .ensures) in
-    let row = row-at (here .inv) (start .pre .4) more _ (c .before .before .until .ensures) in
-    (rw (row .line) (row .count), omega (arith, cells-room (start .args .signals) (start .args .events) (here .s) (start .pre .0) (start .pre .1) more, here .inv .sized))
+    let at-until = c .before .before in
+    let in-loop = loop-in at-until in (
+      rw (row at-until .line) (row at-until .count),
+      omega (arith, room in-loop, in-loop .before .loop .inv .sized),
+    )
 
 line-number-requires : tie.Need-line-number-requires Inv-loop μ-loop
 line-number-requires c κs =
-    let here = c .before .before .before .before .before .before .before .before .before .loop in
-    let count = c .before .before .before .before .before .before .before .before .before .before .scenario-count in
-    let start = c .before .before .before .before .before .before .before .before .before .before .before .before .before in
-    let more : here .s < 2 ^ start .args .signals = omega (arith, c .before .before .before .before .before .before .before .before .loop-test .taken, count .ensures) in
-    omega (arith, few-scenarios (start .args .signals) (start .pre .0))
-
-same-length : tie.Need-same-length Inv-loop μ-loop
-same-length c = search needs
+    let in-loop = loop-in (until-at (c .before .before .before)) in
+    let begun = start in-loop in
+    omega (arith, more in-loop, few-scenarios (begun .args .signals) (begun .pre .0))
 
 returns : tie.Need-returns Inv-loop μ-loop
 returns c =
-    let here = c .before .before .before .before .before .before .before .before .before .before .loop in
-    let count = c .before .before .before .before .before .before .before .before .before .before .before .scenario-count in
-    let start = c .before .before .before .before .before .before .before .before .before .before .before .before .before .before in
-    let more : here .s < 2 ^ start .args .signals = omega (arith, c .before .before .before .before .before .before .before .before .before .loop-test .taken, count .ensures) in
-    let row = row-at (here .inv) (start .pre .4) more _ (c .before .before .before .before .before .before .before .until .ensures) in
-    let no = not-true (c .before .before .before .before .read-row .result) (c .before .if1 .taken) in
-    rw (c .line-number .ensures) (rows-fault (here .inv) (start .pre .4) more (rw (row .line, no) at (c .before .before .before .before .read-row .ensures)))
-
-add-at : tie.Need-add-at Inv-loop μ-loop
-add-at c =
-    let here = c .before .before .before .before .before .before .before .before .before .loop in
-    let count = c .before .before .before .before .before .before .before .before .before .before .scenario-count in
-    let start = c .before .before .before .before .before .before .before .before .before .before .before .before .before in
-    let more : here .s < 2 ^ start .args .signals = omega (arith, c .before .before .before .before .before .before .before .before .loop-test .taken, count .ensures) in
-    let row = row-at (here .inv) (start .pre .4) more _ (c .before .before .before .before .before .before .until .ensures) in
-    omega (arith, row .inside)
-
-add-s : tie.Need-add-s Inv-loop μ-loop
-add-s c = search needs
-
-loop-less : tie.Need-loop-less Inv-loop μ-loop
-loop-less c = search needs
+    let at-read = c .before .before .before .before in
+    let at-until = until-at at-read in
+    let in-loop = loop-in at-until in
+    let no = not-true (at-read .read-row .result) (c .before .if1 .taken) in
+    rw (c .line-number .ensures)
+    (rows-fault (in-loop .before .loop .inv) (more in-loop)
+    (rw (no, row at-until .line) at (at-read .read-row .ensures)))
 
 loop-again : tie.Need-loop-again Inv-loop μ-loop
 loop-again c =
-    let here = c .before .before .before .before .before .before .before .before .before .loop in
-    let count = c .before .before .before .before .before .before .before .before .before .before .scenario-count in
-    let start = c .before .before .before .before .before .before .before .before .before .before .before .before .before in
-    let more : here .s < 2 ^ start .args .signals = omega (arith, c .before .before .before .before .before .before .before .before .loop-test .taken, count .ensures) in
-    let row = row-at (here .inv) (start .pre .4) more _ (c .before .before .before .before .before .before .until .ensures) in
-    let yes = not-false (c .before .before .before .read-row .result) (c .if1 .left) in
-    rows-next (here .inv) (start .pre .4) more (rw (row .line, yes) at (c .before .before .before .read-row .ensures)) _ (row .place) (row .inside)
-
-same-length-2 : tie.Need-same-length-2 Inv-loop μ-loop
-same-length-2 c = search needs
+    let at-read = c .before .before .before in
+    let at-until = until-at at-read in
+    let in-loop = loop-in at-until in
+    let yes = not-false (at-read .read-row .result) (c .if1 .left) in
+    rows-next (in-loop .before .loop .inv) (more in-loop)
+    (rw (yes, row at-until .line) at (at-read .read-row .ensures)) _ (row at-until .place) (row at-until .inside)
 
 returns-2 : tie.Need-returns-2 Inv-loop μ-loop
 returns-2 c =
-    let here = c .before .loop in
-    let count = c .before .before .scenario-count in
-    rows-all (here .inv) (omega (arith, c .loop-test .left, count .ensures))
+    let at-loop = c .before in
+    rows-all (at-loop .loop .inv) (omega (arith, c .loop-test .left, at-loop .before .scenario-count .ensures))
 
 pub read-rows-spec : {M : Type 1} → statement M
 read-rows-spec =
     tie.close
-    (tie.spec
-    Inv-loop
-    μ-loop
-    scenario-count-requires
-    loop-holds
-    sub-until
-    part-until-start
-    part-until-end
-    until-requires
-    add-end
-    sub-read-row
-    part-read-row-start
-    part-read-row-end
-    mul-read-row
-    read-row-requires
-    line-number-requires
-    same-length
-    returns
-    add-at
-    add-s
-    loop-less
-    loop-again
-    same-length-2
-    returns-2)
+    (tie.spec Inv-loop μ-loop (λ c κs. search needs) loop-holds (λ c. search needs) (λ c. search needs)
+    (λ c. search needs) (λ c κs. search needs) (λ c. omega (arith, row c .inside)) (λ c. search needs)
+    (λ c. search needs) (λ c. omega (arith, row c .inside)) (λ c. omega (arith, room (loop-in (c .before .before))))
+    read-row-requires line-number-requires (λ c. search needs) returns
+    (λ c. omega (arith, row (until-at (c .before .before .before)) .inside)) (λ c. search needs) (λ c. search needs)
+    loop-again (λ c. search needs) returns-2)

@@ -6,7 +6,7 @@ use Rattle.calls.specs.Calls.{writtenValues}
 use Rattle.calls.specs.Bench.{packedCount}
 use Rattle.calls.specs.declared.Written.{Written}
 use Rattle.opening.proofs.Taken.{front-sized, taken-listed, taken-small}
-use Rattle.opening.proofs.Pairs.{packed-as}
+use Rattle.opening.proofs.Leaves.{packed-as}
 use borrow.Author.Needs.{needs}
 use Rattle.opening.proofs.bench.opening_listing.Statement.{statement}
 use Rattle.opening.proofs.bench.opening_listing.Tie as tie

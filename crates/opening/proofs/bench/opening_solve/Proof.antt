@@ -7,8 +7,7 @@ use lib.ListN.{replicate}
 use denote.Ref.{now}
 use native.Mathlib.Omega.{arith}
 use Rattle.network.specs.Limits as L
-use Rattle.opening.proofs.Leaves.{answered-as}
-use Rattle.opening.proofs.Pairs.{lent-sized, pairs-refused, Counted, pairs-counted}
+use Rattle.opening.proofs.Pairs.{solver-fills, lent-sized, Goes, pairs-go}
 use borrow.Author.Needs.{needs}
 use Rattle.opening.proofs.bench.opening_solve.Statement.{statement}
 use Rattle.opening.proofs.bench.opening_solve.Tie as tie
@@ -26,46 +25,28 @@ slice-aggregate-solve-sheet c =
     let at-room = c .before in
     let args = start at-room .args in
     sym
-    (lent-sized (now (args .sheet)) (now (args .table)) zeros refl (at-room .room .result) (at-room .room .ensures))
+    (lent-sized _ (solver-fills (now (args .sheet))) (now (args .table)) zeros refl (at-room .room .result) (at-room .room .ensures))
 
--- where the sheet was solved, seen from where a count is told: so many minutes stand in the array
-abbrev solved-at : tie.After-known-told2 → tie.After-solve-sheet
-solved-at d = d .before .before .before .before
-
-counted : (d : tie.After-known-told2)
-    → let at-solved = solved-at d in
-    let at-room = at-solved .before .before in
+-- the array behind the call, and what goes out of it
+after : (d : tie.After-solve-sheet)
+    → let at-room = d .before .before in
     let args = start at-room .args in
-    Counted (now (args .sheet)) (now (args .table)) zeros refl (at-room .room .result) (at-room .room .ensures)
-    (d .before .written2 .given .0 .0) (at-solved .solve-sheet .last .1 .0)
-counted d =
-    let at-solved = solved-at d in
-    let at-room = at-solved .before .before in
+    Goes _ (solver-fills (now (args .sheet))) (now (args .table)) zeros refl (at-room .room .result) (at-room .room .ensures)
+    (d .solve-sheet .result) (d .solve-sheet .last .1 .0)
+after d =
+    let at-room = d .before .before in
     let args = start at-room .args in
-    let solved = at-solved .solve-sheet in
-    pairs-counted (now (args .sheet)) (now (args .table)) zeros refl (at-room .room .result) (at-room .room .ensures)
-    _ (solved .last .1 .0) (answered-as (solved .ensures) (d .before .written2 .given .1))
+    pairs-go _ (solver-fills (now (args .sheet))) (now (args .table)) zeros refl (at-room .room .result) (at-room .room .ensures)
+    (d .solve-sheet .ensures)
 
 returns : tie.Need-returns
 returns c =
-    let at-written = c .before .before in
-    let at-solved = at-written .before .before .before in
-    let at-room = at-solved .before .before in
-    let args = start at-room .args in
-    let solved = at-solved .solve-sheet in
-    pairs-refused (now (args .sheet)) (now (args .table)) zeros refl (at-room .room .result) (at-room .room .ensures)
-    _ (solved .last .1 .0) _ (answered-as (solved .ensures) (at-written .written .given .1))
-    (c .packed-refusal .ensures)
-
-returns-2 : tie.Need-returns-2
-returns-2 c =
-    let at-pack = c .before .before .before in
-    counted (at-pack .before .before .before) .written _ _ (at-pack .pack .ensures) (c .packed-count .ensures)
+    let at-packed = c .before .before in
+    rw (← after (at-packed .before .before .before .before) .packed) (at-packed .packed-table .ensures)
 
 pub opening-solve-spec : {M : Type 1} → statement M
 opening-solve-spec =
     tie.close
     (tie.spec (λ c κs. search needs) (λ c. omega (arith, c .room .ensures)) slice-aggregate-solve-sheet
-    (λ c κs. search needs) (λ c. search needs) (λ c κs. search needs) (λ c. search needs) (λ c. counted c .within)
-    (λ c. sym (counted (c .before) .sized)) (λ c κs. counted (c .before .before) .room)
-    (λ c κs. counted (c .before .before .before .before .before) .few) returns (λ c. search needs) returns-2)
+    (λ c κs. search needs) (λ c. sym (after (c .before .before) .sized))
+    (λ c κs. after (c .before .before .before) .room) (λ c. search needs) returns)
