@@ -38,7 +38,7 @@
  *
  * Calls and answers
  *
- * But for the pointers, nothing has to be tested before a call: any bytes may be handed in as a sheet or as text, any length
+ * But for the pointers, nothing has to be tested before a call: any bytes may be handed in as a sheet, a listing or text, any length
  * as a table, any minute from 0 to 65,535 (C cuts a wider number before the call). A pointer must point to as many bytes as
  * the length says, and must not be NULL, even if the length is 0. Memory that a call writes into must not overlap any other
  * memory that is handed to the same call. The library keeps no pointer, has no memory of its own between calls and allocates
@@ -47,20 +47,21 @@
  * Each function answers with a uint64_t of eight bytes. Read it with the functions at the end, each of which says for which
  * answers it is:
  *
- *     byte     opening_solve        opening_judge       opening_due        opening_listing, opening_house
- *     0        number               number              number             number
- *     1, 2     line                 line                line               line
- *     3        minutes, low byte    word                events 0 to 7      bytes, low byte
- *     4        minutes, high byte   first               events 8 to 15     bytes, high byte
- *     5        reserved             second              0                  0
- *     6        reserved             third               0                  0
- *     7        reserved             0                   0                  0
+ *     byte     opening_solve        opening_judge       opening_due        opening_listing,     opening_read_listing
+ *                                                                          opening_house
+ *     0        number               number              number             number               number
+ *     1, 2     line                 line                line               line                 line
+ *     3        minutes, low byte    word                events 0 to 7      bytes, low byte      minutes, low byte
+ *     4        minutes, high byte   first               events 8 to 15     bytes, high byte     minutes, high byte
+ *     5        reserved             second              0                  0                    0
+ *     6        reserved             third               0                  0                    0
+ *     7        reserved             0                   0                  0                    0
  *
- * number is 0 if the call was not refused, or says why it was; line is a line of the sheet, low byte first; minutes and bytes
- * are as many as were written; word is 0 pass, 1 Late, 2 Rule or 3 Unheard; of the events due, event u is bit u of the two
- * bytes. Byte 0 is the lowest: (answer & 0xff) is the number. On a refusal bytes 3 and 4 are 0, and bytes 5 to 7 of all but
- * the solver's. Those are reserved for a count of rounds, which may then stand beside number 13 too; they are 0 at present,
- * so ask opening_number, and don't compare a whole answer of the solver.
+ * number is 0 if the call was not refused, or says why it was; line is a line of the sheet, or with 18 and 19 of the listing,
+ * low byte first; minutes and bytes are as many as were written; word is 0 pass, 1 Late, 2 Rule or 3 Unheard; of the events
+ * due, event u is bit u of the two bytes. Byte 0 is the lowest: (answer & 0xff) is the number. On a refusal bytes 3 and 4 are
+ * 0, and bytes 5 to 7 of all but the solver's. Those are reserved for a count of rounds, which may then stand beside number 13
+ * too; they are 0 at present, so ask opening_number, and don't compare a whole answer of the solver.
  *
  * The number of a refusal, and its line (the first line is 1; line 0 where none is to blame):
  *
@@ -79,7 +80,7 @@
  *     10  bytes behind the last line of the reactions, a lone line feed or a NUL too: the line that they begin; bytes
  *         behind the rules that are no such section are 2 to 5
  *     11  judge, due, listing: not exactly n * 2^k minutes in the table, or an odd number of bytes         (line 0)
- *     12  solve: the table has fewer than n * 2^k whole pairs of bytes;
+ *     12  solve, read_listing: the table has fewer than n * 2^k whole pairs of bytes;
  *         listing, house: out is shorter than the text                                                     (line 0)
  *     13  solve: the sheet is in order, and no good table exists                                           (line 0)
  *     14  due: the table does not pass the judge                                                           (line 0)
@@ -87,10 +88,14 @@
  *         either sign                                                                                      (line 0)
  *     16  due: no case has heard exactly this before the minute                                            (line 0)
  *     17  house: more than 64 rows would be left                                                           (line 0)
+ *     18  read_listing: the listing is longer than 4,096 bytes (line 1), or the line is not that of this sheet's
+ *         listing: another header, another case, another count of fields, no line feed, a line missing (the line that
+ *         it would be) or left over
+ *     19  read_listing: a minute on the line is ill-formed (`05`, `-0`, `+5`, a space, nothing), negative or over 65,535
  *
  * 1 is tried before any line. Then the first line at fault decides, and on that line the lowest number. A fault of the sheet
  * (1 to 10) comes before all others. Then each call has its own, in this order: solve 12, 13; judge 11; due 11, 14, 15, 16;
- * listing 11, 12; house 17, 12.
+ * listing 11, 12; house 17, 12; read_listing 18, 19, 12, where 18 is tried over the whole listing before any 19.
  *
  * Example, with <stdio.h> and <string.h>:
  *
@@ -135,9 +140,10 @@ extern "C" {
 #endif
 
 enum {
-    OPENING_SHEET_MOST = 4096,  /* bytes of the longest sheet that is read; no house form is longer */
-    OPENING_TABLE_MOST = 512,   /* bytes of the largest table: 16 events, 16 cases, two bytes each */
-    OPENING_LISTING_MOST = 1765 /* bytes of the longest listing: that of such a table, long names, five digits everywhere */
+    OPENING_SHEET_MOST = 4096,   /* bytes of the longest sheet that is read; no house form is longer */
+    OPENING_TABLE_MOST = 512,    /* bytes of the largest table: 16 events, 16 cases, two bytes each */
+    OPENING_LISTING_MOST = 1765, /* bytes of the longest listing: that of such a table, long names, five digits everywhere */
+    OPENING_PRINTED_MOST = 4096  /* bytes of the longest listing that is read back; a longer one is refused with 18 */
 };
 
 /* The judge's words. */
@@ -187,6 +193,18 @@ uint64_t opening_due(const uint8_t *sheet, size_t sheet_len, const uint8_t *tabl
 uint64_t opening_listing(const uint8_t *sheet, size_t sheet_len, const uint8_t *table, size_t table_len, uint8_t *out,
                          size_t out_len);
 
+/* Reads a listing back and writes its table: any table of n * 2^k minutes that opening_listing has listed for this sheet is
+ * recovered minute for minute, and what is accepted is listed as the same bytes again. So a listing is accepted if and only if
+ * it is the listing of a table, and of one table only. The table need not be good: ask opening_judge.
+ *
+ * listing_len is the exact number of bytes of the listing; no NUL is needed behind it. Each line ends with a line feed alone: a
+ * CR before it is refused, with 18 in the header and with 19 in the line of a case. The table is lent as for opening_solve:
+ * whole pairs are counted, and OPENING_TABLE_MOST bytes are always enough. If the answer's number is 0, the first
+ * 2 * opening_minutes(answer) bytes of the table are written, and all bytes behind them are unaltered. Otherwise the table
+ * keeps all its contents. */
+uint64_t opening_read_listing(const uint8_t *sheet, size_t sheet_len, const uint8_t *listing, size_t listing_len,
+                              uint8_t *table, size_t table_len);
+
 /* Writes the sheet in its house form: horizon, events and signals as they are, and every rule as `max` rows (a `min` with its
  * ends swapped and its limit negated, a `fix` as both). Of rows with equal ends and label the one with the least limit stays.
  * They are ordered by `from`, then `to`, in event order, then by the sum of the weights of the label's true letters (signal i
@@ -207,7 +225,7 @@ static inline unsigned opening_number(uint64_t answer) { return (unsigned)(answe
 /* Of every answer: the line of the refusal, 0 if there is none. */
 static inline unsigned opening_line(uint64_t answer) { return (unsigned)(answer >> 8 & 0xffff); }
 
-/* Of the solver's answer: how many minutes were written, n * 2^k, or 0 on a refusal. */
+/* Of the answers of opening_solve and opening_read_listing: how many minutes were written, n * 2^k, or 0 on a refusal. */
 static inline unsigned opening_minutes(uint64_t answer) { return (unsigned)(answer >> 24 & 0xffff); }
 
 /* Of the answer of opening_due: the events due, bit u for event u. 0 on a refusal too, so look at the number first. */

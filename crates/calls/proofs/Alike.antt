@@ -71,7 +71,10 @@ module _ (sheet : List ℕ) (t t′ : Handed)
     where
       rest : List ℕ → Dispatched → Tests
       rest σ d =
-          (isPass (verdict net σ), withoutLine C.TableFails) ∷ (named d, withoutLine C.MisnamedSignal) ∷ (everHeard d, withoutLine C.NeverHeard) ∷ []
+          (isPass (verdict net σ), withoutLine C.TableFails)
+          ∷ (named d, withoutLine C.MisnamedSignal)
+          ∷ (everHeard d, withoutLine C.NeverHeard)
+          ∷ []
 
 pub itself : (t : Handed) (n : ℕ) → Alike t t n
 itself t n = record { has = refl; minutes = λ _. refl }

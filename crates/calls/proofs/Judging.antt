@@ -71,7 +71,8 @@ module _ (sheet : List ℕ) (t : Handed) (right : Network → Type 0) where
       → Answers sheet (judges right) noFinding (judgementValues answer)
   judge-answers rightly =
       answers-call judgementValues noFinding J.Refused (λ r. refl) sheet (judgingTests t)
-      (λ Γ. J.Judged (verdict Γ (t .minutes))) (judges right) refl (λ a. (λ _. unlined refl refl, rightly a .no, λ _. tt))
+      (λ Γ. J.Judged (verdict Γ (t .minutes))) (judges right) refl
+      (λ a. (λ _. unlined refl refl, rightly a .no, λ _. tt))
       (λ Γ. no-refusal (verdict Γ (t .minutes)))
 
   module _ (a : read sheet .outcome ≡ Accepted) (rightly : Rightly t right net) where

@@ -7,8 +7,7 @@ use Prim.Native.Nat.{ℕ, _*_, _+_, _≤_}
 use native.Mathlib.Omega.{arith}
 use borrow.Author.Tests.{leb-true}
 use lib.ListN.{length}
-use Rattle.prelude.proofs.Tests.{zero-is-one}
-use Rattle.prelude.proofs.Search.{some-or-none, some-not-none}
+use Rattle.prelude.proofs.Search.{some-or-none}
 use Rattle.refusal.specs.Refusal.{refusal}
 use Rattle.refusal.specs.declared.Cause.{Cause}
 use Rattle.refusal.specs.declared.Cause.the-variants.{OtherForm, NoMinute}
@@ -21,7 +20,6 @@ use Rattle.sheet.specs.declared.Outcome.the-variants.{Accepted}
 use Rattle.sheet.proofs.WellFormed.{accepted-well-formed}
 use Rattle.listing.specs.Listing.{header, listing}
 use Rattle.listing.proofs.Short.{listing-short}
-use Rattle.readback.specs.Form.{Misfit, Unread}
 use Rattle.readback.proofs.Misfits.{misfit-iff}
 use Rattle.readback.proofs.Formed.{formed-iff}
 use Rattle.readback.proofs.Unread.{unread-iff, faultless-iff}
@@ -101,6 +99,9 @@ module _ (sheet : List ℕ) (a : read sheet .outcome ≡ Accepted) where
       abbrev left : Left Written
       left = recoveringInto sheet bytes lent
 
+      abbrev work : Network → Left Written
+      work Γ = writing lent (recoveredIn sheet bytes Γ)
+
       -- no refusal: nothing is at fault, and there is room
       record Whole : Type 0 where
         formed : misfitIn sheet bytes net ≡ none
@@ -111,9 +112,9 @@ module _ (sheet : List ℕ) (a : read sheet .outcome ≡ Accepted) where
       refusal-numbered r e z = numbered (r .cause) (ap (λ (l : Left Written). values-of l .number) e ∙ z)
 
       whole : answer sheet bytes m .number ≡ 0 → Whole
-      whole z = by-end (ends (refusing lent) sheet (recoveringTests sheet bytes lent) (λ Γ. writing lent (recoveredIn sheet bytes Γ)))
+      whole z = by-end (ends (refusing lent) sheet (recoveringTests sheet bytes lent) work)
         where
-          by-end : Ends (refusing lent) sheet (recoveringTests sheet bytes lent) (λ Γ. writing lent (recoveredIn sheet bytes Γ)) → Whole
+          by-end : Ends (refusing lent) sheet (recoveringTests sheet bytes lent) work → Whole
           by-end (faulty r p e) = absurd (refusal-numbered r e z)
           by-end (failed p r f e) = absurd (refusal-numbered r e z)
           by-end (worked p h e) = record {
@@ -134,7 +135,9 @@ module _ (sheet : List ℕ) (a : read sheet .outcome ≡ Accepted) where
               is-table = found-table (w .formed) (w .faultless);
               is = sym (printed-back (w .formed) (w .faultless));
             },
-        λ p. rw (p .is) (ap (λ (l : Left Written). values-of l .number) (recovers-into (p .table) (p .is-table) lent room)),
+        λ p.
+            rw (p .is)
+            (ap (λ (l : Left Written). values-of l .number) (recovers-into (p .table) (p .is-table) lent room)),
       )
 
       -- 18 and 19 with their lines: the number says that there is such a line, and it is this one

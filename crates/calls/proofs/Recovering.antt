@@ -1,20 +1,18 @@
--- The call that reads a listing back, in the papers' numbers, and how it ends: with 18 and with 19 by the line, or with the
--- table. Assumes nothing.
-use mathlib.Core.Path.{_≡_, refl, sym, _∙_}
+-- The call that reads a listing back, in the papers' numbers, and how it ends: with 18 and with 19 by the line, or with
+-- the table. Assumes nothing.
+use mathlib.Core.Path.{_≡_, refl, sym}
 use mathlib.Core.Logic.{inl, inr, _↔_}
 use mathlib.Core.Bool.{true, false}
 use mathlib.Core.Option.{Option, none, some}
 use mathlib.Core.List.{List}
-use Prim.Native.Nat.{ℕ, suc, _^_, _≤_}
+use Prim.Native.Nat.{ℕ, suc, _≤_}
 use native.Mathlib.Omega.{arith}
 use borrow.Author.Tests.{leb-false, le-leb, lt-leb}
-use lib.ListN.{length}
 use Rattle.prelude.proofs.Tests.{clash}
-use Rattle.prelude.proofs.Search.{some-or-none, some-not-none}
+use Rattle.prelude.proofs.Search.{some-not-none}
 use Rattle.refusal.specs.Refusal.{numberOf, refusal}
 use Rattle.refusal.specs.declared.Cause.{Cause}
 use Rattle.refusal.specs.declared.Cause.the-variants.{OtherForm, NoMinute}
-use Rattle.network.specs.Limits as L
 use Rattle.network.specs.Build.{cells}
 use Rattle.network.specs.WellFormed.{WellFormed}
 use Rattle.network.specs.declared.Network.{Network}

@@ -119,8 +119,11 @@ module _ (sheet other : List ℕ) (a : read sheet .outcome ≡ Accepted) (b : re
     where
       first : ℕ → Verdict → Dispatched → Option Refusal
       first n v d =
-          firstFailing ((t .has n, withoutLine C.WrongTableLength) ∷ (isPass v, withoutLine C.TableFails) ∷ (named d, withoutLine C.MisnamedSignal)
-          ∷ (everHeard d, withoutLine C.NeverHeard) ∷ [])
+          firstFailing ((t .has n, withoutLine C.WrongTableLength)
+          ∷ (isPass v, withoutLine C.TableFails)
+          ∷ (named d, withoutLine C.MisnamedSignal)
+          ∷ (everHeard d, withoutLine C.NeverHeard)
+          ∷ [])
 
   names : (u : ℕ) → u < Γ .events → nameOf Γ sheet u ≡ nameOf Δ other u
   names = tabulate-value (nameOf Γ sheet) (nameOf Δ other) (Γ .events) (Δ .events) (s .events)
@@ -130,8 +133,11 @@ module _ (sheet other : List ℕ) (a : read sheet .outcome ≡ Accepted) (b : re
   recoveries bytes m =
       calls-alike (refusing m) sheet other (recoveringTests sheet bytes m) (recoveringTests other bytes m)
       (λ Γ. writing m (recoveredIn sheet bytes Γ)) (λ Γ. writing m (recoveredIn other bytes Γ)) a b
-      (alike (λ h k n. firstFailing (faultless (misfit h k n bytes) C.OtherForm ∷ faultless (fault h k n bytes) C.NoMinute
-      ∷ enough m (n * 2 ^ k) ∷ [])))
+      (alike (λ h k n.
+      firstFailing (faultless (misfit h k n bytes) C.OtherForm
+      ∷ faultless (fault h k n bytes) C.NoMinute
+      ∷ enough m (n * 2 ^ k)
+      ∷ [])))
       (λ _. alike (λ h k n. writing m (recovered h k n bytes)))
     where
       alike : {A : Type 0} (f : List ℕ → ℕ → ℕ → A)
@@ -148,7 +154,8 @@ module _ (sheet other : List ℕ) (a : read sheet .outcome ≡ Accepted) (b : re
       let text = listing-same sheet Γ other Δ (w .agrees .events) (w .agrees .signals) names σ in
       calls-alike (refusing m) sheet other (listingTests sheet t m) (listingTests other t m)
       (λ Γ. writing m (listing sheet Γ σ)) (λ Γ. writing m (listing other Γ σ)) a b
-      (ap₂ (λ (n : ℕ) (x : List ℕ). firstFailing ((t .has n, withoutLine C.WrongTableLength) ∷ enough m (length x) ∷ [])) size text)
+      (ap₂ (λ (n : ℕ) (x : List ℕ).
+      firstFailing ((t .has n, withoutLine C.WrongTableLength) ∷ enough m (length x) ∷ [])) size text)
       (λ _. ap (writing m) text)
 
   forms : (out : List ℕ) → housed sheet out ≡ housed other out
@@ -157,7 +164,8 @@ module _ (sheet other : List ℕ) (a : read sheet .outcome ≡ Accepted) (b : re
       let text = text-same s (faithful sheet a) in
       calls-alike (refusing m) sheet other (houseTests sheet m) (houseTests other m)
       (λ Γ. writing m (houseText sheet Γ)) (λ Γ. writing m (houseText other Γ)) a b
-      (ap₂ (λ (rs : List Constraint) (x : List ℕ). firstFailing ((fit rs, withoutLine C.TooManyRows) ∷ enough m (length x) ∷ []))
+      (ap₂ (λ (rs : List Constraint) (x : List ℕ).
+      firstFailing ((fit rs, withoutLine C.TooManyRows) ∷ enough m (length x) ∷ []))
       (s .remaining) text)
       (λ _. ap (writing m) text)
 

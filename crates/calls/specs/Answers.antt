@@ -17,8 +17,8 @@ use Rattle.calls.specs.Call.{Left}
 use Rattle.calls.specs.Calls.{writtenValues}
 use Rattle.calls.specs.declared.Written.{Written}
 
--- which refusals have a line: 2 to 10 one of the sheet, 18 and 19 one of the listing; "Lines are 0 for refusals 1 and 11
--- to 13", and for each of document 02 "whose request names no line"
+-- which refusals have a line: 2 to 10 one of the sheet, 18 and 19 one of the listing; "Lines are 0 for refusals 1 and
+-- 11 to 13", and for each of document 02 "whose request names no line"
 abbrev pub hasLine : ℕ → Bool
 hasLine n = (leb 2 n && leb n 10) || (eqb n 18 || eqb n 19)
 

@@ -1,6 +1,6 @@
--- A public call: the sheet's own refusal comes first, then the call's own tests in checking order, each with the refusal
--- of its failure; where all of them hold, its work (01, Refused sheets and calls). And what a call that writes leaves in
--- the memory that it is lent.
+-- A public call: the sheet's own refusal comes first, then the call's own tests in checking order, each with the
+-- refusal of its failure; where all of them hold, its work (01, Refused sheets and calls). And what a call that writes
+-- leaves in the memory that it is lent.
 use mathlib.Core.Path.{_≡_}
 use mathlib.Core.Bool.{Bool}
 use mathlib.Core.Option.{Option, none, some}

@@ -1,5 +1,5 @@
--- What holds of the call that reads a listing back (02, point 4), for every sheet, listing and lent table. Where it refuses
--- stands in `Numbers`; here is with which line.
+-- What holds of the call that reads a listing back (02, point 4), for every sheet, listing and lent table. Where it
+-- refuses stands in `Numbers`; here is with which line.
 use mathlib.Core.Path.{_≡_}
 use mathlib.Core.Logic.{_↔_}
 use mathlib.Core.List.{List}

@@ -1,5 +1,5 @@
--- What the call that reads a listing back answers and leaves in the lent table (02, point 4): 18 "is tried over the whole
--- listing first", then 19, both with the listing's line, then 12.
+-- What the call that reads a listing back answers and leaves in the lent table (02, point 4): 18 "is tried over the
+-- whole listing first", then 19, both with the listing's line, then 12.
 use mathlib.Core.Bool.{Bool, true, false}
 use mathlib.Core.Option.{Option, none, some}
 use mathlib.Core.List.{List, [], _∷_}

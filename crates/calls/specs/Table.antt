@@ -1,6 +1,6 @@
 -- What the programs print, by the calls that they make: `table` prints "the solver's listing, or `refused N line L`
--- with the number and the line" (01, The printed listing), `house` the house form (02, point 2), and `judge` the verdict
--- on the table of a listing (02, point 4). Each lends the calls memory that is long enough.
+-- with the number and the line" (01, The printed listing), `house` the house form (02, point 2), and `judge` the
+-- verdict on the table of a listing (02, point 4). Each lends the calls memory that is long enough.
 use mathlib.Core.Bool.{true, false}
 use mathlib.Core.List.{List, [], _∷_, _++_}
 use Prim.Native.Nat.{ℕ, zero, suc}
@@ -39,8 +39,8 @@ tableOn m page sheet = orRefused (solving sheet m) (listingOn page sheet)
 abbrev pub formOn : List ℕ → List ℕ → List ℕ
 formOn page sheet = orRefused (housed sheet page) (λ text. text)
 
--- "`pass`, `late` with case and event, `rule` with case and rule, `unheard` with both cases and the event (numbers from 0,
--- spaces between)", by the values of a verdict
+-- "`pass`, `late` with case and event, `rule` with case and rule, `unheard` with both cases and the event (numbers from
+-- 0, spaces between)", by the values of a verdict
 abbrev pub then : ℕ → List ℕ
 then n = ascii " " ++ decimal n
 

@@ -5,13 +5,13 @@ use mathlib.Core.Bool.{true, false, _&&_, _||_, not, cond}
 use mathlib.Core.List.{List, [], _∷_}
 use Prim.Native.Nat.{ℕ, zero, suc, _≤_}
 use native.Mathlib.Omega.{arith}
-use borrow.Author.Tests.{eqb-true, leb-true, le-leb, ne-eqb, eq-eqb, not-true}
-use lib.Dec.{eqb, leb}
+use borrow.Author.Tests.{eqb-true, ne-eqb, eq-eqb}
+use lib.Dec.{eqb}
 use lib.IntN.{ℤ, pos, negsuc, negℤ}
 use lib.ListN.{length, getD}
 use Rattle.prelude.specs.Bytes.{every}
 use Rattle.prelude.proofs.Tests.{either, clash, and-true, by-cond}
-use Rattle.text.specs.Number.{isDigit, isNatural, isNegative, unsigned, isNumber, inRange, magnitude, valueOf}
+use Rattle.text.specs.Number.{isDigit, isNatural, isNegative, unsigned, isNumber, magnitude, valueOf}
 use Rattle.text.specs.Number.{valueFrom}
 use Rattle.text.specs.Decimal.{decimal}
 use Rattle.text.specs.Lines.{plain}

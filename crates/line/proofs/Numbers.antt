@@ -1,11 +1,10 @@
--- Laws of numbers in fields: what reading one says of its bytes, of the ranges of counts, and of limits with their
--- signs. Assumes nothing.
-use mathlib.Core.Path.{_≡_, refl, _∙_}
-use mathlib.Core.Logic.{inl, inr}
-use mathlib.Core.Bool.{Bool, true, false, cond, and-false}
+-- Laws of numbers in fields: what reading one says of the range of a count, and of a limit with its sign. Assumes
+-- nothing.
+use mathlib.Core.Path.{_≡_, _∙_}
+use mathlib.Core.Bool.{Bool, true, false}
 use mathlib.Core.Option.{Option, none, some}
 use mathlib.Core.List.{List}
-use Prim.Native.Nat.{ℕ, zero, suc, _+_, _≤_, _<_, min}
+use Prim.Native.Nat.{ℕ, zero, suc, _+_, _≤_, _<_}
 use native.Mathlib.Omega.{arith}
 use borrow.Author.Tests.{le-leb, lt-leb}
 use lib.IntN.{pos, negℤ, _-ℤ_, +ℤ-idl}
@@ -13,7 +12,7 @@ use mir.Syntax.{w32}
 use mir.Val.{SFits, toZ, ofZ}
 use mir.ValLaws.{toZ-pos, toZ-ofZ}
 use Rattle.prelude.specs.Checks.{firstFailing}
-use Rattle.prelude.proofs.Tests.{zero-is-one, lt-or-ge, by-cond}
+use Rattle.prelude.proofs.Tests.{by-cond}
 use Rattle.text.specs.Number.{isNumber, isNegative, inRange, magnitude, valueOf}
 use Rattle.text.specs.ReadNumber.{readNumber}
 use Rattle.text.specs.declared.Number.the-variants as Num

@@ -1,17 +1,16 @@
--- Laws of a line's refusal, test by test, as the readers of a line try them: a section's heading, an event and a signal. Assumes nothing.
+-- Laws of a line's refusal, test by test, as the readers of a line try them: a section's heading, an event and a
+-- signal. Assumes nothing.
 use mathlib.Core.Path.{_≡_, refl, sym}
 use mathlib.Core.Bool.{Bool, true, false, _&&_, _||_, not, and-false}
 use mathlib.Core.Option.{Option, none, some}
 use mathlib.Core.List.{List, [], _∷_}
-use Prim.Native.Nat.{ℕ, _≤_}
-use native.Mathlib.Omega.{arith}
+use Prim.Native.Nat.{ℕ}
 use borrow.Author.Tests.{eq-eqb, ne-eqb}
-use lib.ListN.{length, getD, take}
+use lib.ListN.{length, getD}
 use Rattle.prelude.specs.Search.{answers}
 use Rattle.prelude.specs.Checks.{firstFailing}
-use Rattle.prelude.specs.Bytes.{isIn, same}
-use Rattle.text.specs.Lines.{lineFeed, upTo, field}
-use Rattle.text.proofs.Lines.{upTo-le, take-upTo, isIn-of-upTo-lt, not-isIn-of-upTo-le}
+use Rattle.prelude.specs.Bytes.{same}
+use Rattle.text.specs.Lines.{field}
 use Rattle.refusal.specs.declared.Cause.{Cause}
 use Rattle.refusal.specs.declared.Cause.the-variants as C
 use Rattle.network.specs.declared.Network.{Network}

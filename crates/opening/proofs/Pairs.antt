@@ -1,5 +1,5 @@
--- Minutes written as pairs of bytes: a call that fills a table with its minutes gives the same answer for pairs, and what
--- was written is written as pairs. The solver and the reader of listings are such calls. Assumes nothing.
+-- Minutes written as pairs of bytes: a call that fills a table with its minutes gives the same answer for pairs, and
+-- what was written is written as pairs. The solver and the reader of listings are such calls. Assumes nothing.
 use mathlib.Core.Path.{_≡_, refl, sym, _∙_, ap, subst}
 use mathlib.Core.Logic.{inl, inr}
 use mathlib.Core.Bool.{Bool, true}
@@ -30,7 +30,6 @@ use Rattle.calls.specs.Calls.{writing, refusing, rests}
 use Rattle.calls.specs.Recover.{faultless, misfitIn, faultIn, recoveredIn}
 use Rattle.calls.specs.Bench.{packedCount, packedLeft}
 use Rattle.calls.specs.declared.Written.{Written}
-use Rattle.calls.specs.declared.Written.the-variants as W
 use Rattle.calls.proofs.Call.{Ends, faulty, failed, worked, ends, call-refused, call-fails, call-works}
 use Rattle.calls.proofs.Handed.{cells-few}
 use Rattle.calls.proofs.Solving.{rests-true}

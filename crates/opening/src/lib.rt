@@ -24,8 +24,8 @@ use solver::Solved;
 
 pub mod bench;
 
-// Lent memory of these lengths is long enough for every sheet: a table's minutes, a listing's bytes as it is written, and
-// the bytes of a sheet, also in its house form. No listing that is longer than the last is read back.
+// Lent memory of these lengths is long enough for every sheet: a table's minutes, a listing's bytes as it is written,
+// and the bytes of a sheet, also in its house form. No listing that is longer than the last is read back.
 pub const TABLE_MINUTES: usize = Network::CELLS;
 
 pub const LISTING_BYTES: usize = listing::LONGEST;

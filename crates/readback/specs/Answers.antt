@@ -7,8 +7,7 @@ use Prim.Native.Nat.{ℕ, _+_, _*_, _^_, _≤_, _<_}
 use lib.ListN.{length, drop, getD, set}
 use Rattle.network.specs.Limits as N
 use Rattle.readback.specs.Minute.{isMinute, minuteOf}
-use Rattle.readback.specs.Rows.{textIn, areMinutes, cellOf, rowsFault, rowsTable, headerFits, misfit, fault}
-use Rattle.readback.specs.Rows.{recovered}
+use Rattle.readback.specs.Rows.{textIn, areMinutes, cellOf, rowsFault, rowsTable, headerFits, misfit}
 use Rattle.readback.specs.declared.Answer.{Answer}
 use Rattle.readback.specs.declared.Answer.the-variants as A
 use Rattle.readback.specs.declared.Form.{Form}
@@ -32,8 +31,8 @@ pub record MinutePut (f : List ℕ) (at : ℕ) (before after : List ℕ) (r : Bo
   pub sized : length after ≡ length before
   pub put : r ≡ true → after ≡ set before at (minuteOf f)
 
--- the minutes of one row stand from `first` on, and what is before them is as it was; where a text is no minute, nothing
--- is said but the size
+-- the minutes of one row stand from `first` on, and what is before them is as it was; where a text is no minute,
+-- nothing is said but the size
 pub record RowRead (l : List ℕ) (n first : ℕ) (before after : List ℕ) (r : Bool) : Type 0 where
   pub answer : r ≡ areMinutes n l
   pub sized : length after ≡ length before
@@ -58,7 +57,8 @@ pub data TimesRead (bytes : List ℕ) (first k n : ℕ) (before : List ℕ) : Li
   short : rowsFault bytes first k n ≡ none → length before < n * 2 ^ k
       → TimesRead bytes first k n before before A.TooShort
   full : rowsFault bytes first k n ≡ none → n * 2 ^ k ≤ length before
-      → TimesRead bytes first k n before (rowsTable bytes first k n ++ drop (n * 2 ^ k) before) (A.Recovered (n * 2 ^ k))
+      → TimesRead bytes first k n before (rowsTable bytes first k n ++ drop (n * 2 ^ k) before)
+      (A.Recovered (n * 2 ^ k))
 
 -- the whole listing: the first line that is not the sheet's, or else what its rows say
 pub data ReadIs (head : List ℕ) (k n : ℕ) (bytes before : List ℕ) : List ℕ → Answer → Type 0 where

@@ -1,5 +1,5 @@
--- Which bytes are a listing of a sheet, for any texts in the places of its minutes, and which line is the first at fault
--- (02, point 4, refusals 18 and 19). Nothing here reads.
+-- Which bytes are a listing of a sheet, for any texts in the places of its minutes, and which line is the first at
+-- fault (02, point 4, refusals 18 and 19). Nothing here reads.
 use mathlib.Core.Path.{_≡_}
 use mathlib.Core.Logic.{_⊎_}
 use mathlib.Core.Bool.{true}

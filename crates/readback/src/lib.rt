@@ -23,8 +23,8 @@ pub const LONGEST: usize = 4096;
 
 const LATEST: u32 = 65535;
 
-// So many minutes were written; or the first line of the listing that is not this sheet's, or that has a text that is no
-// minute; or the table is too short.
+// So many minutes were written; or the first line of the listing that is not this sheet's, or that has a text that is
+// no minute; or the table is too short.
 pub enum Answer {
     Recovered(usize),
     OtherForm(u16),

@@ -26,8 +26,8 @@ numberOf C.MisnamedSignal = 15
 numberOf C.NeverHeard = 16
 -- "17, more than 64 rows would be left" (02, point 2)
 numberOf C.TooManyRows = 17
--- "18, the listing is longer than 4,096 bytes (line 1), or its header, cases, fields or line ends are not this sheet's, a
--- line missing or left over included; 19, a minute is ill-formed, negative or over 65,535" (02, point 4)
+-- "18, the listing is longer than 4,096 bytes (line 1), or its header, cases, fields or line ends are not this
+-- sheet's, a line missing or left over included; 19, a minute is ill-formed, negative or over 65,535" (02, point 4)
 numberOf C.OtherForm = 18
 numberOf C.NoMinute = 19
 

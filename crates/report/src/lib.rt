@@ -1,5 +1,5 @@
-// What the programs read and print alike, and the calls as they use them: a refusal is printed, and the part of the lent
-// memory that was written is counted. A write that fails is left at that.
+// What the programs print alike, and the calls as they use them: a refusal is printed, and the part of the
+// lent memory that was written is counted. A write that fails is left at that.
 ghost use mathlib.Core.Path.{_≡_};
 ghost use Rattle.io.specs.Counts.{Counts};
 ghost use Rattle.calls.specs.Calls.{writtenValues};
@@ -9,19 +9,6 @@ use checker::Breach;
 use checker::Verdict;
 use libc::STDOUT_FILENO;
 use refusal::Refusal;
-
-// Reads a file into buf; one that can't be opened counts as empty.
-pub fn read_file(path: &[u8], buf: &mut [u8]) -> usize
-    ensures { λ r. ⌜ Counts r (now (buf .exit)) ⌝ }
-{
-    let fd = os::open_read(path);
-    if fd < 0 {
-        return 0;
-    }
-    let n = io::read_full(fd, buf);
-    libc::close(fd);
-    n
-}
 
 pub fn print(s: &[u8]) {
     io::write_all(STDOUT_FILENO, s);

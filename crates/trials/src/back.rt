@@ -1,5 +1,5 @@
-// Request 4, a listing read back: that of the solver's table gives this table; one that is handed in gives its table, or
-// is refused, and a table that is one minute too short for it is refused too.
+// Request 4, a listing read back: that of the solver's table gives this table; one that is handed in gives its table,
+// or is refused, and a table that is one minute too short for it is refused too.
 ghost use Prim.Native.Nat.{_<_, _≤_};
 use crate::base;
 

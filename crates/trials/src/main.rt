@@ -12,16 +12,6 @@ mod trial;
 ghost use Prim.Native.Nat.{_≤_};
 ghost use lib.ListN.{length};
 
-// Whether there is such a file in data/.
-fn is_there(path: &[u8]) -> bool {
-    let fd = os::open_read(path);
-    if fd < 0 {
-        return false;
-    }
-    libc::close(fd);
-    true
-}
-
 // Where the piece of the text that begins at `at` ends: at the next byte d, or with the text.
 fn end_of(text: &[u8], at: usize, d: u8) -> usize
     requires { ⌜ at ≤ length (now text) ⌝ }
@@ -33,13 +23,13 @@ fn end_of(text: &[u8], at: usize, d: u8) -> usize
 // One byte more than a listing may have, so that a longer one is seen to be longer.
 fn listed(sheet: &[u8], lst: &[u8]) {
     let mut printed = [0u8; opening::PRINTED_BYTES + 1];
-    let n = report::read_file(lst, &mut printed);
+    let n = files::read(lst, &mut printed);
     back::tell(sheet, &printed[..n]);
 }
 
 fn tabled(sheet: &[u8], tab: &[u8]) {
     let mut bytes = [0u8; 1024];
-    let n = report::read_file(tab, &mut bytes);
+    let n = files::read(tab, &mut bytes);
     trial::tell(sheet, &bytes[..n]);
 }
 
@@ -48,7 +38,7 @@ fn tabled(sheet: &[u8], tab: &[u8]) {
 fn told(sheet: &[u8], tab: &[u8], lst: &[u8], last: house::Page) -> house::Page {
     base::read(sheet);
     let next = house::tell(sheet, last);
-    if is_there(lst) {
+    if files::is_there(lst) {
         listed(sheet, lst);
     } else {
         tabled(sheet, tab);
@@ -59,7 +49,7 @@ fn told(sheet: &[u8], tab: &[u8], lst: &[u8], last: house::Page) -> house::Page 
 // One byte more than a sheet may have.
 fn from_files(csv: &[u8], tab: &[u8], lst: &[u8], last: house::Page) -> house::Page {
     let mut sheet = [0u8; opening::SHEET_BYTES + 1];
-    let n = report::read_file(csv, &mut sheet);
+    let n = files::read(csv, &mut sheet);
     told(&sheet[..n], tab, lst, last)
 }
 
@@ -99,8 +89,8 @@ fn trials(titles: &[u8]) {
 
 fn main() {
     let mut text = io::large_buffer();
-    let n = report::read_file(b"titles.txt", &mut text);
+    let n = files::read(b"titles.txt", &mut text);
     trials(&text[..n]);
-    let k = report::read_file(b"small.csv", &mut text);
+    let k = files::read(b"small.csv", &mut text);
     small::all(&text[..k]);
 }

@@ -25,18 +25,21 @@ slice-aggregate-read-listing c =
     let at-room = c .before in
     let args = start at-room .args in
     sym
-    (lent-sized _ (reader-fills (now (args .sheet)) (now (args .printed))) (now (args .table)) zeros refl (at-room .room .result) (at-room .room .ensures))
+    (lent-sized _ (reader-fills (now (args .sheet)) (now (args .printed))) (now (args .table)) zeros refl
+    (at-room .room .result) (at-room .room .ensures))
 
 -- the array behind the call, and what goes out of it
 after : (d : tie.After-read-listing)
     → let at-room = d .before .before in
     let args = start at-room .args in
-    Goes _ (reader-fills (now (args .sheet)) (now (args .printed))) (now (args .table)) zeros refl (at-room .room .result) (at-room .room .ensures)
+    Goes _ (reader-fills (now (args .sheet)) (now (args .printed))) (now (args .table)) zeros refl
+    (at-room .room .result) (at-room .room .ensures)
     (d .read-listing .result) (d .read-listing .last .1 .1 .0)
 after d =
     let at-room = d .before .before in
     let args = start at-room .args in
-    pairs-go _ (reader-fills (now (args .sheet)) (now (args .printed))) (now (args .table)) zeros refl (at-room .room .result) (at-room .room .ensures)
+    pairs-go _ (reader-fills (now (args .sheet)) (now (args .printed))) (now (args .table)) zeros refl
+    (at-room .room .result) (at-room .room .ensures)
     (d .read-listing .ensures)
 
 returns : tie.Need-returns

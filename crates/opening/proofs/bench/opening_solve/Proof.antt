@@ -25,18 +25,21 @@ slice-aggregate-solve-sheet c =
     let at-room = c .before in
     let args = start at-room .args in
     sym
-    (lent-sized _ (solver-fills (now (args .sheet))) (now (args .table)) zeros refl (at-room .room .result) (at-room .room .ensures))
+    (lent-sized _ (solver-fills (now (args .sheet))) (now (args .table)) zeros refl
+    (at-room .room .result) (at-room .room .ensures))
 
 -- the array behind the call, and what goes out of it
 after : (d : tie.After-solve-sheet)
     → let at-room = d .before .before in
     let args = start at-room .args in
-    Goes _ (solver-fills (now (args .sheet))) (now (args .table)) zeros refl (at-room .room .result) (at-room .room .ensures)
+    Goes _ (solver-fills (now (args .sheet))) (now (args .table)) zeros refl
+    (at-room .room .result) (at-room .room .ensures)
     (d .solve-sheet .result) (d .solve-sheet .last .1 .0)
 after d =
     let at-room = d .before .before in
     let args = start at-room .args in
-    pairs-go _ (solver-fills (now (args .sheet))) (now (args .table)) zeros refl (at-room .room .result) (at-room .room .ensures)
+    pairs-go _ (solver-fills (now (args .sheet))) (now (args .table)) zeros refl
+    (at-room .room .result) (at-room .room .ensures)
     (d .solve-sheet .ensures)
 
 returns : tie.Need-returns
