@@ -15,14 +15,11 @@ use Rattle.sheet.specs.declared.Outcome.the-variants.{Accepted}
 use Rattle.dispatch.specs.Due.{due}
 use Rattle.dispatch.specs.HeardText.{isHeard, heardIn, dueText}
 use Rattle.dispatch.proofs.HeardText.{due-heard}
-use Rattle.listing.specs.Listing.{listing}
 use Rattle.calls.specs.Values.{done}
 use Rattle.calls.specs.Call.{Left}
 use Rattle.calls.specs.Lent.{asMinutes, asBytes, inPairs}
-use Rattle.calls.specs.Calls.{writtenValues, writing}
+use Rattle.calls.specs.Calls.{writtenValues}
 use Rattle.calls.specs.Play.{eventsDue}
-use Rattle.calls.specs.Recover.{benchRecovering}
-use Rattle.calls.specs.ReadingBack.{Table}
 use Rattle.calls.specs.Bench.{benchSolving, benchDue}
 use Rattle.calls.specs.Numbers.{bytes}
 use Rattle.calls.specs.Benched.{Benched}
@@ -31,7 +28,6 @@ use Rattle.calls.proofs.Handed.{bytes-rightly}
 use Rattle.calls.proofs.Judging.{judge-passes, judge-breaches}
 use Rattle.calls.proofs.Solving.{refuses-13, solves-least}
 use Rattle.calls.proofs.Writing.{listing-wrote}
-use Rattle.calls.proofs.ReadingBack.{recovers-into}
 use Rattle.calls.proofs.Alike.{playing-alike}
 use Rattle.calls.proofs.Play.{lettered}
 use Rattle.calls.proofs.Header.{header-judge, header-solver, header-lister, header-house, header-player}
@@ -41,26 +37,17 @@ module _ (sheet : List ℕ) (a : read sheet .outcome ≡ Accepted) (b : List ℕ
   abbrev net : Network
   net = read sheet .network
 
-  -- minutes that were written as pairs
-  written : (σ : List ℕ) (l : Left Written) → length σ ≡ cells net → l ≡ writing (inPairs b) σ
-      → (writtenValues (l .answer) ≡ done (cells net)) × (l .memory ≡ bytesOf σ ++ drop (2 * cells net) b)
-  written σ l size e = (
-    ap (λ (x : Left Written). writtenValues (x .answer)) e ∙ ap done size,
-    ap (λ (x : Left Written). x .memory) e ∙ ap (λ (k : ℕ). bytesOf σ ++ drop (2 * k) b) size,
-  )
-
   solved : cells net ≤ length b / 2 → (Inconsistent net → ⊥)
       → (σ : List ℕ) × Least net σ × (writtenValues (benchSolving sheet b .answer) ≡ done (cells net))
       × (benchSolving sheet b .memory ≡ bytesOf σ ++ drop (2 * cells net) b)
   solved room n =
       let s = solves-least sheet (inPairs b) a room n in
-      let w = written (s .0) (benchSolving sheet b) (s .1 .solves .sized) (s .2) in
-      (s .0, s .1, w .0, w .1)
-
-  recovered : (σ : List ℕ) → Table net σ → cells net ≤ length b / 2
-      → let l = benchRecovering sheet (listing sheet net σ) b in
-      (writtenValues (l .answer) ≡ done (cells net)) × (l .memory ≡ bytesOf σ ++ drop (2 * cells net) b)
-  recovered σ t room = written σ _ (t .sized) (recovers-into sheet a σ t (inPairs b) room)
+      let size = s .1 .solves .sized in (
+        s .0,
+        s .1,
+        ap (λ (l : Left Written). writtenValues (l .answer)) (s .2) ∙ ap done size,
+        ap (λ (l : Left Written). l .memory) (s .2) ∙ ap (λ (k : ℕ). bytesOf (s .0) ++ drop (2 * k) b) size,
+      )
 
   -- a table of bytes that has the right length is played as its minutes are
   played : length b ≡ 2 * cells net → (m : ℕ) (text : List ℕ) → isHeard text ≡ true
@@ -85,7 +72,6 @@ benched = record {
   solved = λ sheet b Γ r. rw (← r .network) (solved sheet (r .accepted) b);
   lists = λ sheet b m Γ r. rw (← r .network)
       (λ e. listing-wrote sheet (asBytes b) (bytes b) m (r .accepted) (bytes-rightly b (read sheet .network)) e);
-  recovers = λ sheet σ b Γ r. rw (← r .network) (recovered sheet (r .accepted) b σ);
   plays = λ sheet b Γ m text r. rw (← r .network) (λ e. played sheet (r .accepted) b e m text);
   judge-holds = header-judge;
   solver-holds = header-solver;

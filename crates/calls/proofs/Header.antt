@@ -17,8 +17,8 @@ use Rattle.calls.specs.Values.{Values}
 use Rattle.calls.specs.Lent.{asBytes, inPairs}
 use Rattle.calls.specs.Calls.{writtenValues, judgingTests, housed}
 use Rattle.calls.specs.Play.{dueValues}
-use Rattle.calls.specs.Recover.{benchRecovering}
-use Rattle.calls.specs.Bench.{benchJudgement, benchSolving, benchListed, benchDue, Finding, noFinding}
+use Rattle.calls.specs.Bench.{benchJudgement, benchSolving, benchListed, benchDue, benchRecovering}
+use Rattle.calls.specs.Bench.{Finding, noFinding}
 use Rattle.calls.specs.Bench.{judgementValues, refused, packed, Small, packedCount}
 use Rattle.calls.specs.Answers.{Own, OneOf, Answers}
 use Rattle.calls.specs.Numbers.{bytes, judges, solves, lists, houses, recovers, plays, misnamedIn, unheardBy}

@@ -1,18 +1,10 @@
 -- What the programs print, from what holds of the calls: the lent memory is long enough for every sheet. Assumes
 -- nothing.
-use mathlib.Core.Path.{_≡_, refl, sym, _∙_, ap}
-use mathlib.Core.Bool.{Bool, true, false}
+use mathlib.Core.Path.{_≡_, sym, _∙_, ap}
 use mathlib.Core.List.{List}
 use Prim.Native.Nat.{ℕ, _≤_, _<_}
 use native.Mathlib.Omega.{arith}
-use borrow.Author.Tests.{ne-eqb}
-use lib.Dec.{eqb}
-use lib.ListN.{length, take, drop, replicate, length-replicate}
-use lib.Seq.{take-at}
-use Rattle.refusal.specs.Refusal.{numberOf, refusal}
-use Rattle.refusal.specs.declared.Cause.the-variants.{OtherForm, NoMinute}
-use Rattle.refusal.specs.declared.Refusal.{Refusal}
-use Rattle.refusal.proofs.Numbered.{numbered}
+use lib.ListN.{length, replicate, length-replicate}
 use Rattle.network.specs.Limits as L
 use Rattle.network.specs.Build.{scenarios, cells}
 use Rattle.network.specs.Strategy.{time}
@@ -24,58 +16,28 @@ use Rattle.sheet.specs.Reading.{longest, read}
 use Rattle.sheet.specs.declared.Outcome.the-variants.{Accepted}
 use Rattle.sheet.proofs.Fault.{refused-iff}
 use Rattle.sheet.proofs.WellFormed.{accepted-well-formed}
-use Rattle.listing.specs.Listing.{header, listing}
+use Rattle.listing.specs.Listing.{listing}
 use Rattle.listing.specs.Most.{mostListing}
 use Rattle.listing.proofs.Short.{listing-short}
-use Rattle.readback.specs.Form.{Misfit, Unread}
-use Rattle.readback.proofs.Misfits.{misfit-iff}
-use Rattle.readback.proofs.Unread.{unread-iff}
 use Rattle.tighten.specs.Tightest.{remainingOf}
 use Rattle.canonical.specs.House.{houseText}
 use Rattle.canonical.proofs.Again.{form-short}
-use Rattle.calls.specs.Values.{Values, turnedAway, refusedAs}
+use Rattle.calls.specs.Values.{refusedAs}
 use Rattle.calls.specs.Call.{Left}
 use Rattle.calls.specs.Lent.{asMinutes, inPlace}
-use Rattle.calls.specs.Calls.{judgement, solving, listed, housed}
-use Rattle.calls.specs.Bench.{judgementValues}
+use Rattle.calls.specs.Calls.{solving, listed, housed}
 use Rattle.calls.specs.Recover.{recovering}
-use Rattle.calls.specs.ReadingBack.{Table}
-use Rattle.calls.specs.Table.{refusedText, orRefused, listingOn, tableOn, formOn, verdictText, judgeOn}
-use Rattle.calls.specs.Answers.{WroteText}
+use Rattle.calls.specs.Table.{refusedText, listingOn, tableOn, formOn}
 use Rattle.calls.specs.Numbers.{minutes}
 use Rattle.calls.specs.Printing.{Printing}
 use Rattle.calls.specs.declared.Written.{Written}
 use Rattle.calls.specs.declared.Written.the-variants as W
 use Rattle.calls.proofs.Handed.{cells-few, minutes-rightly}
+use Rattle.calls.proofs.Judging.{judge-passes}
 use Rattle.calls.proofs.Writing.{wrote, listing-wrote, house-wrote, house-many}
 use Rattle.calls.proofs.Solving.{solves-least, refuses-none}
-use Rattle.calls.proofs.Recovering.{refuses-misfit, refuses-fault}
-use Rattle.calls.proofs.ReadingBack.{recovers-into}
-
--- a call that wrote, and one that refused
-wrote-on : (l : Left Written) (text m : List ℕ) (next : List ℕ → List ℕ) → WroteText text m l
-    → orRefused l next ≡ next text
-wrote-on l text m next w =
-    ap (λ (v : Values ℕ). elim (eqb (v .number) 0) as (λ _. List ℕ) [
-      | true ↦ next (take (v .value) (l .memory))
-      | false ↦ refusedText v
-    ]) (w .answer)
-    ∙ ap (λ (k : List ℕ). next (take (length text) k)) (w .memory)
-    ∙ ap next (take-at text (drop (length text) m) (length text) refl)
-
-refused-on : (l : Left Written) (r : Refusal) (next : List ℕ → List ℕ) → l .answer ≡ W.Refused r
-    → orRefused l next ≡ refusedText (turnedAway 0 r)
-refused-on l r next e =
-    ap (λ (w : Written). orRefused (record { answer = w; memory = l .memory }) next) e
-    ∙ ap (λ (b : Bool). elim b as (λ _. List ℕ) [
-      | true ↦ next (take 0 (l .memory))
-      | false ↦ refusedText (turnedAway 0 r)
-    ])
-    (ne-eqb (numberOf (r .cause)) 0 (numbered (r .cause)))
-
--- the verdict on a table
-abbrev judged : List ℕ → List ℕ → List ℕ
-judged sheet t = verdictText (judgementValues (judgement sheet t))
+use Rattle.calls.proofs.OnPages.{wrote-on, refused-on}
+use Rattle.calls.proofs.PrintedVerdict.{judged, misfit-on, unread-on, judge-on, passes-on}
 
 module _ (sheet : List ℕ) (a : read sheet .outcome ≡ Accepted) where
   abbrev net : Network
@@ -120,26 +82,6 @@ module _ (sheet : List ℕ) (a : read sheet .outcome ≡ Accepted) where
       wrote-on (housed sheet page) (houseText sheet net) page (λ t. t)
       (house-wrote sheet page a few (omega (arith, form-short sheet a few)))
 
-  -- what `judge` prints: the first line at fault, or the verdict on the table of the listing
-  misfit-on : (m bytes : List ℕ) (l : ℕ) → Misfit (header sheet net) (net .signals) (net .events) bytes l
-      → judgeOn m sheet bytes ≡ refusedText (turnedAway 0 (refusal OtherForm l))
-  misfit-on m bytes l x =
-      refused-on (recovering sheet bytes m) (refusal OtherForm l) (judged sheet)
-      (ap (λ (k : Left Written). k .answer) (refuses-misfit sheet bytes (inPlace m) a l
-      (misfit-iff (header sheet net) (net .signals) (net .events) bytes l .1 x)))
-
-  unread-on : (m bytes : List ℕ) (l : ℕ) → Unread (header sheet net) (net .signals) (net .events) bytes l
-      → judgeOn m sheet bytes ≡ refusedText (turnedAway 0 (refusal NoMinute l))
-  unread-on m bytes l y =
-      let p = unread-iff (header sheet net) (net .signals) (net .events) bytes l .1 y in
-      refused-on (recovering sheet bytes m) (refusal NoMinute l) (judged sheet)
-      (ap (λ (k : Left Written). k .answer) (refuses-fault sheet bytes (inPlace m) a (p .0) l (p .1)))
-
-  judge-on : (m σ : List ℕ) → Table net σ → L.cells ≤ length m → judgeOn m sheet (listing sheet net σ) ≡ judged sheet σ
-  judge-on m σ t h =
-      wrote-on (recovering sheet (listing sheet net σ) m) σ m (judged sheet)
-      (wrote σ m (sym (recovers-into sheet a σ t (inPlace m) (omega (arith, cells-few (formed .0))))))
-
 abbrev table : List ℕ
 table = replicate L.cells 0
 
@@ -175,4 +117,6 @@ printing = record {
   judge-unread = λ sheet bytes Γ l r. rw (← r .network) (unread-on sheet (r .accepted) table bytes l);
   judge = λ sheet σ Γ r. rw (← r .network)
       (λ t. judge-on sheet (r .accepted) table σ t (omega (arith, length-replicate {A = ℕ} L.cells 0)));
+  judge-passes = λ sheet bytes Γ r. rw (← r .network)
+      (passes-on sheet (r .accepted) table bytes (omega (arith, length-replicate {A = ℕ} L.cells 0)));
 }

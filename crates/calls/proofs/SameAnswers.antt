@@ -31,7 +31,7 @@ use Rattle.dispatch.specs.declared.Dispatched.{Dispatched}
 use Rattle.dispatch.specs.declared.Dispatched.the-variants.{Misnamed}
 use Rattle.listing.specs.Listing.{header, listing}
 use Rattle.listing.proofs.Same.{header-same, listing-same}
-use Rattle.readback.specs.Rows.{misfit, fault, recovered}
+use Rattle.readback.specs.Rows.{recovered}
 use Rattle.tighten.proofs.Tables.{cells-agree, solutions-by-remaining}
 use Rattle.canonical.specs.House.{houseText}
 use Rattle.canonical.specs.Same.{Same}
@@ -44,7 +44,7 @@ use Rattle.calls.specs.Calls.{refusing, rests, solvingTests, solvingInto
 use Rattle.calls.specs.Calls.{listingTests, listingOf, fit, houseTests, housed}
 use Rattle.calls.specs.Play.{named, everHeard, eventsOf, isPass, playingTests, playing, eventsDue, eventsDueOn}
 use Rattle.calls.specs.Bench.{benchDue}
-use Rattle.calls.specs.Recover.{faultless, recoveredIn, recoveringTests, recoveringInto}
+use Rattle.calls.specs.Recover.{recoveryTests, recoveredIn, recoveringTests, recoveringInto}
 use Rattle.calls.specs.Reacting.{SameAnswers}
 use Rattle.calls.specs.declared.Summary.the-variants as S
 use Rattle.calls.specs.declared.Judgement.the-variants as J
@@ -133,11 +133,7 @@ module _ (sheet other : List ℕ) (a : read sheet .outcome ≡ Accepted) (b : re
   recoveries bytes m =
       calls-alike (refusing m) sheet other (recoveringTests sheet bytes m) (recoveringTests other bytes m)
       (λ Γ. writing m (recoveredIn sheet bytes Γ)) (λ Γ. writing m (recoveredIn other bytes Γ)) a b
-      (alike (λ h k n.
-      firstFailing (faultless (misfit h k n bytes) C.OtherForm
-      ∷ faultless (fault h k n bytes) C.NoMinute
-      ∷ enough m (n * 2 ^ k)
-      ∷ [])))
+      (alike (λ h k n. firstFailing (recoveryTests h k n bytes (enough m (n * 2 ^ k)))))
       (λ _. alike (λ h k n. writing m (recovered h k n bytes)))
     where
       alike : {A : Type 0} (f : List ℕ → ℕ → ℕ → A)

@@ -3,10 +3,10 @@
 use mathlib.Core.Path.{_≡_}
 use mathlib.Core.Logic.{_⊎_, _↔_}
 use mathlib.Core.Bool.{Bool, true, _&&_, _||_}
-use mathlib.Core.List.{List, [], _∷_, _++_}
+use mathlib.Core.List.{List, [], _∷_}
 use Prim.Native.Nat.{ℕ, suc, _≤_}
 use lib.Dec.{leb, eqb}
-use lib.ListN.{length, drop}
+use lib.ListN.{length}
 use Rattle.refusal.specs.declared.Refusal.{Refusal}
 use Rattle.network.specs.declared.Network.{Network}
 use Rattle.sheet.specs.Reading.{longest, read}
@@ -14,6 +14,7 @@ use Rattle.sheet.specs.Fault.{Fault}
 use Rattle.sheet.specs.declared.Outcome.the-variants.{Accepted}
 use Rattle.calls.specs.Values.{Values, done, turnedAway}
 use Rattle.calls.specs.Call.{Left}
+use Rattle.calls.specs.Lent.{Lent, inPlace}
 use Rattle.calls.specs.Calls.{writtenValues}
 use Rattle.calls.specs.declared.Written.{Written}
 
@@ -46,7 +47,7 @@ OneOf (o ∷ os) n = (n ≡ o .number) ⊎ OneOf os n
 pub record Answers (sheet : List ℕ) (own : List Own) {A : Type 0} (nothing : A) (v : Values A) : Type 0 where
   -- 0, a number from 1 to 10, or one of the call's own
   pub numbers : (v .number ≤ 10) ⊎ OneOf own (v .number)
-  -- a line from 1 on exactly for the refusals that have one, and one that a sheet can have
+  -- a line from 1 on exactly for the refusals that have one; no line is further on than the longest sheet allows
   pub lines : (1 ≤ v .line) ↔ (hasLine (v .number) ≡ true)
   pub near : v .line ≤ suc longest
   -- the fault of a sheet is the answer of every call
@@ -63,7 +64,12 @@ pub record Writes (sheet : List ℕ) (own : List Own) {A B : Type 0} (values : A
   pub answers : Answers sheet own nothing (values (l .answer))
   pub keeps : (values (l .answer) .number ≡ 0 → ⊥) → l .memory ≡ m
 
--- it has written this text: "the written part has exactly its stated contents and everything behind it is unaltered"
-pub record WroteText (text m : List ℕ) (l : Left Written) : Type 0 where
+-- it has written this into the memory that it was lent: "the written part has exactly its stated contents and
+-- everything behind it is unaltered"
+pub record Wrote (text : List ℕ) (m : Lent) (l : Left Written) : Type 0 where
   pub answer : writtenValues (l .answer) ≡ done (length text)
-  pub memory : l .memory ≡ text ++ drop (length text) m
+  pub memory : l .memory ≡ m .after text
+
+-- into memory that is lent as it is
+abbrev pub WroteText : List ℕ → List ℕ → Left Written → Type 0
+WroteText text m l = Wrote text (inPlace m) l

@@ -14,6 +14,7 @@ use Rattle.calls.specs.Call.{Left}
 use Rattle.calls.specs.Lent.{asBytes, inPairs}
 use Rattle.calls.specs.Calls.{judging, writtenValues, solvingInto, listingOf}
 use Rattle.calls.specs.Play.{playing}
+use Rattle.calls.specs.Recover.{recoveringInto}
 use Rattle.calls.specs.declared.Due.{Due}
 use Rattle.calls.specs.declared.Judgement.{Judgement}
 use Rattle.calls.specs.declared.Judgement.the-variants as J
@@ -26,6 +27,10 @@ benchJudgement sheet b = judging sheet (asBytes b)
 -- solving into bytes
 abbrev pub benchSolving : List ℕ → List ℕ → Left Written
 benchSolving sheet b = solvingInto sheet (inPairs b)
+
+-- reading a listing back into bytes
+abbrev pub benchRecovering : List ℕ → List ℕ → List ℕ → Left Written
+benchRecovering sheet printed b = recoveringInto sheet printed (inPairs b)
 
 -- listing a table of bytes
 abbrev pub benchListed : List ℕ → List ℕ → List ℕ → Left Written

@@ -1,5 +1,6 @@
 -- The demands on the bench's calls: those of the public calls, on the minutes of the bytes and on the text of what has
--- been heard; and that the header's functions give back the values that were packed.
+-- been heard (of reading a listing back `ReadingBack` says them); and that the header's functions give back the values
+-- that were packed.
 use mathlib.Core.Path.{_≡_}
 use mathlib.Core.Logic.{_↔_}
 use mathlib.Core.Bool.{true}
@@ -18,10 +19,8 @@ use Rattle.listing.specs.Listing.{listing}
 use Rattle.calls.specs.Values.{done, refusedAs}
 use Rattle.calls.specs.Calls.{writtenValues, housed}
 use Rattle.calls.specs.Bench.{benchJudgement, benchSolving, benchListed, passed, breachValues, judgementValues}
-use Rattle.calls.specs.Bench.{benchDue, packed, packedCount}
+use Rattle.calls.specs.Bench.{benchDue, benchRecovering, packed, packedCount}
 use Rattle.calls.specs.Play.{eventsDue, dueValues}
-use Rattle.calls.specs.Recover.{benchRecovering}
-use Rattle.calls.specs.ReadingBack.{Table}
 use Rattle.calls.specs.Header.{JudgeHolds, CountHolds}
 use Rattle.calls.specs.Answers.{Reads, WroteText}
 
@@ -41,10 +40,6 @@ pub record Benched : Type 0 where
   pub lists : (sheet b m : List ℕ) (Γ : Network) → Reads sheet Γ → length b ≡ 2 * cells Γ
       → length (listing sheet Γ (minutesOf b)) ≤ length m
       → WroteText (listing sheet Γ (minutesOf b)) m (benchListed sheet b m)
-  -- a listing of a table is read back into the table's bytes
-  pub recovers : (sheet σ b : List ℕ) (Γ : Network) → Reads sheet Γ → Table Γ σ → cells Γ ≤ length b / 2
-      → let l = benchRecovering sheet (listing sheet Γ σ) b in
-      (writtenValues (l .answer) ≡ done (cells Γ)) × (l .memory ≡ bytesOf σ ++ drop (2 * cells Γ) b)
   -- a text of the form is played as the list of what it says
   pub plays : (sheet b : List ℕ) (Γ : Network) (m : ℕ) (text : List ℕ) → Reads sheet Γ → length b ≡ 2 * cells Γ
       → isHeard text ≡ true → benchDue sheet b m text ≡ eventsDue sheet (minutesOf b) m (heardIn text)
@@ -54,8 +49,8 @@ pub record Benched : Type 0 where
       → let v = writtenValues (benchSolving sheet b .answer) in CountHolds (packedCount v) v
   pub lister-holds : (sheet b m : List ℕ) → Short (minutesOf b)
       → let v = writtenValues (benchListed sheet b m .answer) in CountHolds (packedCount v) v
-  pub recoverer-holds : (sheet bytes b : List ℕ)
-      → let v = writtenValues (benchRecovering sheet bytes b .answer) in CountHolds (packedCount v) v
+  pub recoverer-holds : (sheet printed b : List ℕ)
+      → let v = writtenValues (benchRecovering sheet printed b .answer) in CountHolds (packedCount v) v
   pub house-holds : (sheet m : List ℕ)
       → let v = writtenValues (housed sheet m .answer) in CountHolds (packedCount v) v
   pub player-holds : (sheet b : List ℕ) (m : ℕ) (text : List ℕ)

@@ -22,8 +22,9 @@ use Rattle.canonical.specs.House.{houseText}
 use Rattle.calls.specs.Calls.{summary, noCounts, summaryValues, judgement, writtenValues, solving, listed}
 use Rattle.calls.specs.Calls.{housed}
 use Rattle.calls.specs.Bench.{noFinding, judgementValues, benchJudgement, benchSolving, benchListed, benchDue}
+use Rattle.calls.specs.Bench.{benchRecovering}
 use Rattle.calls.specs.Play.{eventsDue, eventsDueOn, dueValues}
-use Rattle.calls.specs.Recover.{recovering, benchRecovering}
+use Rattle.calls.specs.Recover.{recovering}
 use Rattle.calls.specs.Answers.{Own, Answers, Writes}
 
 -- "A table handed in has not exactly n × 2^k numbers"; as bytes it has two for each, so that "an odd number of bytes is
@@ -65,17 +66,17 @@ houses sheet m =
 -- 18: the listing is "longer than 4,096 bytes", or for no texts in the places of its minutes the lines of this sheet;
 -- 19: it is, and "a minute is ill-formed, negative or over 65,535"
 abbrev pub otherForm : List ℕ → List ℕ → Network → Type 0
-otherForm sheet bytes Γ = Formed (header sheet Γ) (Γ .signals) (Γ .events) bytes → ⊥
+otherForm sheet printed Γ = Formed (header sheet Γ) (Γ .signals) (Γ .events) printed → ⊥
 
 abbrev pub noMinute : List ℕ → List ℕ → Network → Type 0
-noMinute sheet bytes Γ =
-    (x : Formed (header sheet Γ) (Γ .signals) (Γ .events) bytes)
+noMinute sheet printed Γ =
+    (x : Formed (header sheet Γ) (Γ .signals) (Γ .events) printed)
     × (((s : ℕ) → s < scenarios Γ → Minutes (Γ .events) (x .fitting .texts) s) → ⊥)
 
 abbrev pub recovers : List ℕ → List ℕ → ℕ → List Own
-recovers sheet bytes lent =
-    record { number = 18; cause = otherForm sheet bytes }
-    ∷ record { number = 19; cause = noMinute sheet bytes }
+recovers sheet printed lent =
+    record { number = 18; cause = otherForm sheet printed }
+    ∷ record { number = 19; cause = noMinute sheet printed }
     ∷ tooShort lent cells
     ∷ []
 
@@ -113,8 +114,8 @@ pub record Numbers : Type 0 where
   pub solver : (sheet m : List ℕ) → Writes sheet (solves (length m)) writtenValues 0 (solving sheet m) m
   pub lister : (sheet t m : List ℕ) → Writes sheet (lists (minutes t) sheet t m) writtenValues 0 (listed sheet t m) m
   pub house-writer : (sheet m : List ℕ) → Writes sheet (houses sheet m) writtenValues 0 (housed sheet m) m
-  pub recoverer : (sheet bytes m : List ℕ)
-      → Writes sheet (recovers sheet bytes (length m)) writtenValues 0 (recovering sheet bytes m) m
+  pub recoverer : (sheet printed m : List ℕ)
+      → Writes sheet (recovers sheet printed (length m)) writtenValues 0 (recovering sheet printed m) m
   pub player : (sheet t : List ℕ) (m : ℕ) (hs : List Heard)
       → Answers sheet (plays (minutes t) t (misnamedBy hs) (unheardBy t m hs)) 0 (dueValues (eventsDue sheet t m hs))
   pub player-on : (sheet t : List ℕ) (m x : ℕ)
@@ -125,8 +126,8 @@ pub record Numbers : Type 0 where
   pub bench-solver : (sheet b : List ℕ) → Writes sheet (solves (length b / 2)) writtenValues 0 (benchSolving sheet b) b
   pub bench-lister : (sheet b m : List ℕ)
       → Writes sheet (lists (bytes b) sheet (minutesOf b) m) writtenValues 0 (benchListed sheet b m) m
-  pub bench-recoverer : (sheet bytes b : List ℕ)
-      → Writes sheet (recovers sheet bytes (length b / 2)) writtenValues 0 (benchRecovering sheet bytes b) b
+  pub bench-recoverer : (sheet printed b : List ℕ)
+      → Writes sheet (recovers sheet printed (length b / 2)) writtenValues 0 (benchRecovering sheet printed b) b
   pub bench-player : (sheet b : List ℕ) (m : ℕ) (text : List ℕ)
       → let t = minutesOf b in
       Answers sheet (plays (bytes b) t (misnamedIn text) (unheardBy t m (heardIn text))) 0

@@ -47,7 +47,7 @@ pub record SameAnswers (sheet other : List ℕ) : Type 0 where
   pub due-on : (t : List ℕ) (m x : ℕ) → eventsDueOn sheet t m x ≡ eventsDueOn other t m x
   pub bench-due : (b : List ℕ) (m : ℕ) (text : List ℕ) → benchDue sheet b m text ≡ benchDue other b m text
   pub listings : (t : Handed) (m : List ℕ) → listingOf sheet t m ≡ listingOf other t m
-  pub recoveries : (bytes : List ℕ) (m : Lent) → recoveringInto sheet bytes m ≡ recoveringInto other bytes m
+  pub recoveries : (printed : List ℕ) (m : Lent) → recoveringInto sheet printed m ≡ recoveringInto other printed m
   pub forms : (m : List ℕ) → housed sheet m ≡ housed other m
 
 pub record Reacting : Type 0 where

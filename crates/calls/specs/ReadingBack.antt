@@ -13,47 +13,54 @@ use Rattle.network.specs.declared.Network.{Network}
 use Rattle.listing.specs.Listing.{header, listing}
 use Rattle.readback.specs.Form.{Misfit, Unread}
 use Rattle.calls.specs.Values.{Values, turnedAway}
+use Rattle.calls.specs.Call.{Left}
+use Rattle.calls.specs.Lent.{Lent}
 use Rattle.calls.specs.Calls.{writtenValues, listed}
-use Rattle.calls.specs.Recover.{recovering}
-use Rattle.calls.specs.Answers.{Reads, WroteText}
+use Rattle.calls.specs.Recover.{recoveringInto}
+use Rattle.calls.specs.Answers.{Reads, Wrote, WroteText}
+use Rattle.calls.specs.declared.Written.{Written}
 
 -- a table "of the right length", whose minutes "run to 65,535 as the writer allows"
-pub record Table (Γ : Network) (σ : List ℕ) : Type 0 where
+pub record Printable (Γ : Network) (σ : List ℕ) : Type 0 where
   pub sized : length σ ≡ cells Γ
   pub short : Short σ
 
--- the bytes are the listing of a table
-pub record Printed (sheet : List ℕ) (Γ : Network) (bytes : List ℕ) : Type 0 where
+-- this is the listing of a table
+pub record Printed (sheet : List ℕ) (Γ : Network) (printed : List ℕ) : Type 0 where
   pub table : List ℕ
-  pub is-table : Table Γ table
-  pub is : bytes ≡ listing sheet Γ table
+  pub printable : Printable Γ table
+  pub is : printed ≡ listing sheet Γ table
 
-module _ (sheet bytes m : List ℕ) where
+-- the memory is lent as minutes, or for C as bytes
+module _ (sheet printed : List ℕ) (m : Lent) where
+  abbrev pub back : Left Written
+  back = recoveringInto sheet printed m
+
   -- the answer's values
   abbrev pub answer : Values ℕ
-  answer = writtenValues (recovering sheet bytes m .answer)
+  answer = writtenValues (back .answer)
 
   -- of an accepted sheet, whose network is Γ
   pub record ReadsBack (Γ : Network) : Type 0 where
     -- "a listing that is accepted prints back to its own bytes": a table was written, and everything behind it is
     -- unaltered; the call that lists this table writes these bytes
     pub prints-back : answer .number ≡ 0
-        → (σ : List ℕ) × Table Γ σ × WroteText σ m (recovering sheet bytes m)
-        × ((out : List ℕ) → length bytes ≤ length out → WroteText bytes out (listed sheet σ out))
+        → (σ : List ℕ) × Printable Γ σ × Wrote σ m back
+        × ((out : List ℕ) → length printed ≤ length out → WroteText printed out (listed sheet σ out))
     -- so a listing is accepted exactly where it is the listing of a table
-    pub accepted : cells Γ ≤ length m → (answer .number ≡ 0) ↔ Printed sheet Γ bytes
+    pub accepted : cells Γ ≤ m .room → (answer .number ≡ 0) ↔ Printed sheet Γ printed
     -- 18 "with the first listing line at fault", and 19
     pub misfit : (l : ℕ)
-        → (answer ≡ turnedAway 0 (refusal OtherForm l)) ↔ Misfit (header sheet Γ) (Γ .signals) (Γ .events) bytes l
+        → (answer ≡ turnedAway 0 (refusal OtherForm l)) ↔ Misfit (header sheet Γ) (Γ .signals) (Γ .events) printed l
     pub unread : (l : ℕ)
-        → (answer ≡ turnedAway 0 (refusal NoMinute l)) ↔ Unread (header sheet Γ) (Γ .signals) (Γ .events) bytes l
+        → (answer ≡ turnedAway 0 (refusal NoMinute l)) ↔ Unread (header sheet Γ) (Γ .signals) (Γ .events) printed l
 
 pub record ReadingBack : Type 0 where
-  pub reads-back : (sheet bytes m : List ℕ) (Γ : Network) → Reads sheet Γ → ReadsBack sheet bytes m Γ
+  pub reads-back : (sheet printed : List ℕ) (m : Lent) (Γ : Network) → Reads sheet Γ → ReadsBack sheet printed m Γ
   -- "Any table of the right length that was printed is recovered number for number", and everything behind it is
   -- unaltered
-  pub recovers : (sheet σ m : List ℕ) (Γ : Network) → Reads sheet Γ → Table Γ σ → cells Γ ≤ length m
-      → WroteText σ m (recovering sheet (listing sheet Γ σ) m)
+  pub recovers : (sheet σ : List ℕ) (m : Lent) (Γ : Network) → Reads sheet Γ → Printable Γ σ → cells Γ ≤ m .room
+      → Wrote σ m (recoveringInto sheet (listing sheet Γ σ) m)
   -- so a listing is that of one table only
-  pub one-table : (sheet σ τ : List ℕ) (Γ : Network) → Reads sheet Γ → Table Γ σ → Table Γ τ
+  pub one-table : (sheet σ τ : List ℕ) (Γ : Network) → Reads sheet Γ → Printable Γ σ → Printable Γ τ
       → listing sheet Γ σ ≡ listing sheet Γ τ → σ ≡ τ

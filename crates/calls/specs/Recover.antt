@@ -13,7 +13,7 @@ use Rattle.network.specs.declared.Network.{Network}
 use Rattle.listing.specs.Listing.{header}
 use Rattle.readback.specs.Rows.{misfit, fault, recovered}
 use Rattle.calls.specs.Call.{withoutLine, Tests, call, Left}
-use Rattle.calls.specs.Lent.{Lent, inPlace, inPairs}
+use Rattle.calls.specs.Lent.{Lent, inPlace}
 use Rattle.calls.specs.Calls.{enough, writing, refusing}
 use Rattle.calls.specs.declared.Written.{Written}
 
@@ -22,27 +22,27 @@ abbrev pub faultless : Option ℕ → Cause → Bool × Refusal
 faultless none c = (true, withoutLine c)
 faultless (some l) c = (false, refusal c l)
 
-module _ (sheet bytes : List ℕ) where
+-- the tests of a listing: the sheet has this header, k signals and n events, and there is room for its table or not
+abbrev pub recoveryTests : List ℕ → ℕ → ℕ → List ℕ → Bool × Refusal → Tests
+recoveryTests head k n printed room =
+    faultless (misfit head k n printed) OtherForm ∷ faultless (fault head k n printed) NoMinute ∷ room ∷ []
+
+module _ (sheet printed : List ℕ) where
   -- the first line that is not this sheet's, the first with a text that is no minute, and the table
   abbrev pub misfitIn : Network → Option ℕ
-  misfitIn Γ = misfit (header sheet Γ) (Γ .signals) (Γ .events) bytes
+  misfitIn Γ = misfit (header sheet Γ) (Γ .signals) (Γ .events) printed
 
   abbrev pub faultIn : Network → Option ℕ
-  faultIn Γ = fault (header sheet Γ) (Γ .signals) (Γ .events) bytes
+  faultIn Γ = fault (header sheet Γ) (Γ .signals) (Γ .events) printed
 
   abbrev pub recoveredIn : Network → List ℕ
-  recoveredIn Γ = recovered (header sheet Γ) (Γ .signals) (Γ .events) bytes
+  recoveredIn Γ = recovered (header sheet Γ) (Γ .signals) (Γ .events) printed
 
   abbrev pub recoveringTests : Lent → Network → Tests
-  recoveringTests m Γ =
-      faultless (misfitIn Γ) OtherForm ∷ faultless (faultIn Γ) NoMinute ∷ enough m (cells Γ) ∷ []
+  recoveringTests m Γ = recoveryTests (header sheet Γ) (Γ .signals) (Γ .events) printed (enough m (cells Γ))
 
   abbrev pub recoveringInto : Lent → Left Written
   recoveringInto m = call (refusing m) sheet (recoveringTests m) (λ Γ. writing m (recoveredIn Γ))
 
-  -- into minutes, and for C into bytes
   abbrev pub recovering : List ℕ → Left Written
   recovering m = recoveringInto (inPlace m)
-
-  abbrev pub benchRecovering : List ℕ → Left Written
-  benchRecovering b = recoveringInto (inPairs b)

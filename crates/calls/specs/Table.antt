@@ -41,14 +41,14 @@ formOn page sheet = orRefused (housed sheet page) (λ text. text)
 
 -- "`pass`, `late` with case and event, `rule` with case and rule, `unheard` with both cases and the event (numbers from
 -- 0, spaces between)", by the values of a verdict
-abbrev pub then : ℕ → List ℕ
-then n = ascii " " ++ decimal n
+abbrev pub spaced : ℕ → List ℕ
+spaced n = ascii " " ++ decimal n
 
 abbrev pub findingText : ℕ → ℕ → ℕ → ℕ → List ℕ
 findingText zero a b c = ascii "pass"
-findingText (suc zero) a b c = ascii "late" ++ then a ++ then b
-findingText (suc (suc zero)) a b c = ascii "rule" ++ then a ++ then b
-findingText (suc (suc (suc w))) a b c = ascii "unheard" ++ then a ++ then b ++ then c
+findingText (suc zero) a b c = ascii "late" ++ spaced a ++ spaced b
+findingText (suc (suc zero)) a b c = ascii "rule" ++ spaced a ++ spaced b
+findingText (suc (suc (suc w))) a b c = ascii "unheard" ++ spaced a ++ spaced b ++ spaced c
 
 abbrev pub verdictText : Values Finding → List ℕ
 verdictText v =
@@ -59,8 +59,8 @@ verdictText v =
     ]
 
 abbrev pub judgeOn : List ℕ → List ℕ → List ℕ → List ℕ
-judgeOn m sheet bytes =
-    orRefused (recovering sheet bytes m) (λ t. verdictText (judgementValues (judgement sheet t)))
+judgeOn m sheet printed =
+    orRefused (recovering sheet printed m) (λ t. verdictText (judgementValues (judgement sheet t)))
 
 -- as the programs lend them
 abbrev pub tableText : List ℕ → List ℕ
@@ -70,4 +70,4 @@ abbrev pub formText : List ℕ → List ℕ
 formText sheet = formOn (replicate longest 0) sheet
 
 abbrev pub judgeText : List ℕ → List ℕ → List ℕ
-judgeText sheet bytes = judgeOn (replicate L.cells 0) sheet bytes
+judgeText sheet printed = judgeOn (replicate L.cells 0) sheet printed

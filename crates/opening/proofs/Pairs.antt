@@ -12,7 +12,7 @@ use lib.ListN.{length, take, drop, length-take, length-drop, length-append}
 use lib.Seq.{take-at, length-take-le}
 use Rattle.prelude.specs.Checks.{Hold, FirstFails}
 use Rattle.prelude.proofs.Tests.{lt-or-ge}
-use Rattle.refusal.specs.declared.Cause.the-variants.{BufferTooShort, Inconsistent, OtherForm, NoMinute}
+use Rattle.refusal.specs.declared.Cause.the-variants.{BufferTooShort, Inconsistent}
 use Rattle.refusal.specs.declared.Refusal.{Refusal}
 use Rattle.network.specs.Build.{cells}
 use Rattle.network.specs.declared.Network.{Network}
@@ -27,7 +27,7 @@ use Rattle.calls.specs.Values.{done}
 use Rattle.calls.specs.Call.{withoutLine, Tests, call, Left, Leaves}
 use Rattle.calls.specs.Lent.{Lent, inPlace, inPairs}
 use Rattle.calls.specs.Calls.{writing, refusing, rests}
-use Rattle.calls.specs.Recover.{faultless, misfitIn, faultIn, recoveredIn}
+use Rattle.calls.specs.Recover.{recoveryTests, recoveredIn}
 use Rattle.calls.specs.Bench.{packedCount, packedLeft}
 use Rattle.calls.specs.declared.Written.{Written}
 use Rattle.calls.proofs.Call.{Ends, faulty, failed, worked, ends, call-refused, call-fails, call-works}
@@ -54,10 +54,7 @@ solver-fills sheet = record {
 abbrev pub reader-fills : (sheet bytes : List ℕ) → Fills sheet
 reader-fills sheet bytes = record {
   tests = λ roomy Γ.
-      faultless (misfitIn sheet bytes Γ) OtherForm
-      ∷ faultless (faultIn sheet bytes Γ) NoMinute
-      ∷ (roomy, withoutLine BufferTooShort)
-      ∷ [];
+      recoveryTests (header sheet Γ) (Γ .signals) (Γ .events) bytes (roomy, withoutLine BufferTooShort);
   text = recoveredIn sheet bytes;
   sized = λ a roomy h.
       let Γ = read sheet .network in

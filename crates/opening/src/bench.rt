@@ -9,7 +9,6 @@ ghost use Rattle.calls.specs.Values.{turnedAway, done};
 ghost use Rattle.calls.specs.Call.{Leaves};
 ghost use Rattle.calls.specs.Calls.{writtenValues, housed};
 ghost use Rattle.calls.specs.Play.{dueValues};
-ghost use Rattle.calls.specs.Recover.{benchRecovering};
 ghost use Rattle.calls.specs.Bench as B;
 ghost use Rattle.opening.specs.Taken.{Taken};
 ghost use Rattle.opening.specs.Packed.{HasRoom, packedTable};
@@ -168,7 +167,7 @@ pub extern "C" fn opening_listing(sheet: &[u8], table: &[u8], out: &mut [u8]) ->
 // The reader of listings for C.
 #[no_mangle]
 pub extern "C" fn opening_read_listing(sheet: &[u8], printed: &[u8], table: &mut [u8]) -> u64
-    ensures { λ r. ⌜ Leaves (B.packedLeft (benchRecovering (now (sheet .entry)) (now (printed .entry))
+    ensures { λ r. ⌜ Leaves (B.packedLeft (B.benchRecovering (now (sheet .entry)) (now (printed .entry))
         (now (table .entry)))) r (now (table .exit)) ⌝ }
 {
     let mut minutes = [0u16; Network::CELLS];

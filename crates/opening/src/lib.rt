@@ -34,7 +34,7 @@ pub const SHEET_BYTES: usize = sheet::LONGEST;
 
 pub const PRINTED_BYTES: usize = readback::LONGEST;
 
-// A refusal that concerns no line of the sheet.
+// A refusal that concerns no line.
 fn without_line(cause: Cause) -> Refusal
     ensures { λ r. ⌜ r ≡ withoutLine cause ⌝ }
 {

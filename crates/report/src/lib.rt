@@ -33,7 +33,7 @@ pub fn print_refusal(refusal: Refusal) {
 }
 
 // A space and the number.
-fn and(n: usize) {
+fn print_spaced(n: usize) {
     print(b" ");
     print_number(n as u64);
 }
@@ -41,8 +41,8 @@ fn and(n: usize) {
 // A word and two numbers.
 pub fn print_two(word: &[u8], a: usize, b: usize) {
     print(word);
-    and(a);
-    and(b);
+    print_spaced(a);
+    print_spaced(b);
 }
 
 // `late C E`, `rule C R` or `unheard S R E`
@@ -59,7 +59,7 @@ fn print_breach(breach: Breach) {
             event,
         } => {
             print_two(b"unheard", scenario, other);
-            and(event);
+            print_spaced(event);
         }
     }
     print(b"\n");

@@ -1,7 +1,7 @@
 // Runs the trials that data/titles.txt names and prints what the public calls make of each, then compares the solver
 // with the exhaustive search on the small sheets. What it is to print was written by another program, which shares
-// nothing with this one. What each request asks of a sheet is a file of its own, which trial.rt calls; reactions are in
-// the sheets, and the player of due.rt waits for them.
+// nothing with this one. What each request asks of a sheet is a file of its own; reactions are in the sheets, and the
+// player of due.rt waits for them.
 mod back;
 mod base;
 mod due;
