@@ -93,7 +93,7 @@
  *         it would be) or left over
  *     19  read_listing: a minute on the line is ill-formed (`05`, `-0`, `+5`, a space, nothing), negative or over 65,535
  *
- * 1 is tried before any line. Then the first line at fault decides, and on that line the lowest number. A fault of the sheet
+ * Of the sheet, 1 is tried before any line; then its first line at fault decides, and on it the lowest number. A fault of the sheet
  * (1 to 10) comes before all others. Then each call has its own, in this order: solve 12, 13; judge 11; due 11, 14, 15, 16;
  * listing 11, 12; house 17, 12; read_listing 18, 19, 12, where 18 is tried over the whole listing before any 19.
  *

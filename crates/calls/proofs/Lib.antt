@@ -1,8 +1,8 @@
 -- How a call ends; what settles an answer, and how a call's tests do; tables that are handed in; the edge of 17; the
--- judge, the solver, the writers, the reader of listings and the player in the papers' numbers; what holds of reading a
--- listing back; which numbers and lines each call answers; what the header's functions give back; what holds of playing,
--- of the house form, of networks that say the same and of reactions, and of what is printed, word by word; the demands;
--- and the trial sheets.
+-- judge, the solver, the writers, the reader of listings and the player in the papers' numbers; what holds of reading
+-- a listing back; which numbers and lines each call answers; what the header's functions give back; what holds of
+-- playing, of the house form, of networks that say the same and of reactions, and of what is printed, word by word;
+-- the demands; and the trial sheets.
 pub mod Call
 pub mod Settled
 pub mod Answers

@@ -11,7 +11,6 @@ use lib.Seq.{take-at}
 use Rattle.refusal.specs.Refusal.{numberOf}
 use Rattle.refusal.specs.declared.Refusal.{Refusal}
 use Rattle.refusal.proofs.Numbered.{numbered}
-use Rattle.network.specs.Limits as L
 use Rattle.calls.specs.Values.{Values, turnedAway}
 use Rattle.calls.specs.Call.{Left}
 use Rattle.calls.specs.Table.{refusedText, orRefused}

@@ -33,7 +33,6 @@ use Rattle.calls.specs.ReadingBack.{Printable}
 use Rattle.calls.specs.Table.{refusedText, verdictText, judgeOn}
 use Rattle.calls.specs.Numbers.{minutes}
 use Rattle.calls.specs.declared.Written.{Written}
-use Rattle.calls.specs.declared.Written.the-variants as W
 use Rattle.calls.proofs.Handed.{cells-few, minutes-rightly}
 use Rattle.calls.proofs.Judging.{judge-passes}
 use Rattle.calls.proofs.Words.{passText, refused-not-pass, pass-values}

@@ -31,7 +31,6 @@ use Rattle.calls.specs.Table.{refusedText, listingOn, tableOn, formOn}
 use Rattle.calls.specs.Numbers.{minutes}
 use Rattle.calls.specs.Printing.{Printing}
 use Rattle.calls.specs.declared.Written.{Written}
-use Rattle.calls.specs.declared.Written.the-variants as W
 use Rattle.calls.proofs.Handed.{cells-few, minutes-rightly}
 use Rattle.calls.proofs.Judging.{judge-passes}
 use Rattle.calls.proofs.Writing.{wrote, listing-wrote, house-wrote, house-many}

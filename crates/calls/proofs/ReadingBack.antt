@@ -20,7 +20,6 @@ use Rattle.listing.specs.Listing.{header}
 use Rattle.readback.proofs.Misfits.{misfit-iff}
 use Rattle.readback.proofs.Formed.{formed-iff}
 use Rattle.readback.proofs.Unread.{unread-iff, faultless-iff}
-use Rattle.readback.proofs.RoundTrip as T
 use Rattle.calls.specs.Values.{Values, turnedAway}
 use Rattle.calls.specs.Call.{Left}
 use Rattle.calls.specs.Lent.{Lent}
