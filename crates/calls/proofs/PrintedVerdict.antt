@@ -15,6 +15,7 @@ use Rattle.refusal.specs.declared.Cause.the-variants.{OtherForm, NoMinute}
 use Rattle.network.specs.Limits as L
 use Rattle.network.specs.Build.{scenarios, cells}
 use Rattle.network.specs.Solution.{Solution}
+use Rattle.network.specs.WellFormed.{WellFormed}
 use Rattle.network.specs.declared.Network.{Network}
 use Rattle.sheet.specs.Reading.{read}
 use Rattle.sheet.specs.declared.Outcome.the-variants.{Accepted}
@@ -28,7 +29,7 @@ use Rattle.calls.specs.Call.{Left}
 use Rattle.calls.specs.Lent.{asMinutes, inPlace}
 use Rattle.calls.specs.Calls.{judgement}
 use Rattle.calls.specs.Bench.{judgementValues}
-use Rattle.calls.specs.Recover.{misfitIn, faultIn, recoveredIn, recovering}
+use Rattle.calls.specs.Recover.{misfitIn, unreadIn, recoveredIn, recovering}
 use Rattle.calls.specs.ReadingBack.{Printable}
 use Rattle.calls.specs.Table.{refusedText, verdictText, judgeOn}
 use Rattle.calls.specs.Numbers.{minutes}
@@ -37,7 +38,7 @@ use Rattle.calls.proofs.Handed.{cells-few, minutes-rightly}
 use Rattle.calls.proofs.Judging.{judge-passes}
 use Rattle.calls.proofs.Words.{passText, refused-not-pass, pass-values}
 use Rattle.calls.proofs.Writing.{wrote}
-use Rattle.calls.proofs.Recovering.{refuses-misfit, refuses-fault}
+use Rattle.calls.proofs.Recovering.{refuses-misfit, refuses-unread}
 use Rattle.calls.proofs.Recovered.{recovers-into, found-table, printed-back}
 use Rattle.calls.proofs.OnPages.{wrote-on, refused-on}
 
@@ -62,12 +63,16 @@ module _ (sheet : List ℕ) (a : read sheet .outcome ≡ Accepted) where
   unread-on m bytes l y =
       let p = unread-iff (header sheet net) (net .signals) (net .events) bytes l .1 y in
       refused-on (recovering sheet bytes m) (refusal NoMinute l) (judged sheet)
-      (ap (λ (k : Left Written). k .answer) (refuses-fault sheet bytes (inPlace m) a (p .0) l (p .1)))
+      (ap (λ (k : Left Written). k .answer) (refuses-unread sheet bytes (inPlace m) a (p .0) l (p .1)))
 
-  pub judge-on : (m σ : List ℕ) → Printable net σ → L.cells ≤ length m → judgeOn m sheet (listing sheet net σ) ≡ judged sheet σ
+  wf : WellFormed net
+  wf = accepted-well-formed sheet a .0
+
+  pub judge-on : (m σ : List ℕ) → Printable net σ → L.cells ≤ length m
+      → judgeOn m sheet (listing sheet net σ) ≡ judged sheet σ
   judge-on m σ t h =
       wrote-on (recovering sheet (listing sheet net σ) m) σ m (judged sheet)
-      (wrote σ m (sym (recovers-into sheet a σ t (inPlace m) (omega (arith, cells-few (accepted-well-formed sheet a .0))))))
+      (wrote σ m (sym (recovers-into sheet a σ t (inPlace m) (omega (arith, cells-few wf)))))
 
   -- a good table can be printed
   good-printable : (σ : List ℕ) → Solution net σ → Printable net σ
@@ -78,7 +83,7 @@ module _ (sheet : List ℕ) (a : read sheet .outcome ≡ Accepted) where
           elim (lt-or-ge i (cells net)) [
             | inl h ↦
                 by-cell (net .events) (scenarios net) (λ j. getD σ j 0 ≤ 65535)
-                (λ s u l k. omega (arith, good .on-time s u l k .in-horizon, accepted-well-formed sheet a .0 .horizon)) i h
+                (λ s u l k. omega (arith, good .on-time s u l k .in-horizon, wf .horizon)) i h
             | inr h ↦ omega (arith, List·getD-eq-default σ 0 {n = i} (omega (arith, good .sized)))
           ]
 
@@ -96,11 +101,13 @@ module _ (sheet : List ℕ) (a : read sheet .outcome ≡ Accepted) where
     λ e.
         elim (some-or-none (misfitIn sheet bytes net)) [
           | inl w ↦
-              absurd (refused-not-pass (turnedAway 0 (refusal OtherForm (w .0))) (sym (misfit-on m bytes (w .0)
+              absurd (refused-not-pass (turnedAway 0 (refusal OtherForm (w .0)))
+              (sym (misfit-on m bytes (w .0)
               (misfit-iff (header sheet net) (net .signals) (net .events) bytes (w .0) .0 (w .1))) ∙ e))
-          | inr f ↦ elim (some-or-none (faultIn sheet bytes net)) [
+          | inr f ↦ elim (some-or-none (unreadIn sheet bytes net)) [
             | inl w ↦
-                absurd (refused-not-pass (turnedAway 0 (refusal NoMinute (w .0))) (sym (unread-on m bytes (w .0)
+                absurd (refused-not-pass (turnedAway 0 (refusal NoMinute (w .0)))
+                (sym (unread-on m bytes (w .0)
                 (unread-iff (header sheet net) (net .signals) (net .events) bytes (w .0) .0 (f, w .1))) ∙ e))
             | inr q ↦
                 let σ = recoveredIn sheet bytes net in

@@ -19,12 +19,12 @@ use Rattle.sheet.specs.declared.Outcome.the-variants.{Accepted}
 use Rattle.listing.specs.Listing.{header}
 use Rattle.readback.proofs.Misfits.{misfit-iff}
 use Rattle.readback.proofs.Formed.{formed-iff}
-use Rattle.readback.proofs.Unread.{unread-iff, faultless-iff}
+use Rattle.readback.proofs.Unread.{unread-iff, minutes-iff}
 use Rattle.calls.specs.Values.{Values, turnedAway}
 use Rattle.calls.specs.Call.{Left}
 use Rattle.calls.specs.Lent.{Lent}
 use Rattle.calls.specs.Calls.{writtenValues, writing, refusing}
-use Rattle.calls.specs.Recover.{misfitIn, faultIn, recoveredIn, recoveringTests, recoveringInto}
+use Rattle.calls.specs.Recover.{misfitIn, unreadIn, recoveredIn, recoveringTests, recoveringInto}
 use Rattle.calls.specs.Answers.{Reads, Answers, Wrote}
 use Rattle.calls.specs.Numbers.{recovers}
 use Rattle.calls.specs.ReadingBack.{Printed, answer, ReadsBack, ReadingBack}
@@ -32,7 +32,7 @@ use Rattle.calls.specs.declared.Written.{Written}
 use Rattle.calls.proofs.Call.{Ends, faulty, failed, worked, ends}
 use Rattle.calls.proofs.Settled.{number-of}
 use Rattle.calls.proofs.Writing.{wrote-into}
-use Rattle.calls.proofs.Recovering.{holds-none, recoverer-writes, refuses-misfit, refuses-fault, recovers-table}
+use Rattle.calls.proofs.Recovering.{holds-none, recoverer-writes, refuses-misfit, refuses-unread, recovers-table}
 use Rattle.calls.proofs.Recovered.{recovered, recovers-into, found-table, printed-back, listed-back}
 
 abbrev values-of : Left Written → Values ℕ
@@ -54,7 +54,7 @@ module _ (sheet : List ℕ) (a : read sheet .outcome ≡ Accepted) (bytes : List
   -- no refusal: nothing is at fault, and there is room
   record Whole : Type 0 where
     formed : misfitIn sheet bytes net ≡ none
-    faultless : faultIn sheet bytes net ≡ none
+    faultless : unreadIn sheet bytes net ≡ none
     room : cells net ≤ m .room
 
   refusal-numbered : (r : Refusal) → refusing m r ≡ left → answer sheet bytes m .number ≡ 0 → ⊥
@@ -68,7 +68,7 @@ module _ (sheet : List ℕ) (a : read sheet .outcome ≡ Accepted) (bytes : List
       by-end (failed p r f e) = absurd (refusal-numbered r e z)
       by-end (worked p h e) = record {
         formed = holds-none OtherForm (misfitIn sheet bytes net) (h .0);
-        faultless = holds-none NoMinute (faultIn sheet bytes net) (h .1 .0);
+        faultless = holds-none NoMinute (unreadIn sheet bytes net) (h .1 .0);
         room = leb-true (cells net) (m .room) (h .1 .1 .0);
       }
 
@@ -102,9 +102,9 @@ module _ (sheet : List ℕ) (a : read sheet .outcome ≡ Accepted) (bytes : List
   misfit-so : (l : ℕ) → misfitIn sheet bytes net ≡ some l → answer sheet bytes m ≡ turned (refusal OtherForm l)
   misfit-so l e = ap values-of (refuses-misfit sheet bytes m a l e)
 
-  fault-so : (l : ℕ) → misfitIn sheet bytes net ≡ none → faultIn sheet bytes net ≡ some l
+  unread-so : (l : ℕ) → misfitIn sheet bytes net ≡ none → unreadIn sheet bytes net ≡ some l
       → answer sheet bytes m ≡ turned (refusal NoMinute l)
-  fault-so l e q = ap values-of (refuses-fault sheet bytes m a e l q)
+  unread-so l e q = ap values-of (refuses-unread sheet bytes m a e l q)
 
   line-is : (c : Cause) (l k : ℕ) → turned (refusal c l) ≡ turned (refusal c k) → l ≡ k
   line-is c l k e = ap (λ (v : Values ℕ). v .line) e
@@ -119,7 +119,7 @@ module _ (sheet : List ℕ) (a : read sheet .outcome ≡ Accepted) (bytes : List
       ]
 
   unread-of : (l : ℕ) → answer sheet bytes m ≡ turned (refusal NoMinute l)
-      → (misfitIn sheet bytes net ≡ none) × (faultIn sheet bytes net ≡ some l)
+      → (misfitIn sheet bytes net ≡ none) × (unreadIn sheet bytes net ≡ some l)
   unread-of l q =
       elim (some-or-none (misfitIn sheet bytes net)) [
         | inl w ↦ absurd (other-number (ap number-of (sym (misfit-so (w .0) (w .1)) ∙ q)))
@@ -129,14 +129,14 @@ module _ (sheet : List ℕ) (a : read sheet .outcome ≡ Accepted) (bytes : List
       other-number : _≡_ {A = ℕ} 18 19 → ⊥
       other-number z = omega arith
 
-      at-fault : misfitIn sheet bytes net ≡ none → faultIn sheet bytes net ≡ some l
+      at-fault : misfitIn sheet bytes net ≡ none → unreadIn sheet bytes net ≡ some l
       at-fault e =
           let formed = formed-iff (header sheet net) (net .signals) (net .events) bytes .0 e in
-          elim (some-or-none (faultIn sheet bytes net)) [
-            | inl w ↦ w .1 ∙ ap some (line-is NoMinute (w .0) l (sym (fault-so (w .0) e (w .1)) ∙ q))
+          elim (some-or-none (unreadIn sheet bytes net)) [
+            | inl w ↦ w .1 ∙ ap some (line-is NoMinute (w .0) l (sym (unread-so (w .0) e (w .1)) ∙ q))
             | inr f ↦
                 let n = numbers-of .exactly net reads .1 (λ other. other formed) .0 .0 (ap number-of q) in
-                absurd (n .1 (faultless-iff (header sheet net) (net .signals) (net .events) bytes (n .0) .0 f))
+                absurd (n .1 (minutes-iff (header sheet net) (net .signals) (net .events) bytes (n .0) .0 f))
           ]
 
   reads-back : ReadsBack sheet bytes m net
@@ -154,7 +154,7 @@ module _ (sheet : List ℕ) (a : read sheet .outcome ≡ Accepted) (bytes : List
         (λ q. iff .0 (misfit-of l q), λ x. misfit-so l (iff .1 x));
     unread = λ l.
         let iff = unread-iff (header sheet net) (net .signals) (net .events) bytes l in
-        (λ q. iff .0 (unread-of l q), λ y. let p = iff .1 y in fault-so l (p .0) (p .1));
+        (λ q. iff .0 (unread-of l q), λ y. let p = iff .1 y in unread-so l (p .0) (p .1));
   }
 
 pub reading-back : ReadingBack

@@ -16,7 +16,7 @@ use Rattle.listing.proofs.Short.{listing-short}
 use Rattle.readback.proofs.RoundTrip as T
 use Rattle.calls.specs.Lent.{Lent, asMinutes}
 use Rattle.calls.specs.Calls.{writing, listed}
-use Rattle.calls.specs.Recover.{misfitIn, faultIn, recoveredIn, recoveringInto}
+use Rattle.calls.specs.Recover.{misfitIn, unreadIn, recoveredIn, recoveringInto}
 use Rattle.calls.specs.Answers.{WroteText}
 use Rattle.calls.specs.Numbers.{minutes, recovers}
 use Rattle.calls.specs.ReadingBack.{Printable}
@@ -31,7 +31,7 @@ module _ (sheet : List ℕ) (a : read sheet .outcome ≡ Accepted) where
 
   pub record Recovered (σ : List ℕ) : Type 0 where
     pub formed : misfitIn sheet (listing sheet net σ) net ≡ none
-    pub faultless : faultIn sheet (listing sheet net σ) net ≡ none
+    pub faultless : unreadIn sheet (listing sheet net σ) net ≡ none
     pub table : recoveredIn sheet (listing sheet net σ) net ≡ σ
 
   pub recovered : (σ : List ℕ) → Printable net σ → Recovered σ
@@ -42,7 +42,7 @@ module _ (sheet : List ℕ) (a : read sheet .outcome ≡ Accepted) where
       let head = header sheet net in
       record {
         formed = T.printed-fits head (net .signals) (net .events) σ (t .short) (omega (arith, few));
-        faultless = T.printed-faultless head (net .signals) (net .events) σ (t .short) (omega (arith, few));
+        faultless = T.printed-minutes head (net .signals) (net .events) σ (t .short) (omega (arith, few));
         table = T.recovers head (net .signals) (net .events) σ (t .short) (omega (arith, few)) (t .sized);
       }
 
@@ -57,7 +57,7 @@ module _ (sheet : List ℕ) (a : read sheet .outcome ≡ Accepted) where
     abbrev found : List ℕ
     found = recoveredIn sheet bytes net
 
-    module _ (e : misfitIn sheet bytes net ≡ none) (q : faultIn sheet bytes net ≡ none) where
+    module _ (e : misfitIn sheet bytes net ≡ none) (q : unreadIn sheet bytes net ≡ none) where
       pub found-table : Printable net found
       found-table = record {
         sized = T.length-recovered (header sheet net) (net .signals) (net .events) bytes;

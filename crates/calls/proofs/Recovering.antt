@@ -24,11 +24,11 @@ use Rattle.listing.proofs.Truths.{few-scenarios}
 use Rattle.readback.specs.Form.{Misfit}
 use Rattle.readback.proofs.Formed.{formed-iff}
 use Rattle.readback.proofs.Misfits.{misfit-iff}
-use Rattle.readback.proofs.Unread.{unread-iff, faultless-iff}
+use Rattle.readback.proofs.Unread.{unread-iff, minutes-iff}
 use Rattle.calls.specs.Call.{Left}
 use Rattle.calls.specs.Lent.{Lent}
 use Rattle.calls.specs.Calls.{writtenValues, writing, refusing}
-use Rattle.calls.specs.Recover.{faultless, misfitIn, faultIn, recoveredIn, recoveringTests, recoveringInto}
+use Rattle.calls.specs.Recover.{faultless, misfitIn, unreadIn, recoveredIn, recoveringTests, recoveringInto}
 use Rattle.calls.specs.Answers.{hasLine, Writes}
 use Rattle.calls.specs.Numbers.{otherForm, noMinute, recovers}
 use Rattle.calls.specs.declared.Written.{Written}
@@ -79,9 +79,9 @@ module _ (sheet bytes : List ℕ) where
             let few = few-scenarios (net .signals) (wf .signals) in
             (omega (arith, x .is-line), omega (arith, x .is-line, x .within))
 
-    fault-near : misfitIn sheet bytes net ≡ none → (l : ℕ) → faultIn sheet bytes net ≡ some l
+    unread-near : misfitIn sheet bytes net ≡ none → (l : ℕ) → unreadIn sheet bytes net ≡ some l
         → (1 ≤ l) × (l ≤ suc longest)
-    fault-near e l q =
+    unread-near e l q =
         let y = unread-iff head (net .signals) (net .events) bytes l .0 (e, q) in
         let few = few-scenarios (net .signals) (wf .signals) in
         (omega (arith, y .is-line), omega (arith, y .is-line, y .within))
@@ -93,16 +93,16 @@ module _ (sheet bytes : List ℕ) where
         λ n. fails-some OtherForm (misfitIn sheet bytes net) (λ e. n (formed .0 e)),
       )
 
-  fault-fails : misfitIn sheet bytes net ≡ none
-      → (faultless (faultIn sheet bytes net) NoMinute .0 ≡ false) ↔ noMinute sheet bytes net
-  fault-fails e =
+  unread-fails : misfitIn sheet bytes net ≡ none
+      → (faultless (unreadIn sheet bytes net) NoMinute .0 ≡ false) ↔ noMinute sheet bytes net
+  unread-fails e =
       let formed = formed-iff head (net .signals) (net .events) bytes in
-      let all = faultless-iff head (net .signals) (net .events) bytes in (
+      let all = minutes-iff head (net .signals) (net .events) bytes in (
         λ f. (
           formed .0 e,
-          λ m. none-fails NoMinute (faultIn sheet bytes net) f (all (formed .0 e) .1 m),
+          λ m. none-fails NoMinute (unreadIn sheet bytes net) f (all (formed .0 e) .1 m),
         ),
-        λ p. fails-some NoMinute (faultIn sheet bytes net) (λ q. p .1 (all (p .0) .0 q)),
+        λ p. fails-some NoMinute (unreadIn sheet bytes net) (λ q. p .1 (all (p .0) .0 q)),
       )
 
   module _ (m : Lent) where
@@ -119,8 +119,8 @@ module _ (sheet bytes : List ℕ) where
           misfit-fails,
           λ h.
               let e = holds-none OtherForm (misfitIn sheet bytes net) h in (
-                lined NoMinute (faultIn sheet bytes net) 19 refl refl (fault-near a e),
-                fault-fails e,
+                lined NoMinute (unreadIn sheet bytes net) 19 refl refl (unread-near a e),
+                unread-fails e,
                 λ _. (
                   λ _. unlined refl refl,
                   (leb-false (cells net) (m .room), lt-leb (cells net) (m .room)),
@@ -139,13 +139,13 @@ module _ (sheet bytes : List ℕ) where
           (refusal OtherForm l) (rw e (inl (refl, refl))))
 
       module _ (e : misfitIn sheet bytes net ≡ none) where
-        pub refuses-fault : (l : ℕ) → faultIn sheet bytes net ≡ some l
+        pub refuses-unread : (l : ℕ) → unreadIn sheet bytes net ≡ some l
             → recoveringInto sheet bytes m ≡ refusing m (refusal NoMinute l)
-        refuses-fault l q =
+        refuses-unread l q =
             sym (call-fails (refusing m) sheet (recoveringTests sheet bytes m) work (read sheet) refl a
             (refusal NoMinute l) (inr (none-holds OtherForm _ e, rw q (inl (refl, refl)))))
 
-        pub recovers-table : faultIn sheet bytes net ≡ none → cells net ≤ m .room
+        pub recovers-table : unreadIn sheet bytes net ≡ none → cells net ≤ m .room
             → recoveringInto sheet bytes m ≡ writing m (recoveredIn sheet bytes net)
         recovers-table q room =
             sym (call-works (refusing m) sheet (recoveringTests sheet bytes m) work (read sheet) refl a

@@ -11,7 +11,7 @@ use Rattle.refusal.specs.declared.Refusal.{Refusal}
 use Rattle.network.specs.Build.{cells}
 use Rattle.network.specs.declared.Network.{Network}
 use Rattle.listing.specs.Listing.{header}
-use Rattle.readback.specs.Rows.{misfit, fault, recovered}
+use Rattle.readback.specs.Rows.{misfit, unread, recovered}
 use Rattle.calls.specs.Call.{withoutLine, Tests, call, Left}
 use Rattle.calls.specs.Lent.{Lent, inPlace}
 use Rattle.calls.specs.Calls.{enough, writing, refusing}
@@ -25,15 +25,15 @@ faultless (some l) c = (false, refusal c l)
 -- the tests of a listing: the sheet has this header, k signals and n events, and there is room for its table or not
 abbrev pub recoveryTests : List ℕ → ℕ → ℕ → List ℕ → Bool × Refusal → Tests
 recoveryTests head k n printed room =
-    faultless (misfit head k n printed) OtherForm ∷ faultless (fault head k n printed) NoMinute ∷ room ∷ []
+    faultless (misfit head k n printed) OtherForm ∷ faultless (unread head k n printed) NoMinute ∷ room ∷ []
 
 module _ (sheet printed : List ℕ) where
   -- the first line that is not this sheet's, the first with a text that is no minute, and the table
   abbrev pub misfitIn : Network → Option ℕ
   misfitIn Γ = misfit (header sheet Γ) (Γ .signals) (Γ .events) printed
 
-  abbrev pub faultIn : Network → Option ℕ
-  faultIn Γ = fault (header sheet Γ) (Γ .signals) (Γ .events) printed
+  abbrev pub unreadIn : Network → Option ℕ
+  unreadIn Γ = unread (header sheet Γ) (Γ .signals) (Γ .events) printed
 
   abbrev pub recoveredIn : Network → List ℕ
   recoveredIn Γ = recovered (header sheet Γ) (Γ .signals) (Γ .events) printed

@@ -24,7 +24,7 @@ use Rattle.calls.specs.Recover.{misfitIn, recoveredIn, recoveringTests, recover
 use Rattle.calls.specs.declared.Written.{Written}
 use Rattle.calls.specs.declared.Written.the-variants as W
 use Rattle.calls.proofs.Call.{call-refused, call-fails}
-use Rattle.calls.proofs.Recovering.{none-holds, refuses-misfit, refuses-fault, recovers-table}
+use Rattle.calls.proofs.Recovering.{none-holds, refuses-misfit, refuses-unread, recovers-table}
 use Rattle.opening.specs.Prologue.{readBack}
 use Rattle.opening.proofs.Leaves.{leaves-as, kept}
 
@@ -46,7 +46,7 @@ module _ (sheet bytes m : List ℕ) where
 
     by-times : misfitIn sheet bytes net ≡ none → (x : List ℕ) (r : Answer)
         → TimesRead bytes (length (header sheet net)) (net .signals) (net .events) m x r → Back x r
-    by-times e x r (no-minute l q) = kept m _ (sym (refuses-fault sheet bytes (inPlace m) a e l q))
+    by-times e x r (no-minute l q) = kept m _ (sym (refuses-unread sheet bytes (inPlace m) a e l q))
     by-times e x r (short q h) =
         kept m _
         (call-fails (refusing (inPlace m)) sheet (recoveringTests sheet bytes (inPlace m)) work (read sheet) refl a _

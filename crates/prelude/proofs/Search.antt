@@ -1,7 +1,7 @@
 -- Laws of bounded search. A loop over i has the invariant `Searching f n i`: nothing below i answers. It begins by
 -- `searching-start`, goes on by `searching-on`, and is left by `found-at` with an answer or by `found-nothing` at the
 -- end. What a search found is the first answer (`some-of-firstBelow`), and what it did not find is nowhere
--- (`none-of-firstBelow`). Assumes nothing.
+-- (`none-of-firstBelow`); where it looks for a test that fails, all pass (`all-pass`). Assumes nothing.
 use mathlib.Core.Path.{_≡_, refl, sym, _∙_}
 use mathlib.Core.Logic.{_⊎_, inl, inr}
 use mathlib.Core.Bool.{Bool, true, false}
@@ -165,3 +165,14 @@ module _ {A : Type 0} where
   pub unanswered : (o : Option A) → answers o ≡ false → o ≡ none
   unanswered none e = refl
   unanswered (some a) e = zero-is-one cc
+
+  -- the first that fails a test: there is none exactly where each passes
+  module _ (test : ℕ → Bool) (answer : ℕ → A) (n : ℕ) where
+    abbrev failing : ℕ → Option A
+    failing k = unless (test k) (answer k)
+
+    pub all-pass : firstBelow n failing ≡ none → (k : ℕ) → k < n → test k ≡ true
+    all-pass e k h = true-of-unless (test k) (answer k) (none-of-firstBelow failing n e k h)
+
+    pub none-of-all-pass : ((k : ℕ) → k < n → test k ≡ true) → firstBelow n failing ≡ none
+    none-of-all-pass p = firstBelow-none failing n (λ k h. unless-true (test k) (answer k) (p k h))

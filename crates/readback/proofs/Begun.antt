@@ -34,7 +34,7 @@ module _ (head : List ℕ) (k n : ℕ) (bytes : List ℕ) where
   fits = rowFits bytes (length head) k n
 
   abbrev texts : ℕ → ℕ → List ℕ
-  texts = textOf head k n bytes
+  texts = textOf head bytes
 
   header-fits : (rest : List ℕ) → bytes ≡ head ++ rest → headerFits head bytes ≡ true
   header-fits rest e =

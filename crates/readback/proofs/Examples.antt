@@ -13,7 +13,7 @@ use Rattle.prelude.specs.Bytes.{ascii, same}
 use Rattle.text.specs.Lines.{lineFeed}
 use Rattle.text.specs.Number.{isNumber, inRange}
 use Rattle.readback.specs.Minute.{isMinute, minuteOf}
-use Rattle.readback.specs.Rows.{isRow, areMinutes, rowsMisfit, rowsFault, rowsTable, misfit, fault, recovered}
+use Rattle.readback.specs.Rows.{isRow, areMinutes, rowsMisfit, rowsUnread, rowsTable, misfit, unread, recovered}
 
 -- lines of text, each with its line feed
 abbrev lines : List String → List ℕ
@@ -99,12 +99,12 @@ answered e none none σ = eqb (e .number) 0 && same (e .table) σ
 abbrev agrees : Example → Bool
 agrees e =
     let head = ascii "case,start,call" ++ lineFeed ∷ [] in
-    answered e (misfit head 1 2 (e .bytes)) (fault head 1 2 (e .bytes)) (recovered head 1 2 (e .bytes))
+    answered e (misfit head 1 2 (e .bytes)) (unread head 1 2 (e .bytes)) (recovered head 1 2 (e .bytes))
 
 abbrev allAgree : List Example → Bool
 allAgree [] = true
 allAgree (e ∷ es) = agrees e && allAgree es
 
 pub examples-agree : allAgree examples ≡ true
-unfolding isNumber inRange isMinute minuteOf isRow areMinutes rowsMisfit rowsFault rowsTable misfit
+unfolding isNumber inRange isMinute minuteOf isRow areMinutes rowsMisfit rowsUnread rowsTable misfit
 examples-agree = refl

@@ -1,64 +1,23 @@
--- Laws of the fields of a line one by one: a field is what stands from its start up to the next comma (`upTo-field`),
--- and the next begins behind that. The pass over the texts of a row goes so (`Row-reading`). Assumes nothing.
+-- Laws of the fields of a line one by one: a field is what stands from its start up to the next comma, and the next
+-- begins behind that. The pass over the texts of a row goes so (`Row-reading`). Assumes nothing.
 use mathlib.Core.Path.{_≡_, refl, sym, _∙_, ap}
 use mathlib.Core.Logic.{inl, inr}
 use mathlib.Core.Bool.{Bool, true, false}
-use mathlib.Core.List.{List, [], _∷_}
-use Prim.Native.Nat.{ℕ, zero, suc, _+_, _-_, _≤_, _<_}
+use mathlib.Core.List.{List}
+use Prim.Native.Nat.{ℕ, suc, _+_, _-_, _≤_, _<_}
 use native.Mathlib.Numerals.{add-one}
 use native.Mathlib.Omega.{arith}
-use borrow.Author.Tests.{eq-eqb, ne-eqb}
-use lib.Dec.{eqb}
 use lib.ListN.{length, getD, take, drop}
 use lib.Seq.{getD-set-same, getD-set-other}
 use Rattle.prelude.proofs.Tests.{clash, eq-or-ne}
 use Rattle.prelude.proofs.Bounded.{Passing, passing-start, passing-on, failed-at, passed-all}
-use Rattle.text.specs.Lines.{comma, upTo, fields, field, intoFirst}
-use Rattle.text.specs.Cuts.{startOf, endOf}
+use Rattle.text.specs.Lines.{comma, upTo, fields}
+use Rattle.text.specs.Cuts.{endOf}
 use Rattle.text.proofs.Lines.{take-drop, take-upTo}
-use Rattle.text.proofs.Fields.{fields-comma, fields-byte, length-intoFirst, 1-le-fields, endOf-intoFirst}
-use Rattle.text.proofs.Fields.{endOf-is, endOf-le}
+use Rattle.text.proofs.Fields.{1-le-fields, endOf-is, endOf-le, upTo-field}
 use Rattle.readback.specs.Minute.{isMinute, minuteOf}
 use Rattle.readback.specs.Rows.{textIn, areMinutes}
 use Rattle.readback.specs.Answers.{MinutePut, RowRead}
-
--- behind a comma a line begins anew, and a byte that is none goes into the first field
-start-behind : (k : ℕ) (fs : List (List ℕ)) → startOf (suc k) ([] ∷ fs) ≡ suc (startOf k fs)
-start-behind zero fs = omega arith
-start-behind (suc k) fs = omega arith
-
-field-into : (b k : ℕ) (s : List ℕ) (fs : List (List ℕ)) → eqb b comma ≡ false → 1 ≤ length fs
-    → upTo comma (drop (startOf k fs) s) ≡ field k fs
-    → upTo comma (drop (startOf k (intoFirst b fs)) (b ∷ s)) ≡ field k (intoFirst b fs)
-field-into b k s [] n h e = absurd (omega arith)
-field-into b zero s (f ∷ fs) n h e = rw (n, upTo, e)
-field-into b (suc k) s (f ∷ fs) n h e =
-    let z : startOf (suc k) ((b ∷ f) ∷ fs) ≡ suc (startOf (suc k) (f ∷ fs)) =
-    omega (arith, endOf-intoFirst b k (f ∷ fs) h) in
-    rw z e
-
--- field k is what stands from its start up to the next comma
-pub upTo-field : (k : ℕ) (l : List ℕ) → k < length (fields l)
-    → upTo comma (drop (startOf k (fields l)) l) ≡ field k (fields l)
-upTo-field zero [] h = refl
-upTo-field (suc k) [] h = absurd (omega arith)
-upTo-field zero (b ∷ s) h =
-    elim (eq-or-ne b comma) [
-      | inl e ↦ rw (fields-comma b s e, eq-eqb b comma e, upTo)
-      | inr n ↦
-          rw (fields-byte b s n)
-          (field-into b 0 s (fields s) (ne-eqb b comma n) (1-le-fields s) (upTo-field 0 s (1-le-fields s)))
-    ]
-upTo-field (suc k) (b ∷ s) h =
-    elim (eq-or-ne b comma) [
-      | inl e ↦
-          let m : suc k < suc (length (fields s)) = rw (fields-comma b s e) at h in
-          rw (fields-comma b s e, start-behind k (fields s)) (upTo-field k s (omega arith))
-      | inr n ↦
-          let m : suc k < length (fields s) = rw (fields-byte b s n, length-intoFirst) at h in
-          rw (fields-byte b s n)
-          (field-into b (suc k) s (fields s) (ne-eqb b comma n) (1-le-fields s) (upTo-field (suc k) s m))
-    ]
 
 -- field u of l ends here
 pub record Reached (l : List ℕ) (u at : ℕ) : Type 0 where

@@ -11,11 +11,11 @@ use borrow.Author.Tests.{leb-true, le-ltb, ltb-false}
 use lib.Dec.{leb, ltb}
 use lib.ListN.{length, length-drop, drop-of-length-le}
 use Rattle.prelude.specs.Search.{firstBelow, unless}
-use Rattle.prelude.proofs.Search.{orElse-none, true-of-unless, when-none}
+use Rattle.prelude.proofs.Search.{orElse-none, true-of-unless, when-none, all-pass, none-of-all-pass}
 use Rattle.listing.specs.Listing.{listingOver}
-use Rattle.readback.specs.Form.{longest, Fitting, Formed}
+use Rattle.readback.specs.Form.{longestRead, Fitting, Formed}
 use Rattle.readback.specs.Rows.{lineNumber, placeOf, rowFits, rowMisfit, rowsMisfit, headerFits, textOf, misfit}
-use Rattle.readback.proofs.Passes.{all-pass, none-fails, rows-decide}
+use Rattle.readback.proofs.Passes.{rows-decide}
 use Rattle.readback.proofs.Begun.{FitsTo, StandsTo, stands-to, begins, texts-plain}
 
 module _ (head : List ℕ) (k n : ℕ) (bytes : List ℕ) where
@@ -33,21 +33,21 @@ module _ (head : List ℕ) (k n : ℕ) (bytes : List ℕ) where
 
   -- the tests in order, where none answers
   record Right : Type 0 where
-    short : length bytes ≤ longest
+    short : length bytes ≤ longestRead
     fit : FitsTo head k n bytes (2 ^ k)
     ended : length bytes ≤ place (2 ^ k)
 
   right-of-none : misfit head k n bytes ≡ none → Right
   unfolding misfit rowsMisfit
   right-of-none e =
-      let a = orElse-none (unless (leb (length bytes) longest) 1) _ e in
+      let a = orElse-none (unless (leb (length bytes) longestRead) 1) _ e in
       let b = orElse-none (unless (headerFits head bytes) 1) _ (a .1) in
       let d = orElse-none (firstBelow (2 ^ k) misfits) _ (b .1) in
       record {
-        short = leb-true (length bytes) longest (true-of-unless (leb (length bytes) longest) 1 (a .0));
+        short = leb-true (length bytes) longestRead (true-of-unless (leb (length bytes) longestRead) 1 (a .0));
         fit = record {
           header = true-of-unless (headerFits head bytes) 1 (b .0);
-          rows = all-pass fits (2 ^ k) (d .0);
+          rows = all-pass fits lineNumber (2 ^ k) (d .0);
         };
         ended = ltb-false (place (2 ^ k)) (length bytes)
             (when-none (ltb (place (2 ^ k)) (length bytes)) (lineNumber (2 ^ k)) (d .1));
@@ -57,19 +57,19 @@ module _ (head : List ℕ) (k n : ℕ) (bytes : List ℕ) where
   unfolding rowsMisfit
   none-of-right r =
       rows-decide head k n bytes (r .short) (r .fit .header)
-      ∙ rw (none-fails fits (2 ^ k) (r .fit .rows), le-ltb (place (2 ^ k)) (length bytes) (r .ended))
+      ∙ rw (none-of-all-pass fits lineNumber (2 ^ k) (r .fit .rows), le-ltb (place (2 ^ k)) (length bytes) (r .ended))
 
   -- rows that all fit, and nothing behind them: a listing over its own texts
   listed : FitsTo head k n bytes (2 ^ k) → length bytes ≤ place (2 ^ k)
-      → bytes ≡ listingOver k n (textOf head k n bytes) head
+      → bytes ≡ listingOver k n (textOf head bytes) head
   listed fit ended =
       begins head k n bytes (2 ^ k) fit
-      ∙ ap (λ (x : List ℕ). listingOver k n (textOf head k n bytes) head ++ x) (drop-of-length-le bytes ended)
-      ∙ append-nil (listingOver k n (textOf head k n bytes) head)
+      ∙ ap (λ (x : List ℕ). listingOver k n (textOf head bytes) head ++ x) (drop-of-length-le bytes ended)
+      ∙ append-nil (listingOver k n (textOf head bytes) head)
 
   pub fitting : FitsTo head k n bytes (2 ^ k) → length bytes ≤ place (2 ^ k) → Fitting head k n bytes
   fitting fit ended = record {
-    texts = textOf head k n bytes;
+    texts = textOf head bytes;
     are-texts = texts-plain head k n bytes (2 ^ k);
     is = listed fit ended;
   }
@@ -95,5 +95,5 @@ module _ (head : List ℕ) (k n : ℕ) (bytes : List ℕ) where
 
   -- the texts of a listing that is formed are those that are read
   pub texts-read : (x : Formed head k n bytes) (s u : ℕ) → s < 2 ^ k → u < n
-      → textOf head k n bytes s u ≡ x .fitting .texts s u
+      → textOf head bytes s u ≡ x .fitting .texts s u
   texts-read x s u h g = stands-all (x .fitting) .same-texts s u h g

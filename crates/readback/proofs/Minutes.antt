@@ -14,7 +14,8 @@ use Rattle.text.specs.declared.Number.the-variants as Num
 use Rattle.text.proofs.ReadAs.{number-ill, range-minus, range-high, range-in}
 use Rattle.text.proofs.Numbers.{isNumber-decimal, magnitude-decimal, inRange-decimal, plain-decimal, decimal-magnitude}
 use Rattle.listing.specs.Listing.{timeText}
-use Rattle.readback.specs.Minute.{latest, isMinute, minuteOf, minuteIn}
+use Rattle.readback.specs.Minute.{latest, isMinute, minuteOf}
+use Rattle.readback.specs.Answers.{minuteIn}
 use Rattle.readback.specs.declared.Minute.the-variants as M
 
 -- what an answer says of the text

@@ -13,10 +13,10 @@ use lib.ListN.{length}
 use Rattle.prelude.specs.Search.{orElse, firstBelow, unless}
 use Rattle.prelude.proofs.Tests.{clash, lt-or-ge}
 use Rattle.prelude.proofs.Search.{some-or-none, FoundAt, some-of-firstBelow}
-use Rattle.prelude.proofs.Search.{orElse-some, true-of-unless, unless-some, when-some}
-use Rattle.readback.specs.Form.{longest, Fitting, Stand, Next, FirstMisfit, Misfit}
+use Rattle.prelude.proofs.Search.{orElse-some, true-of-unless, unless-some, when-some, all-pass}
+use Rattle.readback.specs.Form.{longestRead, Fitting, Stand, Next, FirstMisfit, Misfit}
 use Rattle.readback.specs.Rows.{lineNumber, placeOf, rowFits, rowMisfit, rowsMisfit, headerFits, misfit}
-use Rattle.readback.proofs.Passes.{all-pass, length-decides}
+use Rattle.readback.proofs.Passes.{length-decides}
 use Rattle.readback.proofs.Begun.{FitsTo, begins-at, fits-to}
 use Rattle.readback.proofs.Formed.{stands-all, ended-of, formed-iff}
 
@@ -85,7 +85,7 @@ module _ (head : List ℕ) (k n : ℕ) (bytes : List ℕ) where
           | inl a ↦ no-row g (some-of-firstBelow misfits (2 ^ k) l a)
           | inr a ↦
               let p = when-some (ltb (place (2 ^ k)) (length bytes)) (lineNumber (2 ^ k)) l (a .1) in
-              left-over (record { header = g; rows = all-pass fits (2 ^ k) (a .0) })
+              left-over (record { header = g; rows = all-pass fits lineNumber (2 ^ k) (a .0) })
               (ltb-true (place (2 ^ k)) (length bytes) (p .0)) (p .1)
         ]
 
@@ -100,13 +100,13 @@ module _ (head : List ℕ) (k n : ℕ) (bytes : List ℕ) where
     first-misfit : misfit head k n bytes ≡ some l → Misfit head k n bytes l
     unfolding misfit
     first-misfit e =
-        elim (orElse-some (unless (leb (length bytes) longest) 1) _ l e) [
+        elim (orElse-some (unless (leb (length bytes) longestRead) 1) _ l e) [
           | inl a ↦
-              let p = unless-some (leb (length bytes) longest) 1 l a in
-              inl (leb-false (length bytes) longest (p .0), sym (p .1))
+              let p = unless-some (leb (length bytes) longestRead) 1 l a in
+              inl (leb-false (length bytes) longestRead (p .0), sym (p .1))
           | inr a ↦
               inr (
-                leb-true (length bytes) longest (true-of-unless (leb (length bytes) longest) 1 (a .0)),
+                leb-true (length bytes) longestRead (true-of-unless (leb (length bytes) longestRead) 1 (a .0)),
                 of-header (a .1),
               )
         ]

@@ -9,46 +9,33 @@ use native.Mathlib.Numerals.{add-one}
 use native.Mathlib.Omega.{arith}
 use borrow.Author.Tests.{eqb-true, eq-eqb, ne-eqb, le-leb, lt-leb, le-ltb, lt-ltb}
 use lib.Dec.{eqb}
-use lib.ListN.{length, take, drop, length-drop, length-take}
+use lib.ListN.{length, take, length-take}
 use Rattle.prelude.specs.Bytes.{same}
-use Rattle.prelude.specs.Search.{firstBelow, unless}
 use Rattle.prelude.proofs.Tests.{zero-is-one, and-true}
 use Rattle.prelude.proofs.Search.{Searching, searching-start, searching-on, found-at, found-nothing}
-use Rattle.prelude.proofs.Search.{none-of-firstBelow, firstBelow-none, true-of-unless, unless-true}
-use Rattle.text.specs.Lines.{lineFeed, fields, field, lineAt, endsAt, afterLine}
-use Rattle.text.proofs.Lines.{upTo-lt-of-isIn, same-length}
+use Rattle.text.specs.Lines.{fields, field, lineAt, endsAt, afterLine}
+use Rattle.text.proofs.Lines.{same-length, line-inside}
 use Rattle.listing.specs.Listing.{scenarioText}
-use Rattle.readback.specs.Form.{longest}
+use Rattle.readback.specs.Form.{longestRead}
 use Rattle.readback.specs.Rows.{isRow, lineNumber, placeOf, rowFits, rowMisfit, rowsMisfit, headerFits, misfit}
-use Rattle.readback.specs.Answers.{formAnswer, lineAnswer}
+use Rattle.readback.specs.Answers.{faultAnswer, lineAnswer}
 use Rattle.readback.specs.declared.Line.the-variants as L
-use Rattle.readback.specs.declared.Form.the-variants as F
-
--- the first line that fails a test: there is none exactly where each of them passes
-module _ (test : ℕ → Bool) (n : ℕ) where
-  abbrev failing : ℕ → Option ℕ
-  failing s = unless (test s) (lineNumber s)
-
-  pub all-pass : firstBelow n failing ≡ none → (s : ℕ) → s < n → test s ≡ true
-  all-pass e s h = true-of-unless (test s) (lineNumber s) (none-of-firstBelow failing n e s h)
-
-  pub none-fails : ((s : ℕ) → s < n → test s ≡ true) → firstBelow n failing ≡ none
-  none-fails p = firstBelow-none failing n (λ s h. unless-true (test s) (lineNumber s) (p s h))
+use Rattle.readback.specs.declared.Fault.the-variants as F
 
 -- a listing: its length decides, then its header, then its rows
 module _ (head : List ℕ) (k n : ℕ) (bytes : List ℕ) where
-  pub length-decides : longest < length bytes → misfit head k n bytes ≡ some 1
+  pub length-decides : longestRead < length bytes → misfit head k n bytes ≡ some 1
   unfolding misfit
-  length-decides h = rw (lt-leb (length bytes) longest h)
+  length-decides h = rw (lt-leb (length bytes) longestRead h)
 
-  module _ (h : length bytes ≤ longest) where
+  module _ (h : length bytes ≤ longestRead) where
     pub header-decides : headerFits head bytes ≡ false → misfit head k n bytes ≡ some 1
     unfolding misfit
-    header-decides e = rw (le-leb (length bytes) longest h, e)
+    header-decides e = rw (le-leb (length bytes) longestRead h, e)
 
     pub rows-decide : headerFits head bytes ≡ true → misfit head k n bytes ≡ rowsMisfit bytes (length head) k n
     unfolding misfit
-    rows-decide e = rw (le-leb (length bytes) longest h, e)
+    rows-decide e = rw (le-leb (length bytes) longestRead h, e)
 
 -- bytes that are shorter than the header do not begin with it
 pub header-short : (head bytes : List ℕ) → length bytes < length head → headerFits head bytes ≡ false
@@ -82,17 +69,13 @@ line-fits true n m e = (refl, cc)
 line-fits false n m e = zero-is-one cc
 
 -- and that of a pass
-pub fault-is : (o : Option ℕ) (m : ℕ) → F.Fault m ≡ formAnswer o → o ≡ some m
+pub fault-is : (o : Option ℕ) (m : ℕ) → F.At m ≡ faultAnswer o → o ≡ some m
 fault-is none m e = zero-is-one cc
 fault-is (some a) m e = cc
 
-pub none-is : (o : Option ℕ) → F.Fits ≡ formAnswer o → o ≡ none
+pub none-is : (o : Option ℕ) → F.Nowhere ≡ faultAnswer o → o ≡ none
 none-is none e = refl
 none-is (some a) e = zero-is-one cc
-
--- a line that ends lies in the bytes, with its line feed
-pub line-inside : (bytes : List ℕ) (at : ℕ) → endsAt bytes at ≡ true → afterLine bytes at ≤ length bytes
-line-inside bytes at e = omega (arith, upTo-lt-of-isIn lineFeed (drop at bytes) e, length-drop at bytes)
 
 -- where the row behind that of s begins, seen from where this one does
 pub next-place : (bytes : List ℕ) (first s at e : ℕ) → at ≡ placeOf bytes first s → e ≡ length (lineAt bytes at)
@@ -132,7 +115,7 @@ module _ {bytes : List ℕ} {first k n s at : ℕ} (here : Forming bytes first k
         inside = omega (arith, line-inside bytes at ends);
       }
 
-  pub forming-fault : s < 2 ^ k → fits ≡ false → F.Fault (lineNumber s) ≡ formAnswer (rowsMisfit bytes first k n)
+  pub forming-fault : s < 2 ^ k → fits ≡ false → F.At (lineNumber s) ≡ faultAnswer (rowsMisfit bytes first k n)
   unfolding rowsMisfit
   forming-fault h g = rw (found-at (here .searching) (lineNumber s) h (rw (fits-is, g)))
 
@@ -142,10 +125,10 @@ module _ {bytes : List ℕ} {first k n s at : ℕ} (here : Forming bytes first k
       here .place ∙ ap (λ (m : ℕ). placeOf bytes first m) all
 
   pub forming-over : 2 ^ k ≤ s → at < length bytes
-      → F.Fault (lineNumber (2 ^ k)) ≡ formAnswer (rowsMisfit bytes first k n)
+      → F.At (lineNumber (2 ^ k)) ≡ faultAnswer (rowsMisfit bytes first k n)
   unfolding rowsMisfit
   forming-over h l = rw (found-nothing (here .searching) h, ← at-end h, lt-ltb at (length bytes) l)
 
-  pub forming-all : 2 ^ k ≤ s → length bytes ≤ at → F.Fits ≡ formAnswer (rowsMisfit bytes first k n)
+  pub forming-all : 2 ^ k ≤ s → length bytes ≤ at → F.Nowhere ≡ faultAnswer (rowsMisfit bytes first k n)
   unfolding rowsMisfit
   forming-all h l = rw (found-nothing (here .searching) h, ← at-end h, le-ltb at (length bytes) l)

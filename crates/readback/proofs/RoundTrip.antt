@@ -15,12 +15,12 @@ use Rattle.network.specs.Strategy.{time}
 use Rattle.listing.specs.Listing.{timeText, listingOver, timeTexts}
 use Rattle.listing.proofs.Same.{texts-same}
 use Rattle.readback.specs.Minute.{latest, minuteOf}
-use Rattle.readback.specs.Form.{longest, Formed}
-use Rattle.readback.specs.Rows.{cellOf, rowsTable, textOf, misfit, fault, recovered}
+use Rattle.readback.specs.Form.{longestRead, Formed}
+use Rattle.readback.specs.Rows.{cellOf, rowsTable, textOf, misfit, unread, recovered}
 use Rattle.readback.proofs.Minutes.{isMinute-timeText, minuteOf-timeText, plain-timeText, timeText-minuteOf}
 use Rattle.readback.proofs.Minutes.{minuteOf-le}
 use Rattle.readback.proofs.Formed.{formed-iff, texts-read}
-use Rattle.readback.proofs.Unread.{faultless-read, faultless-iff}
+use Rattle.readback.proofs.Unread.{minutes-read, minutes-iff}
 
 module _ (head : List ℕ) (k n : ℕ) (bytes : List ℕ) where
   abbrev found : List ℕ
@@ -30,19 +30,19 @@ module _ (head : List ℕ) (k n : ℕ) (bytes : List ℕ) where
   unfolding rowsTable
   length-recovered = length-tabulate (cellOf bytes (length head) n) (n * 2 ^ k)
 
-  cell-is : (s u : ℕ) → s < 2 ^ k → u < n → time n found s u ≡ minuteOf (textOf head k n bytes s u)
+  cell-is : (s u : ℕ) → s < 2 ^ k → u < n → time n found s u ≡ minuteOf (textOf head bytes s u)
   unfolding rowsTable
   cell-is s u h g =
       getD-tabulate (cellOf bytes (length head) n) (n * 2 ^ k) (s * n + u) 0 (cell-lt n (2 ^ k) s u h g)
       ∙ rw (row-of n s u g, column-of n s u g)
 
-  module _ (q : fault head k n bytes ≡ none) where
+  module _ (q : unread head k n bytes ≡ none) where
     pub recovered-short : (i : ℕ) → getD found i 0 ≤ latest
     recovered-short i =
         elim (lt-or-ge i (n * 2 ^ k)) [
           | inl h ↦
               by-cell n (2 ^ k) (λ j. getD found j 0 ≤ latest)
-              (λ s u l g. rw (cell-is s u l g) (minuteOf-le _ (faultless-read head k n bytes q s l u g))) i h
+              (λ s u l g. rw (cell-is s u l g) (minuteOf-le _ (minutes-read head k n bytes q s l u g))) i h
           | inr h ↦ omega (arith, List·getD-eq-default found 0 {n = i} (omega (arith, length-recovered)))
         ]
 
@@ -52,13 +52,13 @@ module _ (head : List ℕ) (k n : ℕ) (bytes : List ℕ) where
         texts-same k n (timeTexts n found) (x .fitting .texts) head
         (λ s u h g.
         ap timeText (cell-is s u h g)
-        ∙ timeText-minuteOf (textOf head k n bytes s u) (faultless-read head k n bytes q s h u g)
+        ∙ timeText-minuteOf (textOf head bytes s u) (minutes-read head k n bytes q s h u g)
         ∙ texts-read head k n bytes x s u h g)
         ∙ sym (x .fitting .is)
 
 -- a table of times that can be printed, and whose listing is not too long
 module _ (head : List ℕ) (k n : ℕ) (σ : List ℕ) (short : (i : ℕ) → getD σ i 0 ≤ latest)
-    (fits : length (listingOver k n (timeTexts n σ) head) ≤ longest) where
+    (fits : length (listingOver k n (timeTexts n σ) head) ≤ longestRead) where
   abbrev printed : List ℕ
   printed = listingOver k n (timeTexts n σ) head
 
@@ -75,9 +75,9 @@ module _ (head : List ℕ) (k n : ℕ) (σ : List ℕ) (short : (i : ℕ) → ge
   pub printed-fits : misfit head k n printed ≡ none
   printed-fits = formed-iff head k n printed .1 printed-formed
 
-  pub printed-faultless : fault head k n printed ≡ none
-  printed-faultless =
-      faultless-iff head k n printed printed-formed .1
+  pub printed-minutes : unread head k n printed ≡ none
+  printed-minutes =
+      minutes-iff head k n printed printed-formed .1
       (λ s h u g. isMinute-timeText (time n σ s u) (short (s * n + u)))
 
   pub recovers : length σ ≡ n * 2 ^ k → recovered head k n printed ≡ σ

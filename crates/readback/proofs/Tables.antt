@@ -1,35 +1,28 @@
 -- Laws of the pass over the minutes, where the form is right: the rows stand where they should (`row-at`), the cells
--- are the table that they hold (`Reading-rows`), and so is what is handed out. Assumes nothing.
-use mathlib.Core.Path.{_≡_, refl, sym, _∙_, ap}
+-- are the table that they hold (`Reading-rows`). Assumes nothing.
+use mathlib.Core.Path.{_≡_, refl, _∙_, ap}
 use mathlib.Core.Logic.{inl, inr}
 use mathlib.Core.Bool.{true, false}
 use mathlib.Core.Option.{none}
-use mathlib.Core.List.{List, _++_}
+use mathlib.Core.List.{List}
 use Prim.Native.Nat.{ℕ, suc, _+_, _-_, _*_, _^_, _≤_, _<_}
 use native.Mathlib.Nat.{mul-le-mul-right, mul-comm}
 use native.Mathlib.Omega.{arith}
 use lib.ListN.{length, getD, take, drop}
-use lib.Seq.{length-take-le, getD-take}
 use Rattle.prelude.specs.Search.{firstBelow}
 use Rattle.prelude.proofs.Tests.{zero-is-one, and-true, lt-or-ge}
-use Rattle.prelude.proofs.Search.{Searching, searching-start, searching-on, found-at, found-nothing, orElse-none}
+use Rattle.prelude.proofs.Search.{Searching, searching-start, searching-on, found-at, found-nothing}
+use Rattle.prelude.proofs.Search.{orElse-none, all-pass}
 use Rattle.prelude.proofs.Cells.{row-of, column-of}
-use Rattle.prelude.proofs.Lists.{tabulate-is}
 use Rattle.text.specs.Lines.{lineFeed, upTo, fields, lineAt, endsAt}
-use Rattle.text.proofs.Lines.{take-drop, take-upTo}
+use Rattle.text.proofs.Lines.{take-drop, take-upTo, line-inside}
 use Rattle.network.specs.Limits as L
 use Rattle.listing.proofs.Truths.{few-scenarios}
-use Rattle.readback.specs.Form.{longest}
 use Rattle.readback.specs.Rows.{isRow, lineNumber, placeOf, rowOf, cellOf, rowFits, rowMisfit, rowsMisfit}
-use Rattle.readback.specs.Rows.{rowFault, rowsFault, rowsTable, headerFits}
-use Rattle.readback.specs.Answers.{formAnswer, RowRead, RowsRead}
-use Rattle.readback.specs.Answers.{TimesRead, no-minute, short, full, ReadIs, other-form, formed}
-use Rattle.readback.specs.declared.Form.{Form}
-use Rattle.readback.specs.declared.Form.the-variants as F
-use Rattle.readback.specs.declared.Answer.{Answer}
-use Rattle.readback.specs.declared.Answer.the-variants as A
-use Rattle.readback.proofs.Passes.{all-pass, length-decides, header-decides, rows-decide, count-of-row}
-use Rattle.readback.proofs.Passes.{fault-is, none-is, line-inside, next-place}
+use Rattle.readback.specs.Rows.{rowUnread, rowsUnread}
+use Rattle.readback.specs.Answers.{RowRead, RowsRead}
+use Rattle.readback.specs.declared.Fault.the-variants as F
+use Rattle.readback.proofs.Passes.{count-of-row, next-place}
 
 -- there is room for the cells of row s, and for all
 module _ (k n : ℕ) (h : k ≤ L.signals) (g : n ≤ L.events) where
@@ -46,7 +39,7 @@ module _ (k n : ℕ) (h : k ≤ L.signals) (g : n ≤ L.events) where
 -- the pass has come to the row of s, which begins at this place: the rows below s have minutes only, and the cells of
 -- these are filled
 pub record Reading-rows (bytes : List ℕ) (first k n : ℕ) (times : List ℕ) (s at : ℕ) : Type 0 where
-  pub searching : Searching (rowFault bytes first k n) (2 ^ k) s
+  pub searching : Searching (rowUnread bytes first k n) (2 ^ k) s
   pub place : at ≡ placeOf bytes first s
   pub inside : at ≤ length bytes
   pub sized : length times ≡ L.cells
@@ -62,7 +55,7 @@ pub record RowAt (bytes : List ℕ) (first n s at e : ℕ) : Type 0 where
 pub rows-start : (bytes : List ℕ) (first k n : ℕ) (times : List ℕ) → first ≤ length bytes → length times ≡ L.cells
     → Reading-rows bytes first k n times 0 first
 rows-start bytes first k n times h g = record {
-  searching = searching-start (rowFault bytes first k n) (2 ^ k);
+  searching = searching-start (rowUnread bytes first k n) (2 ^ k);
   place = refl;
   inside = h;
   sized = g;
@@ -74,7 +67,7 @@ row-fits : (bytes : List ℕ) (first k n : ℕ) → rowsMisfit bytes first k n �
     → rowFits bytes first k n s ≡ true
 unfolding rowsMisfit
 row-fits bytes first k n e =
-    all-pass (rowFits bytes first k n) (2 ^ k)
+    all-pass (rowFits bytes first k n) lineNumber (2 ^ k)
     (orElse-none (firstBelow (2 ^ k) (rowMisfit bytes first k n)) _ e .0)
 
 module _ {bytes : List ℕ} {first k n : ℕ} {times : List ℕ} {s at : ℕ}
@@ -113,17 +106,17 @@ module _ {bytes : List ℕ} {first k n : ℕ} {times : List ℕ} {s at : ℕ}
           ];
     }
 
-    pub rows-fault : RowRead (rowOf bytes first s) n (s * n) times after false
-        → RowsRead bytes first k n after (F.Fault (lineNumber s))
-    unfolding rowsFault
+    pub rows-fault : {place : ℕ} → RowRead (rowOf bytes first s) n place times after false
+        → RowsRead bytes first k n after (F.At (lineNumber s))
+    unfolding rowsUnread
     rows-fault r = record {
       answer = rw (found-at (here .searching) (lineNumber s) h (rw (← r .answer)));
       sized = r .sized ∙ here .sized;
       times = λ z. zero-is-one cc;
     }
 
-  pub rows-all : 2 ^ k ≤ s → RowsRead bytes first k n times F.Fits
-  unfolding rowsFault
+  pub rows-all : 2 ^ k ≤ s → RowsRead bytes first k n times F.Nowhere
+  unfolding rowsUnread
   rows-all h =
       let all : s ≡ 2 ^ k = omega (arith, here .searching .within) in
       record {
@@ -131,50 +124,3 @@ module _ {bytes : List ℕ} {first k n : ℕ} {times : List ℕ} {s at : ℕ}
         sized = here .sized;
         times = λ z i l. here .done i (rw (all, mul-comm (2 ^ k) n) l);
       }
-
--- what the answer of the pass says of the table that is lent: it is left as it is, or has the cells at its front
-module _ {bytes : List ℕ} {first k n : ℕ} {cells : List ℕ} {r : Form} (read : RowsRead bytes first k n cells r)
-    (before : List ℕ) where
-  pub times-fault : (m : ℕ) → r ≡ F.Fault m → TimesRead bytes first k n before before (A.NoMinute m)
-  times-fault m e = no-minute m (fault-is (rowsFault bytes first k n) m (sym e ∙ read .answer))
-
-  module _ (e : r ≡ F.Fits) where
-    faultless : rowsFault bytes first k n ≡ none
-    faultless = none-is (rowsFault bytes first k n) (sym e ∙ read .answer)
-
-    pub times-short : length before < n * 2 ^ k → TimesRead bytes first k n before before A.TooShort
-    times-short h = short faultless h
-
-    abbrev front : List ℕ
-    front = take (n * 2 ^ k) cells
-
-    pub times-all : n * 2 ^ k ≤ L.cells → n * 2 ^ k ≤ length before → (after : List ℕ)
-        → after ≡ front ++ drop (length front) before
-        → TimesRead bytes first k n before after (A.Recovered (n * 2 ^ k))
-    unfolding rowsTable
-    times-all g h after q =
-        let size : length front ≡ n * 2 ^ k = length-take-le (n * 2 ^ k) cells (omega (arith, read .sized)) in
-        let table : rowsTable bytes first k n ≡ front =
-        tabulate-is (cellOf bytes first n) 0 (n * 2 ^ k) front (sym size)
-        (λ i l. sym (getD-take (n * 2 ^ k) cells i 0 (omega arith) ∙ read .times e i (omega arith))) in
-        rw (q, size, ← table) (full faultless h)
-
--- what the tests of the form say of the whole, in their order
-module _ (head : List ℕ) (k n : ℕ) (bytes before : List ℕ) where
-  pub read-long : longest < length bytes → ReadIs head k n bytes before before (A.OtherForm 1)
-  read-long h = other-form 1 (length-decides head k n bytes h)
-
-  module _ (h : length bytes ≤ longest) where
-    pub read-other : headerFits head bytes ≡ false → ReadIs head k n bytes before before (A.OtherForm 1)
-    read-other e = other-form 1 (header-decides head k n bytes h e)
-
-    module _ (e : headerFits head bytes ≡ true) where
-      pub read-misfit : (m : ℕ) → F.Fault m ≡ formAnswer (rowsMisfit bytes (length head) k n)
-          → ReadIs head k n bytes before before (A.OtherForm m)
-      read-misfit m q =
-          other-form m (rows-decide head k n bytes h e ∙ fault-is (rowsMisfit bytes (length head) k n) m q)
-
-      pub read-times : F.Fits ≡ formAnswer (rowsMisfit bytes (length head) k n) → (after : List ℕ) (r : Answer)
-          → TimesRead bytes (length head) k n before after r → ReadIs head k n bytes before after r
-      read-times q after r t =
-          formed after r (rows-decide head k n bytes h e ∙ none-is (rowsMisfit bytes (length head) k n) q) t

@@ -1,5 +1,5 @@
 -- 19 comes exactly where the bytes are a listing of this sheet and a text is no minute, with the first line that has
--- one: `unread-iff`, and `faultless-iff` where there is none. Assumes nothing.
+-- one: `unread-iff`, and `minutes-iff` where there is none. Assumes nothing.
 use mathlib.Core.Path.{_≡_, ap}
 use mathlib.Core.Logic.{_↔_}
 use mathlib.Core.Bool.{Bool, true}
@@ -11,11 +11,10 @@ use lib.ListN.{length}
 use Rattle.prelude.proofs.Tests.{clash, false-of-not-true}
 use Rattle.prelude.proofs.Bounded.{true-of-allBelow, allBelow-true}
 use Rattle.prelude.proofs.Search.{firstBelow-some, some-of-firstBelow}
-use Rattle.prelude.proofs.Search.{true-of-unless, unless-true, unless-some}
+use Rattle.prelude.proofs.Search.{true-of-unless, unless-true, unless-some, all-pass, none-of-all-pass}
 use Rattle.readback.specs.Minute.{isMinute}
 use Rattle.readback.specs.Form.{Formed, Minutes, Unread}
-use Rattle.readback.specs.Rows.{areMinutes, lineNumber, rowOf, rowFault, rowsFault, textOf, misfit, fault}
-use Rattle.readback.proofs.Passes.{all-pass, none-fails}
+use Rattle.readback.specs.Rows.{areMinutes, lineNumber, rowOf, rowUnread, rowsUnread, textOf, misfit, unread}
 use Rattle.readback.proofs.Formed.{formed-iff, texts-read}
 
 module _ (head : List ℕ) (k n : ℕ) (bytes : List ℕ) where
@@ -23,19 +22,19 @@ module _ (head : List ℕ) (k n : ℕ) (bytes : List ℕ) where
   good s = areMinutes n (rowOf bytes (length head) s)
 
   abbrev faults : ℕ → Option ℕ
-  faults = rowFault bytes (length head) k n
+  faults = rowUnread bytes (length head) k n
 
-  good-iff : (s : ℕ) → (good s ≡ true) ↔ Minutes n (textOf head k n bytes) s
+  good-iff : (s : ℕ) → (good s ≡ true) ↔ Minutes n (textOf head bytes) s
   unfolding areMinutes
   good-iff s = (
-    λ e. true-of-allBelow (λ u. isMinute (textOf head k n bytes s u)) n e,
-    allBelow-true (λ u. isMinute (textOf head k n bytes s u)) n,
+    λ e. true-of-allBelow (λ u. isMinute (textOf head bytes s u)) n e,
+    allBelow-true (λ u. isMinute (textOf head bytes s u)) n,
   )
 
   -- by the texts that are read
-  pub faultless-read : fault head k n bytes ≡ none → (s : ℕ) → s < 2 ^ k → Minutes n (textOf head k n bytes) s
-  unfolding rowsFault
-  faultless-read e s h = good-iff s .0 (all-pass good (2 ^ k) e s h)
+  pub minutes-read : unread head k n bytes ≡ none → (s : ℕ) → s < 2 ^ k → Minutes n (textOf head bytes) s
+  unfolding rowsUnread
+  minutes-read e s h = good-iff s .0 (all-pass good lineNumber (2 ^ k) e s h)
 
   -- by any texts over which the bytes are a listing
   module _ (x : Formed head k n bytes) where
@@ -48,15 +47,15 @@ module _ (head : List ℕ) (k n : ℕ) (bytes : List ℕ) where
       λ m. good-iff s .1 (λ u g. rw (texts-read head k n bytes x s u h g) (m u g)),
     )
 
-    pub faultless-iff : (fault head k n bytes ≡ none) ↔ ((s : ℕ) → s < 2 ^ k → Minutes n texts s)
-    unfolding rowsFault
-    faultless-iff = (
-      λ e s h. texts-iff s h .0 (all-pass good (2 ^ k) e s h),
-      λ m. none-fails good (2 ^ k) (λ s h. texts-iff s h .1 (m s h)),
+    pub minutes-iff : (unread head k n bytes ≡ none) ↔ ((s : ℕ) → s < 2 ^ k → Minutes n texts s)
+    unfolding rowsUnread
+    minutes-iff = (
+      λ e s h. texts-iff s h .0 (all-pass good lineNumber (2 ^ k) e s h),
+      λ m. none-of-all-pass good lineNumber (2 ^ k) (λ s h. texts-iff s h .1 (m s h)),
     )
 
-  first-unread : (l : ℕ) → misfit head k n bytes ≡ none → fault head k n bytes ≡ some l → Unread head k n bytes l
-  unfolding rowsFault
+  first-unread : (l : ℕ) → misfit head k n bytes ≡ none → unread head k n bytes ≡ some l → Unread head k n bytes l
+  unfolding rowsUnread
   first-unread l e q =
       let w = some-of-firstBelow faults (2 ^ k) l q in
       let s = w .index in
@@ -72,8 +71,8 @@ module _ (head : List ℕ) (k n : ℕ) (bytes : List ℕ) where
         fault = λ m. clash (good s) (texts-iff x s (w .index-lt) .1 m) (p .0);
       }
 
-  unread-first : (l : ℕ) → Unread head k n bytes l → fault head k n bytes ≡ some l
-  unfolding rowsFault
+  unread-first : (l : ℕ) → Unread head k n bytes l → unread head k n bytes ≡ some l
+  unfolding rowsUnread
   unread-first l y =
       let x = y .formed in
       let s = y .scenario in
@@ -87,7 +86,7 @@ module _ (head : List ℕ) (k n : ℕ) (bytes : List ℕ) where
       })
 
   pub unread-iff : (l : ℕ)
-      → ((misfit head k n bytes ≡ none) × (fault head k n bytes ≡ some l)) ↔ Unread head k n bytes l
+      → ((misfit head k n bytes ≡ none) × (unread head k n bytes ≡ some l)) ↔ Unread head k n bytes l
   unread-iff l = (
     λ p. first-unread l (p .0) (p .1),
     λ y. (formed-iff head k n bytes .1 (y .formed), unread-first l y),

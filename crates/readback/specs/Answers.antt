@@ -7,19 +7,25 @@ use Prim.Native.Nat.{ℕ, _+_, _*_, _^_, _≤_, _<_}
 use lib.ListN.{length, drop, getD, set}
 use Rattle.network.specs.Limits as N
 use Rattle.readback.specs.Minute.{isMinute, minuteOf}
-use Rattle.readback.specs.Rows.{textIn, areMinutes, cellOf, rowsFault, rowsTable, headerFits, misfit}
+use Rattle.readback.specs.Rows.{textIn, areMinutes, cellOf, rowsUnread, rowsTable, headerFits, misfit}
 use Rattle.readback.specs.declared.Answer.{Answer}
 use Rattle.readback.specs.declared.Answer.the-variants as A
-use Rattle.readback.specs.declared.Form.{Form}
-use Rattle.readback.specs.declared.Form.the-variants as F
+use Rattle.readback.specs.declared.Fault.{Fault}
+use Rattle.readback.specs.declared.Fault.the-variants as F
 use Rattle.readback.specs.declared.Head.{Head}
+use Rattle.readback.specs.declared.Minute.{Minute}
+use Rattle.readback.specs.declared.Minute.the-variants as M
 use Rattle.readback.specs.declared.Line.{Line}
 use Rattle.readback.specs.declared.Line.the-variants as L
 
+-- the minute that a text is
+abbrev pub minuteIn : List ℕ → Minute
+minuteIn f = cond (isMinute f) (M.At (minuteOf f)) M.IllFormed
+
 -- the first line at fault, as a pass answers it
-abbrev pub formAnswer : Option ℕ → Form
-formAnswer none = F.Fits
-formAnswer (some k) = F.Fault k
+abbrev pub faultAnswer : Option ℕ → Fault
+faultAnswer none = F.Nowhere
+faultAnswer (some k) = F.At k
 
 -- a line that fits, with its length
 abbrev pub lineAnswer : Bool → ℕ → Line
@@ -46,17 +52,17 @@ pub record HeadIs (head bytes : List ℕ) (r : Head) : Type 0 where
   pub inside : r .fits ≡ true → r .end ≤ length bytes
 
 -- each row was read, into the front of the cells, or the first line that has a text that is no minute
-pub record RowsRead (bytes : List ℕ) (first k n : ℕ) (after : List ℕ) (r : Form) : Type 0 where
-  pub answer : r ≡ formAnswer (rowsFault bytes first k n)
+pub record RowsRead (bytes : List ℕ) (first k n : ℕ) (after : List ℕ) (r : Fault) : Type 0 where
+  pub answer : r ≡ faultAnswer (rowsUnread bytes first k n)
   pub sized : length after ≡ N.cells
-  pub times : r ≡ F.Fits → (i : ℕ) → i < n * 2 ^ k → getD after i 0 ≡ cellOf bytes first n i
+  pub times : r ≡ F.Nowhere → (i : ℕ) → i < n * 2 ^ k → getD after i 0 ≡ cellOf bytes first n i
 
 -- the rows, whose form is right, and then the room: what is answered, and what is then in the lent table
 pub data TimesRead (bytes : List ℕ) (first k n : ℕ) (before : List ℕ) : List ℕ → Answer → Type 0 where
-  no-minute : (m : ℕ) → rowsFault bytes first k n ≡ some m → TimesRead bytes first k n before before (A.NoMinute m)
-  short : rowsFault bytes first k n ≡ none → length before < n * 2 ^ k
+  no-minute : (m : ℕ) → rowsUnread bytes first k n ≡ some m → TimesRead bytes first k n before before (A.NoMinute m)
+  short : rowsUnread bytes first k n ≡ none → length before < n * 2 ^ k
       → TimesRead bytes first k n before before A.TooShort
-  full : rowsFault bytes first k n ≡ none → n * 2 ^ k ≤ length before
+  full : rowsUnread bytes first k n ≡ none → n * 2 ^ k ≤ length before
       → TimesRead bytes first k n before (rowsTable bytes first k n ++ drop (n * 2 ^ k) before)
       (A.Recovered (n * 2 ^ k))
 

@@ -12,8 +12,8 @@ use Rattle.listing.specs.Listing.{linesOver, listingOver}
 use Rattle.readback.specs.Minute.{isMinute}
 
 -- "longer than 4,096 bytes"
-abbrev pub longest : ℕ
-longest = 4096
+abbrev pub longestRead : ℕ
+longestRead = 4096
 
 -- texts for n events in each of the first m scenarios; none has a comma or a line feed in it
 pub record Texts (n m : ℕ) (texts : ℕ → ℕ → List ℕ) : Type 0 where
@@ -38,7 +38,7 @@ module _ (head : List ℕ) (k n : ℕ) (bytes : List ℕ) where
     pub are-texts : Texts n (2 ^ k) texts
     pub is : bytes ≡ listingOver k n texts head
 
-  -- the first lines are this sheet's; the header is one of them
+  -- the first so many lines are this sheet's; the header is one of them
   abbrev pub Stand : ℕ → Type 0
   Stand zero = Unit {0}
   Stand (suc m) = Begins m
@@ -47,7 +47,8 @@ module _ (head : List ℕ) (k n : ℕ) (bytes : List ℕ) where
   abbrev pub Next : ℕ → Type 0
   Next j = ((j ≤ 2 ^ k) × Stand (suc j)) ⊎ ((j ≡ suc (2 ^ k)) × Fitting)
 
-  -- the lines above are this sheet's, and this one is not, "a line missing or left over included"
+  -- the lines above are this sheet's, and this one is not, "a line missing or left over included"; none is further on
+  -- than one behind the last
   pub record FirstMisfit (line : ℕ) : Type 0 where
     pub above : ℕ
     pub is-line : line ≡ suc above
@@ -57,11 +58,11 @@ module _ (head : List ℕ) (k n : ℕ) (bytes : List ℕ) where
 
   -- 18: "the listing is longer than 4,096 bytes (line 1)"; or the first line at fault
   abbrev pub Misfit : ℕ → Type 0
-  Misfit line = ((longest < length bytes) × (line ≡ 1)) ⊎ ((length bytes ≤ longest) × FirstMisfit line)
+  Misfit line = ((longestRead < length bytes) × (line ≡ 1)) ⊎ ((length bytes ≤ longestRead) × FirstMisfit line)
 
   -- no 18
   pub record Formed : Type 0 where
-    pub short : length bytes ≤ longest
+    pub short : length bytes ≤ longestRead
     pub fitting : Fitting
 
   -- 19: the bytes are a listing, the lines above have minutes only, and that of this scenario has a text that is none;

@@ -1,10 +1,8 @@
 -- The text of one minute, as it is read: "a minute is ill-formed, negative or over 65,535" (02, point 4).
-use mathlib.Core.Bool.{Bool, _&&_, cond}
+use mathlib.Core.Bool.{Bool, _&&_}
 use mathlib.Core.List.{List}
 use Prim.Native.Nat.{ℕ}
 use Rattle.text.specs.Number.{isNumber, inRange, magnitude}
-use Rattle.readback.specs.declared.Minute.{Minute}
-use Rattle.readback.specs.declared.Minute.the-variants as M
 
 -- "Minutes run to 65,535 as the writer allows"
 abbrev pub latest : ℕ
@@ -16,7 +14,3 @@ isMinute f = isNumber f && inRange 0 latest f
 
 unfoldable pub minuteOf : List ℕ → ℕ
 minuteOf f = magnitude f
-
--- as the code answers it
-abbrev pub minuteIn : List ℕ → Minute
-minuteIn f = cond (isMinute f) (M.At (minuteOf f)) M.IllFormed

@@ -11,7 +11,7 @@ use Rattle.prelude.specs.Bytes.{same}
 use Rattle.text.specs.Lines.{fields, field, lineAt, endsAt, afterLine}
 use Rattle.listing.specs.Listing.{scenarioText}
 use Rattle.readback.specs.Minute.{isMinute, minuteOf}
-use Rattle.readback.specs.Form.{longest}
+use Rattle.readback.specs.Form.{longestRead}
 
 -- a line's texts behind its mark
 abbrev pub textIn : List ℕ → ℕ → List ℕ
@@ -55,12 +55,12 @@ module _ (bytes : List ℕ) (first : ℕ) where
     rowsMisfit =
         orElse (firstBelow (2 ^ k) rowMisfit) (when (ltb (placeOf (2 ^ k)) (length bytes)) (lineNumber (2 ^ k)))
 
-    abbrev pub rowFault : ℕ → Option ℕ
-    rowFault s = unless (areMinutes n (rowOf s)) (lineNumber s)
+    abbrev pub rowUnread : ℕ → Option ℕ
+    rowUnread s = unless (areMinutes n (rowOf s)) (lineNumber s)
 
     -- the first row that has a text that is no minute
-    unfoldable pub rowsFault : Option ℕ
-    rowsFault = firstBelow (2 ^ k) rowFault
+    unfoldable pub rowsUnread : Option ℕ
+    rowsUnread = firstBelow (2 ^ k) rowUnread
 
     -- the table that the rows hold
     unfoldable pub rowsTable : List ℕ
@@ -71,19 +71,19 @@ module _ (head : List ℕ) where
   abbrev pub headerFits : List ℕ → Bool
   headerFits bytes = same (take (length head) bytes) head
 
-  module _ (k n : ℕ) (bytes : List ℕ) where
-    -- the text of event u in scenario s
-    abbrev pub textOf : ℕ → ℕ → List ℕ
-    textOf s u = textIn (rowOf bytes (length head) s) u
+  -- the text of event u in scenario s
+  abbrev pub textOf : List ℕ → ℕ → ℕ → List ℕ
+  textOf bytes s u = textIn (rowOf bytes (length head) s) u
 
+  module _ (k n : ℕ) (bytes : List ℕ) where
     -- the first line that is not this sheet's (18), and the first with a text that is no minute (19)
     unfoldable pub misfit : Option ℕ
     misfit =
-        orElse (unless (leb (length bytes) longest) 1)
+        orElse (unless (leb (length bytes) longestRead) 1)
         (orElse (unless (headerFits bytes) 1) (rowsMisfit bytes (length head) k n))
 
-    abbrev pub fault : Option ℕ
-    fault = rowsFault bytes (length head) k n
+    abbrev pub unread : Option ℕ
+    unread = rowsUnread bytes (length head) k n
 
     -- the table that the bytes hold
     abbrev pub recovered : List ℕ

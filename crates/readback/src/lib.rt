@@ -10,15 +10,14 @@ ghost use Rattle.text.specs.Lines.{fields, lineAt, endsAt};
 ghost use Rattle.network.specs.Limits as L;
 ghost use Rattle.network.specs.WellFormed.{WellFormed, Named};
 ghost use Rattle.listing.specs.Listing.{scenarioText, header};
-ghost use Rattle.readback.specs.Minute.{minuteIn};
-ghost use Rattle.readback.specs.Form.{longest};
+ghost use Rattle.readback.specs.Form.{longestRead};
 ghost use Rattle.readback.specs.Rows.{isRow, rowsMisfit, lineNumber};
-ghost use Rattle.readback.specs.Answers.{formAnswer, lineAnswer, MinutePut, RowRead, HeadIs, RowsRead};
-ghost use Rattle.readback.specs.Answers.{TimesRead, ReadIs};
+ghost use Rattle.readback.specs.Answers.{minuteIn, faultAnswer, lineAnswer, MinutePut, RowRead, HeadIs};
+ghost use Rattle.readback.specs.Answers.{RowsRead, TimesRead, ReadIs};
 use network::Network;
 use text::Number;
 
-// The most bytes of a listing, and the last minute that is printed.
+// The most bytes of a listing that is read back, and the last minute that is printed.
 pub const LONGEST: usize = 4096;
 
 const LATEST: u32 = 65535;
@@ -33,9 +32,9 @@ pub enum Answer {
 }
 
 // What a pass over the rows finds: nothing, or the first line at fault.
-enum Form {
-    Fits,
-    Fault(u16),
+enum Fault {
+    Nowhere,
+    At(u16),
 }
 
 // A line by its length, where it fits.
@@ -114,10 +113,10 @@ fn line_number(s: usize) -> u16
 }
 
 // The first row that does not fit, or what is left over behind them all. The rows begin at this place.
-fn rows_form(printed: &[u8], first: usize, signals: usize, events: usize) -> Form
+fn rows_form(printed: &[u8], first: usize, signals: usize, events: usize) -> Fault
     requires { ⌜ (signals ≤ L.signals) × (events ≤ L.events) × (first ≤ length (now printed))
-        × (length (now printed) ≤ longest) ⌝ }
-    ensures { λ r. ⌜ r ≡ formAnswer (rowsMisfit (now (printed .entry)) first signals events) ⌝ }
+        × (length (now printed) ≤ longestRead) ⌝ }
+    ensures { λ r. ⌜ r ≡ faultAnswer (rowsMisfit (now (printed .entry)) first signals events) ⌝ }
 {
     let count = network::scenario_count(signals);
     let mut at = first;
@@ -126,7 +125,7 @@ fn rows_form(printed: &[u8], first: usize, signals: usize, events: usize) -> For
         let row = row_at(&printed[at..], s, signals, events);
         match row {
             Line::Misfit => {
-                return Form::Fault(line_number(s));
+                return Fault::At(line_number(s));
             }
             Line::Fits(e) => {
                 at = at + e + 1;
@@ -135,9 +134,9 @@ fn rows_form(printed: &[u8], first: usize, signals: usize, events: usize) -> For
         }
     }
     if at < printed.len() {
-        return Form::Fault(line_number(count));
+        return Fault::At(line_number(count));
     }
-    Form::Fits
+    Fault::Nowhere
 }
 
 // A minute into its cell, where the text is one.
@@ -176,9 +175,15 @@ fn read_row(line: &[u8], events: usize, times: &mut [u16], first: usize) -> bool
 }
 
 // The minutes of all rows, which fit, or the first line with a text that is none.
-fn read_rows(printed: &[u8], first: usize, signals: usize, events: usize, times: &mut [u16]) -> Form
+fn read_rows(
+    printed: &[u8],
+    first: usize,
+    signals: usize,
+    events: usize,
+    times: &mut [u16],
+) -> Fault
     requires { ⌜ (signals ≤ L.signals) × (events ≤ L.events) × (first ≤ length (now printed))
-        × (length (now printed) ≤ longest) × (rowsMisfit (now printed) first signals events ≡ none)
+        × (length (now printed) ≤ longestRead) × (rowsMisfit (now printed) first signals events ≡ none)
         × (length (now times) ≡ L.cells) ⌝ }
     ensures { λ r. ⌜ RowsRead (now (printed .entry)) first signals events (now (times .exit)) r ⌝ }
 {
@@ -189,15 +194,15 @@ fn read_rows(printed: &[u8], first: usize, signals: usize, events: usize, times:
         let e = text::until(&printed[at..], b'\n');
         let end = at + e;
         if !read_row(&printed[at..end], events, times, s * events) {
-            return Form::Fault(line_number(s));
+            return Fault::At(line_number(s));
         }
         at = end + 1;
         s += 1;
     }
-    Form::Fits
+    Fault::Nowhere
 }
 
-// Whether the listing begins with the sheet's header.
+// Whether the listing begins with the sheet's header, and where that ends.
 struct Head {
     fits: bool,
     end: usize,
@@ -236,15 +241,15 @@ fn read_times(
     table: &mut [u16],
 ) -> Answer
     requires { ⌜ (signals ≤ L.signals) × (1 ≤ events) × (events ≤ L.events) × (first ≤ length (now printed))
-        × (length (now printed) ≤ longest) × (rowsMisfit (now printed) first signals events ≡ none) ⌝ }
+        × (length (now printed) ≤ longestRead) × (rowsMisfit (now printed) first signals events ≡ none) ⌝ }
     ensures { λ r. ⌜ TimesRead (now (printed .entry)) first signals events (now (table .entry))
         (now (table .exit)) r ⌝ }
 {
     let mut times = [0u16; Network::CELLS];
     let found = read_rows(printed, first, signals, events, &mut times);
     match found {
-        Form::Fault(line) => Answer::NoMinute(line),
-        Form::Fits => {
+        Fault::At(line) => Answer::NoMinute(line),
+        Fault::Nowhere => {
             let cells = network::cell_count(events, signals);
             if table.len() < cells {
                 return Answer::TooShort;
@@ -273,7 +278,7 @@ pub fn read(sheet: &[u8], network: Network, printed: &[u8], table: &mut [u16]) -
     let events = network.events;
     let form = rows_form(printed, first, signals, events);
     match form {
-        Form::Fault(line) => Answer::OtherForm(line),
-        Form::Fits => read_times(printed, first, signals, events, table),
+        Fault::At(line) => Answer::OtherForm(line),
+        Fault::Nowhere => read_times(printed, first, signals, events, table),
     }
 }

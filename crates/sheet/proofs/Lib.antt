@@ -1,6 +1,5 @@
--- Laws of the sheet's definitions, in reading order: places, a line's tests, and the reading by lines and sections;
+-- Laws of the sheet's definitions, in reading order: a line's tests, and the reading by lines and sections;
 -- what each line keeps; the lines of a section; the whole sheet; its first line at fault; and examples.
-pub mod Places
 pub mod Passing
 pub mod ReadLine
 pub mod Whole

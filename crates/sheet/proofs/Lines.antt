@@ -7,6 +7,8 @@ use native.Mathlib.Omega.{arith}
 use borrow.Author.Tests.{eqb-true}
 use lib.ListN.{length}
 use Rattle.text.specs.Lines.{fields, lineAt}
+use Rattle.text.proofs.Lines.{line-inside}
+use Rattle.text.proofs.Fields.{only-field}
 use Rattle.refusal.specs.Refusal.{refusal}
 use Rattle.refusal.specs.declared.Cause.{Cause}
 use Rattle.network.specs.Limits as L
@@ -23,7 +25,6 @@ use Rattle.line.specs.declared.entry.Entry.the-variants as E
 use Rattle.line.specs.declared.entry.EntryLine.the-variants as R
 use Rattle.line.proofs.Checks.{all-hold}
 use Rattle.line.proofs.Answered.{entry-answer-refused, entry-answer, answerAt, entry-at}
-use Rattle.sheet.proofs.Places.{line-inside, only-field}
 use Rattle.sheet.specs.Reading.{Progress, Stop}
 use Rattle.sheet.specs.Stage.{Stage}
 use Rattle.sheet.proofs.ReadLine.{refusalAt, Passes, passes}

@@ -11,10 +11,10 @@ use lib.ListN.{length}
 use Rattle.prelude.specs.Checks.{Hold}
 use Rattle.prelude.proofs.Tests.{lt-or-ge, eq-or-ne}
 use Rattle.text.specs.Lines.{afterLine}
+use Rattle.text.proofs.Lines.{line-inside}
 use Rattle.network.specs.declared.Network.{Network}
 use Rattle.sheet.specs.Place.{Expected, Horizon, Heading, Entry, NoMore, Place, testsAt}
 use Rattle.sheet.specs.Place.{next, place, tests}
-use Rattle.sheet.proofs.Places.{line-inside}
 
 module _ (sheet : List ℕ) where
   -- a sheet that has no more to come passes every test, however far one counts

@@ -9,6 +9,7 @@ use lib.Dec.{eqb}
 use lib.ListN.{getD}
 use Rattle.prelude.proofs.Tests.{eq-or-ne}
 use Rattle.text.specs.Lines.{lineAt, afterLine, fields, field}
+use Rattle.text.proofs.Lines.{line-inside}
 use Rattle.network.specs.Limits as L
 use Rattle.network.specs.declared.Network.{Network}
 use Rattle.network.proofs.Strategy.{reactionOf-most, reaction-with, reaction-other}
@@ -18,7 +19,6 @@ use Rattle.line.specs.Sections.{withLine}
 use Rattle.line.specs.declared.Section.the-variants.{Reactions}
 use Rattle.line.proofs.Checks.{all-hold}
 use Rattle.line.proofs.ReactionRefusals.{within}
-use Rattle.sheet.proofs.Places.{line-inside}
 use Rattle.sheet.specs.Stage.{toCome, Stage}
 use Rattle.sheet.proofs.ReadLine.{Passes}
 use Rattle.sheet.proofs.Arrays.{arrays-reaction}

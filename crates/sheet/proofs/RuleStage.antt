@@ -11,6 +11,7 @@ use Rattle.prelude.specs.Search.{answers}
 use Rattle.prelude.proofs.Tests.{eq-or-ne, and-true, by-cond}
 use Rattle.text.specs.Lines.{lineAt, afterLine, fields, field}
 use Rattle.text.specs.Number.{magnitude, isNegative, valueOf}
+use Rattle.text.proofs.Lines.{line-inside}
 use Rattle.network.specs.Limits as L
 use Rattle.network.specs.Build.{noConstraint}
 use Rattle.network.specs.WellFormed.{InLimits}
@@ -23,7 +24,6 @@ use Rattle.line.specs.Tests.{eventOf, endsTests, ruleTests}
 use Rattle.line.specs.Sections.{ruleOf, withLine}
 use Rattle.line.specs.declared.Section.the-variants.{Rules}
 use Rattle.line.proofs.Checks.{all-hold}
-use Rattle.sheet.proofs.Places.{line-inside}
 use Rattle.sheet.proofs.Passing.{isNamed}
 use Rattle.sheet.specs.Stage.{toCome, Stage}
 use Rattle.sheet.proofs.ReadLine.{Passes}

@@ -7,6 +7,7 @@ use native.Mathlib.Numerals.{add-one}
 use native.Mathlib.Omega.{arith}
 use lib.ListN.{length, drop}
 use Rattle.text.specs.Lines.{fields, lineAt, endsAt, afterLine}
+use Rattle.text.proofs.Lines.{line-inside}
 use Rattle.refusal.specs.Refusal.{refusal}
 use Rattle.refusal.specs.declared.Cause.{Cause}
 use Rattle.refusal.specs.declared.Cause.the-variants as C
@@ -20,7 +21,6 @@ use Rattle.line.specs.declared.Section.{Section}
 use Rattle.line.proofs.Answered.{section-answer-refused, section-answer}
 use Rattle.line.specs.declared.Section.the-variants.{Events, Signals, Rules, Reactions}
 use Rattle.line.specs.declared.HeadingLine.the-variants as S
-use Rattle.sheet.proofs.Places.{line-inside}
 use Rattle.sheet.specs.Reading.{Progress, Stop, Go, andThen, readLine, readEntries, readSection, readHorizon}
 use Rattle.sheet.specs.Reading.{readOptional, readEnd, longest, answered, read}
 use Rattle.sheet.specs.Stage.{toCome, whole, Stage}

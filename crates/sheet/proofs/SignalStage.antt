@@ -13,6 +13,7 @@ use lib.Seq.{getD-set-same, getD-set-other}
 use Rattle.prelude.proofs.Tests.{eq-or-ne}
 use Rattle.prelude.proofs.Search.{answered}
 use Rattle.text.specs.Lines.{lineAt, afterLine, fields, field}
+use Rattle.text.proofs.Lines.{line-inside}
 use Rattle.network.specs.Limits as L
 use Rattle.network.specs.Build.{observation}
 use Rattle.network.specs.declared.Network.{Network}
@@ -21,7 +22,6 @@ use Rattle.line.specs.Tests.{eventOf, signalTests}
 use Rattle.line.specs.Sections.{withLine}
 use Rattle.line.specs.declared.Section.the-variants.{Signals}
 use Rattle.line.proofs.Checks.{all-hold}
-use Rattle.sheet.proofs.Places.{line-inside}
 use Rattle.sheet.proofs.Passing.{isNamed, new-signal}
 use Rattle.sheet.specs.Stage.{toCome, Stage}
 use Rattle.sheet.proofs.ReadLine.{Passes}

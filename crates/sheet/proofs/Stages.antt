@@ -11,6 +11,8 @@ use lib.ListN.{length}
 use lib.Seq.{getD-set-same, getD-set-other}
 use Rattle.prelude.proofs.Tests.{eq-or-ne}
 use Rattle.text.specs.Lines.{lineAt, endsAt, afterLine, fields, field}
+use Rattle.text.proofs.Lines.{line-inside}
+use Rattle.text.proofs.Fields.{first-field}
 use Rattle.network.specs.Limits as L
 use Rattle.network.specs.Build.{withEvent}
 use Rattle.network.specs.WellFormed.{ToCome, andMore}
@@ -21,7 +23,6 @@ use Rattle.line.specs.Sections.{headingOf}
 use Rattle.line.specs.declared.Section.{Section}
 use Rattle.line.specs.declared.Section.the-variants.{Events, Signals, Rules, Reactions}
 use Rattle.line.proofs.Checks.{all-hold}
-use Rattle.sheet.proofs.Places.{first-field, line-inside}
 use Rattle.sheet.specs.Stage.{toCome, whole, Stage}
 use Rattle.sheet.proofs.ReadLine.{Passes}
 use Rattle.sheet.proofs.Arrays.{arrays-event}

@@ -10,6 +10,7 @@ use lib.ListN.{length}
 use Rattle.prelude.specs.Checks.{firstFailing}
 use Rattle.prelude.proofs.Tests.{zero-is-one}
 use Rattle.text.specs.Lines.{lineAt, afterLine, fields}
+use Rattle.text.proofs.Lines.{line-inside}
 use Rattle.refusal.specs.Refusal.{refusal}
 use Rattle.refusal.specs.declared.Cause.{Cause}
 use Rattle.network.specs.Limits as L
@@ -21,7 +22,6 @@ use Rattle.line.specs.Sections.{headingOf, horizonHeading, headingTests}
 use Rattle.network.proofs.Strategy.{reaction-empty}
 use Rattle.line.specs.declared.Section.{Section}
 use Rattle.line.specs.declared.Section.the-variants.{Events, Signals, Rules, Reactions}
-use Rattle.sheet.proofs.Places.{line-inside}
 use Rattle.sheet.specs.Reading.{Progress, Stop, Go, stopOr, andThen, readEntries, readSection, readHorizon}
 use Rattle.sheet.specs.Reading.{follows, readOptional, endTests, readEnd, progress, read, answered}
 use Rattle.sheet.specs.Stage.{toCome, whole, Stage}

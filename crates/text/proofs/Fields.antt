@@ -1,5 +1,6 @@
--- Laws of fields in their line: field k is the part of the line from its start to its end. Assumes nothing.
-use mathlib.Core.Path.{_≡_, refl, sym}
+-- Laws of fields in their line: field k is the part of the line from its start to its end (`field-part`), and what
+-- stands there up to the next comma (`upTo-field`). Assumes nothing.
+use mathlib.Core.Path.{_≡_, refl, sym, ap}
 use mathlib.Core.Logic.{inl, inr}
 use mathlib.Core.List.{List, [], _∷_}
 use Prim.Native.Nat.{ℕ, zero, suc, _+_, _-_, _≤_, _<_}
@@ -7,8 +8,9 @@ use native.Mathlib.Omega.{arith}
 use borrow.Author.Tests.{eq-eqb, ne-eqb}
 use lib.ListN.{length, take, drop}
 use Rattle.prelude.proofs.Tests.{eq-or-ne}
-use Rattle.text.specs.Lines.{comma, fields, field, intoFirst}
+use Rattle.text.specs.Lines.{comma, upTo, fields, field, intoFirst}
 use Rattle.text.specs.Cuts.{endOf, startOf}
+use Rattle.text.proofs.Lines.{upTo-le, take-upTo}
 
 -- a line's first byte is a comma, or a byte of the first field
 pub fields-comma : (b : ℕ) (s : List ℕ) → b ≡ comma → fields (b ∷ s) ≡ [] ∷ fields s
@@ -77,28 +79,34 @@ endOf-le (suc k) (b ∷ s) h =
       | inr n ↦ endOf-byte (suc k) b s n (endOf-le (suc k) s (rw (fields-byte b s n, length-intoFirst) at h))
     ]
 
--- field k is what stands from its start on, as long as it is
-part-at : (k : ℕ) (l : List ℕ) → k < length (fields l)
-    → take (length (field k (fields l))) (drop (startOf k (fields l)) l) ≡ field k (fields l)
-part-at zero [] h = refl
-part-at (suc k) [] h = absurd (omega arith)
-part-at zero (b ∷ s) h =
+-- field k is what stands from its start up to the next comma
+pub upTo-field : (k : ℕ) (l : List ℕ) → k < length (fields l)
+    → upTo comma (drop (startOf k (fields l)) l) ≡ field k (fields l)
+upTo-field zero [] h = refl
+upTo-field (suc k) [] h = absurd (omega arith)
+upTo-field zero (b ∷ s) h =
     elim (eq-or-ne b comma) [
-      | inl e ↦ rw (fields-comma b s e)
+      | inl e ↦ rw (fields-comma b s e, eq-eqb b comma e, upTo)
       | inr n ↦
-          rw (fields-byte b s n, first-intoFirst b (fields s) (1-le-fields s), part-at zero s (1-le-fields s))
+          rw (
+            fields-byte b s n,
+            ne-eqb b comma n,
+            upTo,
+            first-intoFirst b (fields s) (1-le-fields s),
+            upTo-field zero s (1-le-fields s),
+          )
     ]
-part-at (suc k) (b ∷ s) h =
+upTo-field (suc k) (b ∷ s) h =
     elim (eq-or-ne b comma) [
       | inl e ↦
           let m : suc k < suc (length (fields s)) = rw (fields-comma b s e) at h in
           let z : startOf (suc k) ([] ∷ fields s) ≡ suc (startOf k (fields s)) =
           omega (arith, startOf-cons k [] (fields s)) in
-          rw (fields-comma b s e, z) (part-at k s (omega arith))
+          rw (fields-comma b s e, z) (upTo-field k s (omega arith))
       | inr n ↦
           let m : suc k < length (fields s) = rw (fields-byte b s n, length-intoFirst) at h in
           rw (fields-byte b s n, field-intoFirst, startOf-intoFirst b k (fields s) (1-le-fields s))
-          (part-at (suc k) s m)
+          (upTo-field (suc k) s m)
     ]
 
 pub field-part : (k : ℕ) (l : List ℕ) → k < length (fields l)
@@ -106,4 +114,18 @@ pub field-part : (k : ℕ) (l : List ℕ) → k < length (fields l)
 field-part k l h =
     let e : endOf k (fields l) - startOf k (fields l) ≡ length (field k (fields l)) =
     omega (arith, endOf-is k (fields l) h) in
-    rw e (sym (part-at k l h))
+    rw (e, ← upTo-field k l h) (sym (take-upTo comma (drop (startOf k (fields l)) l)))
+
+-- the first field is a part of its line, and a line of one field is that field
+pub first-field : (l : List ℕ) → length (field 0 (fields l)) ≤ length l
+first-field l = rw (← upTo-field 0 l (1-le-fields l)) (upTo-le comma l)
+
+pub only-field : (l : List ℕ) → length (fields l) ≡ 1 → field 0 (fields l) ≡ l
+only-field [] h = refl
+only-field (b ∷ s) h =
+    elim (eq-or-ne b comma) [
+      | inl e ↦ absurd (let n = ap length (fields-comma b s e) in omega (arith, 1-le-fields s))
+      | inr n ↦
+          let one : length (fields s) ≡ 1 = rw (fields-byte b s n, length-intoFirst) at h in
+          rw (fields-byte b s n, first-intoFirst b (fields s) (1-le-fields s), only-field s one)
+    ]

@@ -3,7 +3,7 @@
 use mathlib.Core.Path.{_≡_, refl, sym, ap}
 use mathlib.Core.Logic.{inl, inr}
 use mathlib.Core.Bool.{true, false}
-use mathlib.Core.List.{List, [], _∷_}
+use mathlib.Core.List.{List, [], _∷_, _++_}
 use Prim.Native.Nat.{ℕ, suc, _+_, _-_, _≤_, _<_}
 use native.Mathlib.Numerals.{add-one}
 use native.Mathlib.Omega.{arith}
@@ -13,7 +13,7 @@ use lib.ListN.{length, getD, take, drop, length-drop, drop-of-length-le}
 use lib.Seq.{drop-cons, take-all}
 use Rattle.prelude.specs.Bytes.{isIn, same}
 use Rattle.prelude.proofs.Tests.{either, clash}
-use Rattle.text.specs.Lines.{lineFeed, upTo}
+use Rattle.text.specs.Lines.{lineFeed, upTo, endsAt, afterLine}
 
 -- a part that runs to the end of its slice, `&s[a..]`
 pub take-drop : (s : List ℕ) (a : ℕ) → take (length s - a) (drop a s) ≡ drop a s
@@ -72,6 +72,21 @@ module _ (d : ℕ) where
   not-isIn-of-upTo-le s h =
       elim (either (isIn d s)) [ inl p ↦ absurd (omega (arith, upTo-lt-of-isIn s p)) | inr q ↦ q ]
 
+  -- s is what stands before d, d, and the rest
+  pub upTo-split : (s : List ℕ) → isIn d s ≡ true → s ≡ (upTo d s ++ d ∷ []) ++ drop (suc (length (upTo d s))) s
+  upTo-split [] e = clash false e refl
+  upTo-split (b ∷ s) e =
+      elim (either (eqb b d)) [
+        | inl p ↦ rw (p, upTo) (ap (λ (x : ℕ). x ∷ s) (eqb-true b d p))
+        | inr p ↦
+            let q : isIn d s ≡ true = rw (ne-eqb d b (λ z. eqb-false b d p (sym z))) at e in
+            rw (p, upTo) (ap (λ (t : List ℕ). b ∷ t) (upTo-split s q))
+      ]
+
+  pub isIn-behind : (s rest : List ℕ) → isIn d (s ++ d ∷ rest) ≡ true
+  isIn-behind [] rest = rw (eq-eqb d d refl)
+  isIn-behind (b ∷ s) rest = elim (either (eqb d b)) [ inl e ↦ rw e | inr e ↦ rw e (isIn-behind s rest) ]
+
   -- a scan for d at i
   module _ (s : List ℕ) (i : ℕ) where
     pub upTo-hit : i < length s → getD s i 0 ≡ d → length (upTo d (drop i s)) ≡ 0
@@ -117,3 +132,7 @@ module _ (rest : List ℕ) (e : ℕ) (is : e ≡ length (upTo lineFeed rest)) wh
 
   pub line-is : take e rest ≡ upTo lineFeed rest
   line-is = rw is (take-upTo lineFeed rest)
+
+-- a line that ends lies inside its bytes, with its line feed
+pub line-inside : (s : List ℕ) (at : ℕ) → endsAt s at ≡ true → afterLine s at ≤ length s
+line-inside s at e = omega (arith, upTo-lt-of-isIn lineFeed (drop at s) e, length-drop at s)

@@ -1,20 +1,22 @@
 -- A line as it is written and as it is read: where a line of fields without commas and line feeds stands, these
--- fields are read, and where a line is read that ends, it is the line of its fields. Assumes nothing.
+-- fields are read (`is-read`); and where a line is read that ends, it is the line of its fields (`line-read`), which
+-- have no comma and no line feed (`plain-fields`). Assumes nothing.
 use mathlib.Core.Path.{_≡_, refl, sym, _∙_, ap}
 use mathlib.Core.Logic.{inl, inr}
 use mathlib.Core.Bool.{true, false, not}
 use mathlib.Core.List.{List, [], _∷_, _++_, append-nil, append-assoc}
-use Prim.Native.Nat.{ℕ, suc, _+_, _≤_}
+use Prim.Native.Nat.{ℕ, _+_, _≤_}
 use native.Mathlib.Numerals.{add-one}
 use native.Mathlib.Omega.{arith}
-use borrow.Author.Tests.{eqb-true, eqb-false, eq-eqb, ne-eqb, not-true}
+use borrow.Author.Tests.{eqb-true, ne-eqb, not-true}
 use lib.Dec.{eqb}
 use lib.ListN.{length, drop}
 use lib.Seq.{drop-drop, drop-append-add}
-use Rattle.prelude.specs.Bytes.{isIn, every}
-use Rattle.prelude.proofs.Tests.{either, clash, and-true}
+use Rattle.prelude.specs.Bytes.{every}
+use Rattle.prelude.proofs.Tests.{either, and-true, and-both, eq-or-ne}
 use Rattle.text.specs.Lines.{comma, lineFeed, plain, line, upTo, intoFirst, fields, lineAt, endsAt, afterLine}
-use Rattle.text.proofs.Fields.{1-le-fields}
+use Rattle.text.proofs.Lines.{upTo-split, isIn-behind}
+use Rattle.text.proofs.Fields.{fields-comma, fields-byte, 1-le-fields}
 
 abbrev pub Plain : List (List ℕ) → Type 0
 Plain [] = Unit {0}
@@ -72,10 +74,6 @@ upTo-joined f [] rest p = upTo-before f (lineFeed ∷ rest) (p .0) ∙ append-ni
 upTo-joined f (g ∷ gs) rest p =
     rw (append-assoc, upTo-before f (comma ∷ joined g gs ++ lineFeed ∷ rest) (p .0), upTo-joined g gs rest (p .1))
 
-isIn-behind : (d : ℕ) (s rest : List ℕ) → isIn d (s ++ d ∷ rest) ≡ true
-isIn-behind d [] rest = rw (eq-eqb d d refl)
-isIn-behind d (b ∷ s) rest = elim (either (eqb d b)) [ inl e ↦ rw e | inr e ↦ rw e (isIn-behind d s rest) ]
-
 -- a line that stands in the sheet is read
 pub record IsRead (sheet : List ℕ) (at : ℕ) (fs : List (List ℕ)) (rest : List ℕ) : Type 0 where
   pub ends : endsAt sheet at ≡ true
@@ -111,16 +109,6 @@ line-fields (b ∷ s) =
       | inr e ↦ rw (e, fields, line-first b (fields s) (1-le-fields s), line-fields s)
     ]
 
-upTo-split : (d : ℕ) (s : List ℕ) → isIn d s ≡ true → s ≡ (upTo d s ++ d ∷ []) ++ drop (suc (length (upTo d s))) s
-upTo-split d [] e = clash false e refl
-upTo-split d (b ∷ s) e =
-    elim (either (eqb b d)) [
-      | inl p ↦ rw (p, upTo) (ap (λ (x : ℕ). x ∷ s) (eqb-true b d p))
-      | inr p ↦
-          let q : isIn d s ≡ true = rw (ne-eqb d b (λ z. eqb-false b d p (sym z))) at e in
-          rw (p, upTo) (ap (λ (t : List ℕ). b ∷ t) (upTo-split d s q))
-    ]
-
 -- a line that ends stands in the sheet as the line of its fields
 pub line-read : (sheet : List ℕ) (at : ℕ) → endsAt sheet at ≡ true
     → drop at sheet ≡ lineOf (fields (lineAt sheet at)) ++ drop (afterLine sheet at) sheet
@@ -129,6 +117,22 @@ line-read sheet at e =
     ∙ rw (
       ← add-one (length (lineAt sheet at)),
       drop-drop (length (lineAt sheet at) + 1) at sheet,
-      line-fields
-          (lineAt sheet at),
+      line-fields (lineAt sheet at),
     )
+
+-- what is read is plain: the fields of a line have no comma in them, and the line no line feed
+plain-into : (b : ℕ) (fs : List (List ℕ)) → plain b ≡ true → Plain fs → Plain (intoFirst b fs)
+plain-into b [] e p = tt
+plain-into b (f ∷ fs) e p = (and-both (plain b) (every plain f) e (p .0), p .1)
+
+pub plain-fields : (s : List ℕ) → Plain (fields (upTo lineFeed s))
+plain-fields [] = (refl, tt)
+plain-fields (b ∷ s) =
+    let l = upTo lineFeed s in
+    elim (either (eqb b lineFeed)) [
+      | inl e ↦ rw (e, upTo) (refl, tt)
+      | inr e ↦ rw (e, upTo) (elim (eq-or-ne b comma) [
+        | inl p ↦ rw (fields-comma b l p) (refl, plain-fields s)
+        | inr n ↦ rw (fields-byte b l n) (plain-into b (fields l) (rw (ne-eqb b comma n, e)) (plain-fields s))
+      ])
+    ]

@@ -9,11 +9,11 @@ use borrow.Author.Tests.{not-true, not-false}
 use borrow.Author.Needs.{needs}
 use lib.ListN.{length}
 use Rattle.listing.specs.Listing.{header}
-use Rattle.readback.specs.Form.{longest}
+use Rattle.readback.specs.Form.{longestRead}
 use Rattle.readback.specs.Rows.{rowsMisfit, headerFits}
-use Rattle.readback.specs.Answers.{formAnswer}
+use Rattle.readback.specs.Answers.{faultAnswer}
 use Rattle.readback.proofs.Passes.{none-is}
-use Rattle.readback.proofs.Tables.{read-long, read-other, read-misfit, read-times}
+use Rattle.readback.proofs.Answered.{read-long, read-other, read-misfit, read-times}
 use Rattle.readback.proofs.read.Statement.{statement}
 use Rattle.readback.proofs.read.Tie as tie
 
@@ -25,7 +25,7 @@ abbrev head-at : tie.Else2 → tie.After-head-of
 head-at d = d .before .before
 
 -- the listing is not too long
-short : (d : tie.After-head-of) → length (now (start d .args .printed)) ≤ longest
+short : (d : tie.After-head-of) → length (now (start d .args .printed)) ≤ longestRead
 short d = omega (arith, d .before .if1 .left)
 
 -- it begins with the header
@@ -41,7 +41,7 @@ fits d = sym (head-at d .head-of .ensures .answer) ∙ begins d
 form : (d : tie.After-rows-form)
     → let args = start (head-at (d .before)) .args in
     d .rows-form .result
-    ≡ formAnswer (rowsMisfit (now (args .printed)) (length (header (now (args .sheet)) (args .network)))
+    ≡ faultAnswer (rowsMisfit (now (args .printed)) (length (header (now (args .sheet)) (args .network)))
     (args .network .signals) (args .network .events))
 form d = rw (head-at (d .before) .head-of .ensures .ends) at (d .rows-form .ensures)
 

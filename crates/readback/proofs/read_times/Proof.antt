@@ -8,8 +8,9 @@ use borrow.Author.Needs.{needs}
 use lib.ListN.{length-take}
 use lib.Seq.{length-take-le}
 use Rattle.network.specs.Limits as L
-use Rattle.readback.specs.declared.Form.the-variants as F
-use Rattle.readback.proofs.Tables.{all-room, times-fault, times-short, times-all}
+use Rattle.readback.specs.declared.Fault.the-variants as F
+use Rattle.readback.proofs.Tables.{all-room}
+use Rattle.readback.proofs.Answered.{times-fault, times-short, times-all}
 use Rattle.readback.proofs.read_times.Statement.{statement}
 use Rattle.readback.proofs.read_times.Tie as tie
 
@@ -21,7 +22,7 @@ abbrev start : tie.After-read-rows → tie.Start
 start d = d .before .before .before .before
 
 -- each row was read
-faultless : (d : tie.After-cell-count) → rows-at d .read-rows .result ≡ F.Fits
+faultless : (d : tie.After-cell-count) → rows-at d .read-rows .result ≡ F.Nowhere
 faultless d = d .before .enum-told .given .1
 
 -- there is room for the cells in the memory of the times

@@ -82,7 +82,8 @@ returns-2 : tie.Need-returns-2 Inv-loop μ-loop
 returns-2 c =
     let at-end = c .before .before in
     rw (c .line-number2 .ensures, at-end .before .before .scenario-count .ensures)
-    (forming-over (at-end .before .loop .inv) (ended at-end) (c .before .if1 .taken))
+    (forming-over (at-end .before .loop .inv) (ended at-end)
+    (omega (arith, c .before .if1 .taken, at-end .before .loop .inv .inside)))
 
 returns-3 : tie.Need-returns-3 Inv-loop μ-loop
 returns-3 c = forming-all (c .before .before .loop .inv) (ended (c .before)) (omega arith)
