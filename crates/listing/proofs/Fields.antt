@@ -5,7 +5,7 @@ use Prim.Native.Nat.{ℕ, zero, suc}
 use Rattle.prelude.specs.Bounded.{tabulateFrom, tabulate}
 use Rattle.text.specs.Lines.{comma, lineFeed, line}
 use Rattle.page.specs.Joined.{joinFrom}
-use Rattle.listing.specs.Listing.{fieldsOf}
+use Rattle.listing.specs.Line.{fieldsOf}
 
 line-tabulateFrom : (f : List ℕ) (g : ℕ → List ℕ) (i n : ℕ)
     → f ++ (joinFrom i n (λ j. comma ∷ g j) ++ lineFeed ∷ []) ≡ line f (tabulateFrom i n g)

@@ -12,7 +12,8 @@ use lib.Pow.{pow-mono}
 use Rattle.prelude.specs.Bounded.{tabulate}
 use Rattle.prelude.proofs.Bounded.{length-tabulate}
 use Rattle.prelude.proofs.Tests.{by-test}
-use Rattle.text.specs.Lines.{comma, lineFeed}
+use Rattle.prelude.specs.Bytes.{ascii}
+use Rattle.text.specs.Lines.{comma, lineFeed, line}
 use Rattle.text.proofs.Decimal.{length-decimal-16}
 use Rattle.page.specs.Joined.{joinFrom}
 use Rattle.network.specs.Build.{nameOf, scenarios}
@@ -20,7 +21,9 @@ use Rattle.network.specs.Scenario.{truth}
 use Rattle.network.specs.Strategy.{time}
 use Rattle.network.specs.WellFormed.{WellFormed, Named}
 use Rattle.network.specs.declared.Network.{Network}
-use Rattle.listing.specs.Listing.{fieldsOf, scenarioText, header, lineOver, timeTexts, listing}
+use Rattle.listing.specs.Listing.{scenarioText, header, lineOver, timeTexts, listing}
+use Rattle.listing.specs.Line.{fieldsOf}
+use Rattle.listing.proofs.Fields.{line-tabulate}
 use Rattle.listing.specs.Most.{mostHeader, mostLine, mostListing}
 
 length-join : (f : ℕ → List ℕ) (most i n : ℕ) → ((j : ℕ) → i ≤ j → j < i + n → length (f j) ≤ most)
@@ -44,6 +47,12 @@ length-fields n most f h =
       length-join (λ i. comma ∷ f i) (suc most) 0 n (λ j a b. omega (arith, h j (omega arith))),
     )
 
+-- a line of n fields behind its first
+length-line : (f : List ℕ) (n most : ℕ) (g : ℕ → List ℕ) → ((j : ℕ) → j < n → length (g j) ≤ most)
+    → length (line f (tabulate n g)) ≤ length f + (n * suc most + 1)
+length-line f n most g h =
+    rw (← line-tabulate f n g) (omega (arith, length-append f (fieldsOf n g), length-fields n most g h))
+
 length-scenario : (k s : ℕ) → k ≤ 4 → length (scenarioText k s) ≤ 4
 length-scenario k s h =
     by-test (λ (t : List ℕ). length t ≤ 4) (eqb k 0) _ (tabulate k (λ p. cond (truth s p) (code "T") (code "F")))
@@ -57,7 +66,7 @@ module _ (sheet : List ℕ) (Γ : Network) (σ : List ℕ) (wf : WellFormed Γ) 
 
   header-short : length (header sheet Γ) ≤ mostHeader
   header-short =
-      omega (arith, wf .events, length-fields (Γ .events) 8 (λ u. nameOf Γ sheet u) name-short)
+      omega (arith, wf .events, length-line (ascii "case") (Γ .events) 8 (nameOf Γ sheet) name-short)
 
   module _ (times : (s u : ℕ) → s < scenarios Γ → u < Γ .events → time (Γ .events) σ s u ≤ 65535) where
     abbrev texts : ℕ → ℕ → List ℕ
@@ -68,9 +77,9 @@ module _ (sheet : List ℕ) (Γ : Network) (σ : List ℕ) (wf : WellFormed Γ) 
         omega (
           arith,
           wf .events,
-          length-append (scenarioText (Γ .signals) s) (fieldsOf (Γ .events) (texts s)),
           length-scenario (Γ .signals) s (wf .signals),
-          length-fields (Γ .events) 5 (texts s) (λ u h. length-decimal-16 _ (times s u l h)),
+          length-line (scenarioText (Γ .signals) s) (Γ .events) 5 (texts s)
+              (λ u h. length-decimal-16 _ (times s u l h)),
         )
 
     pub listing-short : length (listing sheet Γ σ) ≤ mostListing

@@ -1,23 +1,19 @@
 -- The printed listing (01, The printed listing): a line of names, then a line of times for each scenario. It is defined
 -- over texts in the places of the times, so that one definition serves what is written and what is read back.
 use mathlib.Core.Bool.{true, false, cond}
-use mathlib.Core.List.{List, [], _∷_, _++_}
+use mathlib.Core.List.{List, _++_}
 use Prim.Native.Nat.{ℕ, _^_}
 use Prim.Native.Char.{code}
 use lib.Dec.{eqb}
 use Rattle.prelude.specs.Bounded.{tabulate}
 use Rattle.prelude.specs.Bytes.{ascii}
-use Rattle.text.specs.Lines.{comma, lineFeed}
+use Rattle.text.specs.Lines.{line}
 use Rattle.text.specs.Decimal.{decimal}
 use Rattle.page.specs.Joined.{joinFrom}
 use Rattle.network.specs.Build.{nameOf}
 use Rattle.network.specs.Scenario.{truth}
 use Rattle.network.specs.Strategy.{time}
 use Rattle.network.specs.declared.Network.{Network}
-
--- n fields, each behind a comma, and the line feed
-abbrev pub fieldsOf : ℕ → (ℕ → List ℕ) → List ℕ
-fieldsOf n f = joinFrom 0 n (λ i. comma ∷ f i) ++ lineFeed ∷ []
 
 -- "one `T` or `F` per signal in sheet order (`-` if there is none)"
 abbrev pub scenarioText : ℕ → ℕ → List ℕ
@@ -29,7 +25,7 @@ scenarioText k s =
 
 -- "`case`, then a comma and a name for each event"
 abbrev pub header : List ℕ → Network → List ℕ
-header sheet Γ = ascii "case" ++ fieldsOf (Γ .events) (λ u. nameOf Γ sheet u)
+header sheet Γ = line (ascii "case") (tabulate (Γ .events) (nameOf Γ sheet))
 
 -- a minute as it is printed
 abbrev pub timeText : ℕ → List ℕ
@@ -39,7 +35,7 @@ timeText v = decimal v
 module _ (k n : ℕ) (texts : ℕ → ℕ → List ℕ) where
   -- the truths of s, "then a comma and a minute per event"
   abbrev pub lineOver : ℕ → List ℕ
-  lineOver s = scenarioText k s ++ fieldsOf n (texts s)
+  lineOver s = line (scenarioText k s) (tabulate n (texts s))
 
   -- the header, and the lines of the first m scenarios
   abbrev pub linesOver : List ℕ → ℕ → List ℕ

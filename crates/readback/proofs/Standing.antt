@@ -1,9 +1,9 @@
 -- A row as it is written and as it is read: where the line of a scenario stands over texts without comma and line
 -- feed, it fits and has these texts (`row-stands`); and a line that fits stands there over its own texts
 -- (`row-read`). Assumes nothing.
-use mathlib.Core.Path.{_≡_, sym, _∙_, ap}
+use mathlib.Core.Path.{_≡_, _∙_, ap}
 use mathlib.Core.Bool.{true, _&&_}
-use mathlib.Core.List.{List, [], _∷_, _++_}
+use mathlib.Core.List.{List, [], _++_}
 use Prim.Native.Nat.{ℕ, suc, _+_, _<_}
 use native.Mathlib.Omega.{arith}
 use lib.ListN.{length, drop}
@@ -13,11 +13,10 @@ use Rattle.prelude.proofs.Tests.{and-true, and-both}
 use Rattle.prelude.proofs.Bytes.{same-true, same-refl}
 use Rattle.prelude.proofs.Bounded.{length-tabulate, getD-tabulate}
 use Rattle.text.specs.Lines.{plain, line, fields, field, lineAt, endsAt, afterLine}
-use Rattle.text.proofs.Written.{lineOf, is-read, line-read, plain-fields}
+use Rattle.text.proofs.Written.{is-read, line-read, plain-fields}
 use Rattle.text.proofs.Tabulated.{plain-tabulate, plain-field, first-rest}
 use Rattle.listing.specs.Listing.{scenarioText, lineOver}
 use Rattle.listing.proofs.Truths.{plain-scenario}
-use Rattle.listing.proofs.Fields.{line-tabulate}
 use Rattle.readback.specs.Rows.{textIn, isRow}
 use Rattle.readback.proofs.Passes.{count-of-row, row-mark}
 
@@ -36,10 +35,7 @@ module _ (k n : ℕ) (bytes : List ℕ) (s at : ℕ) where
       → drop at bytes ≡ lineOver k n texts s ++ rest → RowStands texts rest
   row-stands texts rest p e =
       let gs = tabulate n (texts s) in
-      let stands : drop at bytes ≡ lineOf (scenarioText k s ∷ gs) ++ rest =
-      e ∙ ap (λ (t : List ℕ). t ++ rest) (line-tabulate (scenarioText k s) n (texts s)) in
-      let w = is-read bytes at (scenarioText k s) gs rest
-      (plain-scenario s k, plain-tabulate (texts s) n p) stands in
+      let w = is-read bytes at (scenarioText k s) gs rest (plain-scenario s k, plain-tabulate (texts s) n p) e in
       let l = lineAt bytes at in
       let count : length (fields l) ≡ n + 1 = rw (w .fields-are) (omega (arith, length-tabulate (texts s) n)) in
       let mark : same (field 0 (fields l)) (scenarioText k s) ≡ true =
@@ -60,5 +56,4 @@ module _ (k n : ℕ) (bytes : List ℕ) (s at : ℕ) where
       line-read bytes at (p .0)
       ∙ ap (λ (t : List ℕ). t ++ drop (afterLine bytes at) bytes)
       (first-rest (fields l) n (q .0)
-      ∙ ap (λ (f : List ℕ). line f (tabulate n (textIn l))) (same-true (field 0 (fields l)) (scenarioText k s) (q .1))
-      ∙ sym (line-tabulate (scenarioText k s) n (textIn l)))
+      ∙ ap (λ (f : List ℕ). line f (tabulate n (textIn l))) (same-true (field 0 (fields l)) (scenarioText k s) (q .1)))

@@ -1,6 +1,7 @@
 -- `listing::push_line` meets its contract: the truths, and the times behind them. Assumes nothing.
 use native.Mathlib.Omega.{arith}
 use Rattle.page.proofs.Append.{append-then}
+use Rattle.listing.proofs.Fields.{line-tabulate}
 use borrow.Author.Needs.{needs}
 use Rattle.listing.proofs.push_line.Statement.{statement}
 use Rattle.listing.proofs.push_line.Tie as tie
@@ -9,7 +10,8 @@ returns : tie.Need-returns
 returns c =
     let second = c .before .before in
     let first = second .before .before .before .before in
-    append-then (first .push-truths .ensures) (second .push-times .ensures) (omega arith)
+    rw (← line-tabulate _ _ _)
+    (append-then (first .push-truths .ensures) (second .push-times .ensures) (omega arith))
 
 pub push-line-spec : {M : Type 1} → statement M
 push-line-spec =
