@@ -1,8 +1,7 @@
 //! Document 01, and points 1, 2, 3, 4 and 8 of document 02, in plain Rust, written from the papers alone.
 //!
 //! Nothing here is fast or clever on purpose: each function renders one rule of the paper, and its comment says which.
-//! Quoted words are those of the papers. "Readings" are those of docs/DECISIONS.md, 8, 16, 20 and 44, and for point 4
-//! those that came with the papers.
+//! Quoted words are those of the papers. "Readings" are those of docs/DECISIONS.md, 8, 16, 20, 44 and 48.
 
 use std::collections::{BTreeMap, VecDeque};
 use std::ops::Range;
