@@ -14,12 +14,12 @@ use Rattle.sheet.specs.declared.Outcome.{Outcome}
 use Rattle.sheet.specs.declared.Outcome.the-variants.{Accepted, Refused}
 use Rattle.sheet.proofs.Fault.{refused-iff, first-fault-range, first-fault-near}
 use Rattle.calls.specs.Values.{Values, turnedAway}
-use Rattle.calls.specs.Answers.{hasLine, Own, OneOf, Answers}
+use Rattle.calls.specs.Answers.{namesLine, Own, OneOf, Answers}
 use Rattle.calls.proofs.Settled.{number-of, areOwn, Settles, settled-one, settled-line, settled-near}
 use Rattle.calls.proofs.Settled.{settled-empty, settled-exactly}
 
 -- the refusals of a sheet's lines have lines
-of-sheet : (n : ℕ) → 2 ≤ n → n ≤ 10 → hasLine n ≡ true
+of-sheet : (n : ℕ) → 2 ≤ n → n ≤ 10 → namesLine n ≡ true
 of-sheet n l h = rw (le-leb 2 n l, le-leb n 10 h)
 
 module _ {A : Type 0} (nothing : A) (sheet : List ℕ) (own : List Own) (v : Values A) (above : areOwn own ≡ true)
@@ -28,7 +28,7 @@ module _ {A : Type 0} (nothing : A) (sheet : List ℕ) (own : List Own) (v : Val
   -- what does not depend on the cause: numbers, lines, and that a refusal is empty
   record Told : Type 0 where
     number : (v .number ≤ 10) ⊎ OneOf own (v .number)
-    line : (1 ≤ v .line) ↔ (hasLine (v .number) ≡ true)
+    line : (1 ≤ v .line) ↔ (namesLine (v .number) ≡ true)
     near : v .line ≤ suc longest
     empty : (v .number ≡ 0 → ⊥) → v .value ≡ nothing
 

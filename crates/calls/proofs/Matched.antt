@@ -16,7 +16,7 @@ use Rattle.sheet.specs.Reading.{longest, read}
 use Rattle.sheet.specs.declared.Outcome.the-variants.{Accepted}
 use Rattle.calls.specs.Values.{Values, turnedAway}
 use Rattle.calls.specs.Call.{withoutLine, Tests, call, Left}
-use Rattle.calls.specs.Answers.{hasLine, Own, Answers, Writes}
+use Rattle.calls.specs.Answers.{namesLine, Own, Answers, Writes}
 use Rattle.calls.proofs.Call.{Ends, faulty, failed, worked, ends, call-refused, call-fails, call-works}
 use Rattle.calls.proofs.Settled.{areOwn, Turned, Settles}
 use Rattle.calls.proofs.Answers.{answers-by}
@@ -24,13 +24,13 @@ use Rattle.calls.proofs.Answers.{answers-by}
 -- a refusal has this number, and a line where the number has one
 pub record Refuses (r : Refusal) (n : ℕ) : Type 0 where
   pub number : numberOf (r .cause) ≡ n
-  pub line : (1 ≤ r .line) ↔ (hasLine n ≡ true)
+  pub line : (1 ≤ r .line) ↔ (namesLine n ≡ true)
   pub near : r .line ≤ suc longest
 
-pub unlined : {c : Cause} {n : ℕ} → numberOf c ≡ n → hasLine n ≡ false → Refuses (withoutLine c) n
+pub unlined : {c : Cause} {n : ℕ} → numberOf c ≡ n → namesLine n ≡ false → Refuses (withoutLine c) n
 unlined {c} {n} e h = record {
   number = e;
-  line = (λ l. absurd (omega arith), λ g. clash (hasLine n) g h);
+  line = (λ l. absurd (omega arith), λ g. clash (namesLine n) g h);
   near = omega arith;
 }
 

@@ -25,7 +25,7 @@ use Rattle.calls.specs.Call.{Left}
 use Rattle.calls.specs.Lent.{Lent}
 use Rattle.calls.specs.Calls.{writtenValues, writing, refusing}
 use Rattle.calls.specs.Recover.{misfitIn, unreadIn, recoveredIn, recoveringTests, recoveringInto}
-use Rattle.calls.specs.Answers.{Reads, Answers, Wrote}
+use Rattle.calls.specs.Answers.{Reads, Answers, WroteInto}
 use Rattle.calls.specs.Numbers.{recovers}
 use Rattle.calls.specs.ReadingBack.{Printed, answer, ReadsBack, ReadingBack}
 use Rattle.calls.specs.declared.Written.{Written}
@@ -72,7 +72,7 @@ module _ (sheet : List ℕ) (a : read sheet .outcome ≡ Accepted) (bytes : List
         room = leb-true (cells net) (m .room) (h .1 .1 .0);
       }
 
-  wrote-found : (w : Whole) → Wrote found m left
+  wrote-found : (w : Whole) → WroteInto found m left
   wrote-found w = wrote-into m found (sym (recovers-table sheet bytes m a (w .formed) (w .faultless) (w .room)))
 
   accepted-printed : cells net ≤ m .room → (answer sheet bytes m .number ≡ 0) ↔ Printed sheet net bytes

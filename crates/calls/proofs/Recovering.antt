@@ -29,7 +29,7 @@ use Rattle.calls.specs.Call.{Left}
 use Rattle.calls.specs.Lent.{Lent}
 use Rattle.calls.specs.Calls.{writtenValues, writing, refusing}
 use Rattle.calls.specs.Recover.{faultless, misfitIn, unreadIn, recoveredIn, recoveringTests, recoveringInto}
-use Rattle.calls.specs.Answers.{hasLine, Writes}
+use Rattle.calls.specs.Answers.{namesLine, Writes}
 use Rattle.calls.specs.Numbers.{otherForm, noMinute, recovers}
 use Rattle.calls.specs.declared.Written.{Written}
 use Rattle.calls.proofs.Call.{call-fails, call-works}
@@ -52,7 +52,7 @@ module _ (c : Cause) where
   fails-some none n = absurd (n refl)
   fails-some (some l) n = refl
 
-  lined : (o : Option ℕ) (n : ℕ) → numberOf c ≡ n → hasLine n ≡ true
+  lined : (o : Option ℕ) (n : ℕ) → numberOf c ≡ n → namesLine n ≡ true
       → ((l : ℕ) → o ≡ some l → (1 ≤ l) × (l ≤ suc longest)) → faultless o c .0 ≡ false → Refuses (faultless o c .1) n
   lined none n e h near f = clash true refl f
   lined (some l) n e h near f = record { number = e; line = (λ _. h, λ _. near l refl .0); near = near l refl .1 }

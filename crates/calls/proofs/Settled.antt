@@ -12,7 +12,7 @@ use Rattle.prelude.proofs.Tests.{clash, and-true, eq-or-ne}
 use Rattle.network.specs.declared.Network.{Network}
 use Rattle.sheet.specs.Reading.{longest}
 use Rattle.calls.specs.Values.{Values}
-use Rattle.calls.specs.Answers.{hasLine, Own, Exactly, OneOf}
+use Rattle.calls.specs.Answers.{namesLine, Own, Exactly, OneOf}
 
 abbrev pub number-of : {A : Type 0} → Values A → ℕ
 number-of v = v .number
@@ -64,7 +64,7 @@ module _ {A : Type 0} (nothing : A) where
   -- refused with this number, with a line where the number has one, and nothing besides
   pub record Turned (n : ℕ) (v : Values A) : Type 0 where
     pub number : v .number ≡ n
-    pub line : (1 ≤ v .line) ↔ (hasLine n ≡ true)
+    pub line : (1 ≤ v .line) ↔ (namesLine n ≡ true)
     pub near : v .line ≤ suc longest
     pub empty : v .value ≡ nothing
 
@@ -80,7 +80,7 @@ module _ {A : Type 0} (nothing : A) where
   settled-one (o ∷ os) Γ v (inr s) = elim (settled-one os Γ v (s .1)) [ inl z ↦ inl z | inr m ↦ inr (inr m) ]
 
   pub settled-line : (own : List Own) (Γ : Network) (v : Values A) → Settles own Γ v
-      → (1 ≤ v .line) ↔ (hasLine (v .number) ≡ true)
+      → (1 ≤ v .line) ↔ (namesLine (v .number) ≡ true)
   settled-line [] Γ v s = rw (s .0, s .1) (λ h. absurd (omega arith), λ e. clash false e refl)
   settled-line (o ∷ os) Γ v (inl s) = rw (s .1 .number) (s .1 .line)
   settled-line (o ∷ os) Γ v (inr s) = settled-line os Γ v (s .1)

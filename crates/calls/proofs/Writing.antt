@@ -18,7 +18,7 @@ use Rattle.canonical.specs.House.{houseText}
 use Rattle.calls.specs.Call.{withoutLine, Left}
 use Rattle.calls.specs.Lent.{Handed, Lent, inPlace}
 use Rattle.calls.specs.Calls.{writtenValues, writing, refusing, listingTests, listingOf, houseTests, housed}
-use Rattle.calls.specs.Answers.{Writes, Wrote, WroteText}
+use Rattle.calls.specs.Answers.{Writes, WroteInto, WroteText}
 use Rattle.calls.specs.Numbers.{lists, houses}
 use Rattle.calls.specs.declared.Written.{Written}
 use Rattle.calls.proofs.Call.{call-fails, call-works}
@@ -26,7 +26,7 @@ use Rattle.calls.proofs.Matched.{unlined, writes-call}
 use Rattle.calls.proofs.Handed.{Rightly}
 use Rattle.calls.proofs.Fit.{few-fit, many-do-not, not-fit-many}
 
-pub wrote-into : {l : Left Written} (m : Lent) (text : List ℕ) → writing m text ≡ l → Wrote text m l
+pub wrote-into : {l : Left Written} (m : Lent) (text : List ℕ) → writing m text ≡ l → WroteInto text m l
 wrote-into m text e = rw (← e) (record { answer = refl; memory = refl })
 
 pub wrote : {l : Left Written} (text m : List ℕ) → writing (inPlace m) text ≡ l → WroteText text m l

@@ -18,10 +18,10 @@ use Rattle.calls.specs.Lent.{Lent, inPlace}
 use Rattle.calls.specs.Calls.{writtenValues}
 use Rattle.calls.specs.declared.Written.{Written}
 
--- which refusals have a line: 2 to 10 one of the sheet, 18 and 19 one of the listing; "Lines are 0 for refusals 1 and
+-- which refusals name a line: 2 to 10 one of the sheet, 18 and 19 one of the listing; "Lines are 0 for refusals 1 and
 -- 11 to 13", and for each of document 02 "whose request names no line"
-abbrev pub hasLine : ℕ → Bool
-hasLine n = (leb 2 n && leb n 10) || (eqb n 18 || eqb n 19)
+abbrev pub namesLine : ℕ → Bool
+namesLine n = (leb 2 n && leb n 10) || (eqb n 18 || eqb n 19)
 
 -- the sheet keeps every rule of its layout, and its network is Γ
 pub record Reads (sheet : List ℕ) (Γ : Network) : Type 0 where
@@ -47,8 +47,8 @@ OneOf (o ∷ os) n = (n ≡ o .number) ⊎ OneOf os n
 pub record Answers (sheet : List ℕ) (own : List Own) {A : Type 0} (nothing : A) (v : Values A) : Type 0 where
   -- 0, a number from 1 to 10, or one of the call's own
   pub numbers : (v .number ≤ 10) ⊎ OneOf own (v .number)
-  -- a line from 1 on exactly for the refusals that have one; no line is further on than the longest sheet allows
-  pub lines : (1 ≤ v .line) ↔ (hasLine (v .number) ≡ true)
+  -- a line from 1 on exactly for the refusals that name one; no line is further on than the longest sheet allows
+  pub lines : (1 ≤ v .line) ↔ (namesLine (v .number) ≡ true)
   pub near : v .line ≤ suc longest
   -- the fault of a sheet is the answer of every call
   pub at-fault : (r : Refusal) → Fault sheet r → v ≡ turnedAway nothing r
@@ -66,10 +66,10 @@ pub record Writes (sheet : List ℕ) (own : List Own) {A B : Type 0} (values : A
 
 -- it has written this into the memory that it was lent: "the written part has exactly its stated contents and
 -- everything behind it is unaltered"
-pub record Wrote (text : List ℕ) (m : Lent) (l : Left Written) : Type 0 where
+pub record WroteInto (text : List ℕ) (m : Lent) (l : Left Written) : Type 0 where
   pub answer : writtenValues (l .answer) ≡ done (length text)
   pub memory : l .memory ≡ m .after text
 
 -- into memory that is lent as it is
 abbrev pub WroteText : List ℕ → List ℕ → Left Written → Type 0
-WroteText text m l = Wrote text (inPlace m) l
+WroteText text m l = WroteInto text (inPlace m) l

@@ -17,7 +17,7 @@ use Rattle.calls.specs.Call.{Left}
 use Rattle.calls.specs.Lent.{Lent}
 use Rattle.calls.specs.Calls.{writtenValues, listed}
 use Rattle.calls.specs.Recover.{recoveringInto}
-use Rattle.calls.specs.Answers.{Reads, Wrote, WroteText}
+use Rattle.calls.specs.Answers.{Reads, WroteInto, WroteText}
 use Rattle.calls.specs.declared.Written.{Written}
 
 -- a table "of the right length", whose minutes "run to 65,535 as the writer allows"
@@ -45,7 +45,7 @@ module _ (sheet printed : List ℕ) (m : Lent) where
     -- "a listing that is accepted prints back to its own bytes": a table was written, and everything behind it is
     -- unaltered; the call that lists this table writes these bytes
     pub prints-back : answer .number ≡ 0
-        → (σ : List ℕ) × Printable Γ σ × Wrote σ m back
+        → (σ : List ℕ) × Printable Γ σ × WroteInto σ m back
         × ((out : List ℕ) → length printed ≤ length out → WroteText printed out (listed sheet σ out))
     -- so a listing is accepted exactly where it is the listing of a table
     pub accepted : cells Γ ≤ m .room → (answer .number ≡ 0) ↔ Printed sheet Γ printed
@@ -60,7 +60,7 @@ pub record ReadingBack : Type 0 where
   -- "Any table of the right length that was printed is recovered number for number", and everything behind it is
   -- unaltered
   pub recovers : (sheet σ : List ℕ) (m : Lent) (Γ : Network) → Reads sheet Γ → Printable Γ σ → cells Γ ≤ m .room
-      → Wrote σ m (recoveringInto sheet (listing sheet Γ σ) m)
+      → WroteInto σ m (recoveringInto sheet (listing sheet Γ σ) m)
   -- so a listing is that of one table only
   pub one-table : (sheet σ τ : List ℕ) (Γ : Network) → Reads sheet Γ → Printable Γ σ → Printable Γ τ
       → listing sheet Γ σ ≡ listing sheet Γ τ → σ ≡ τ
