@@ -19,7 +19,7 @@ number d =
     sym (at-read .read-number .ensures) ∙ d .before .n .given .1
 
 returns : tie.Need-returns
-returns c = minute-beyond _ _ (number (c .before)) (c .if1 .taken)
+returns c = minute-beyond _ _ (number (c .before)) (omega (arith, c .if1 .taken))
 
 returns-2 : tie.Need-returns-2
 returns-2 c = minute-ill _ (sym (c .before .before .read-number .ensures) ∙ c .enum-told .given .1)
