@@ -22,7 +22,7 @@ pub enum Judgement {
     Refused(Refusal),
 }
 
-// What solve_sheet, write_listing and write_house answer: how many minutes or bytes were written.
+// What solve_sheet, write_listing, read_listing and write_house answer: how many minutes or bytes were written.
 pub enum Written {
     Count(usize),
     Refused(Refusal),
