@@ -7,6 +7,7 @@
 //! compare house PROGRAM [SEED [COUNT]]    the same for a program that prints house forms
 //! compare judge PROGRAM [SEED [COUNT]]    generated sheets and listings, as files in a folder for a program that
 //!                                         judges a listing's table, what it prints for each pair compared
+//! compare numbers                         each number that the library can write, in listings and house forms
 //! compare count [SEED [COUNT]]            generated sheets of many rounds, the count of rounds and the table compared
 //! compare count-files FILE..              the same for given sheets, with a line for each
 //! compare expected DIR                    the answers that the papers ask for the trial files DIR/001.csv, 002.csv, ..
@@ -17,6 +18,7 @@
 //! compare table-faults [SEED [COUNT]]     that `table` notices each wrong program of printers.rs, for tables
 //! compare house-faults [SEED [COUNT]]     that `house` notices each wrong program of printers.rs, for house forms
 //! compare judge-faults [SEED [COUNT]]     that `judge` notices each wrong program of verdicts.rs
+//! compare numbers-faults                  that `numbers` notices each wrong program of digits.rs
 //! compare count-faults [SEED [COUNT]]     that `count` notices each wrong program of leaps.rs
 //! compare table-standin [FAULT]           the model as a program that prints tables, or one of the wrong ones
 //! compare house-standin [FAULT]           the same for house forms
@@ -26,6 +28,7 @@
 //!    or: rustc --edition 2021 -O -o compare main.rs --cfg standalone
 
 mod calls;
+mod digits;
 mod faults;
 mod gen;
 mod house;
@@ -72,10 +75,10 @@ const LONG_FAULT_COUNT: u64 = 100;
 const FEW_ROUNDS: u32 = 300;
 
 const USAGE: &str = "usage: compare [SEED [COUNT]] | table PROGRAM [SEED [COUNT]] | house PROGRAM [SEED [COUNT]] | \
-    judge PROGRAM [SEED [COUNT]] | count [SEED [COUNT]] | count-files FILE.. | expected DIR | \
+    judge PROGRAM [SEED [COUNT]] | numbers | count [SEED [COUNT]] | count-files FILE.. | expected DIR | \
     selftest [SEED [COUNT]] | faults [SEED [COUNT]] | table-faults [SEED [COUNT]] | house-faults [SEED [COUNT]] | \
-    judge-faults [SEED [COUNT]] | count-faults [SEED [COUNT]] | table-standin [FAULT] | house-standin [FAULT] | \
-    judge-standin [FAULT]";
+    judge-faults [SEED [COUNT]] | numbers-faults | count-faults [SEED [COUNT]] | table-standin [FAULT] | \
+    house-standin [FAULT] | judge-standin [FAULT]";
 
 fn main() {
     let arguments: Vec<String> = std::env::args().skip(1).collect();
@@ -84,6 +87,7 @@ fn main() {
         ["table", program, ref numbers @ ..] => program::compare(&TABLE, program, seeds(numbers, PROGRAM_COUNT)),
         ["house", program, ref numbers @ ..] => program::compare(&HOUSE, program, seeds(numbers, PROGRAM_COUNT)),
         ["judge", program, ref numbers @ ..] => judge::compare(program, seeds(numbers, PROGRAM_COUNT)),
+        ["numbers"] => compare_numbers(),
         ["count", ref numbers @ ..] => tally::compare(number(numbers, 0, SEED), number(numbers, 1, LONG_COUNT)),
         ["count-files", ref paths @ ..] if !paths.is_empty() => tally::compare_files(paths),
         ["expected", directory] => print(&expected(directory)),
@@ -96,6 +100,7 @@ fn main() {
             notice_printers(&HOUSE, printers::house_by_sorting, &HOUSE_FAULTS, seeds(numbers, PROGRAM_COUNT))
         }
         ["judge-faults", ref numbers @ ..] => notice_judges(seeds(numbers, PROGRAM_COUNT)),
+        ["numbers-faults"] => notice("numbers-faults", &digits::RIGHT, &digits::FAULTS, digits::compare_all),
         ["count-faults", ref numbers @ ..] => {
             notice_count_faults(number(numbers, 0, SEED), number(numbers, 1, LONG_FAULT_COUNT))
         }
@@ -107,6 +112,14 @@ fn main() {
         ["judge-standin", name] => judge_standin(fault_named(&JUDGE_FAULTS, name)),
         ref numbers => calls::compare(number(numbers, 0, SEED), number(numbers, 1, COUNT)),
     }
+}
+
+fn compare_numbers() {
+    if let Err((_, words)) = digits::compare_all(&library::LIBRARY) {
+        println!("{words}");
+        exit(1);
+    }
+    println!("{}", digits::words());
 }
 
 fn number(words: &[&str], place: usize, otherwise: u64) -> u64 {

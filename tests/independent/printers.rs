@@ -1,6 +1,7 @@
 //! Wrong programs that print tables (01, The printed listing) or house forms (02, points 2 and 3), to see that the
 //! comparison notices them.
 
+use crate::digits::{self, respelled};
 use crate::model::{self, Kind, Net, Refusal, Rule};
 
 // ---------------------------------------------------------------- Wrong listings
@@ -8,7 +9,7 @@ use crate::model::{self, Kind, Net, Refusal, Rule};
 /// A program that prints something of a sheet, or its refusal.
 pub type Printer = fn(&[u8]) -> Result<Vec<u8>, Refusal>;
 
-pub const TABLE_FAULTS: [(&str, Printer); 23] = [
+pub const TABLE_FAULTS: [(&str, Printer); 29] = [
     ("line-before", |sheet| refused_with(sheet, |refusal| refusal.line = refusal.line.saturating_sub(1))),
     ("line-lost", |sheet| refused_with(sheet, |refusal| refusal.line = 0)),
     ("12-for-13", |sheet| refused_with(sheet, |refusal| if refusal.number == 13 { refusal.number = 12 })),
@@ -38,11 +39,17 @@ pub const TABLE_FAULTS: [(&str, Printer); 23] = [
     ("reaction-a-minute-more", |sheet| table_with(sheet, |reaction| reaction + i64::from(reaction > 1))),
     ("reaction-a-minute-less", |sheet| table_with(sheet, |reaction| (reaction - 1).max(1))),
     ("reactions-of-one-digit", |sheet| table_with(sheet, |minutes| if minutes > 9 { minutes / 10 } else { minutes })),
+    ("digits-place-skipped", |sheet| model::table(sheet).map(|text| respelled(&text, digits::Slip::PlaceSkipped))),
+    ("digits-leading-zero", |sheet| model::table(sheet).map(|text| respelled(&text, digits::Slip::LeadingZero))),
+    ("digits-ten-ones", |sheet| model::table(sheet).map(|text| respelled(&text, digits::Slip::TenOnes))),
+    ("digits-zeros-lost", |sheet| model::table(sheet).map(|text| respelled(&text, digits::Slip::ZerosLost))),
+    ("digits-nothing-for-0", |sheet| model::table(sheet).map(|text| respelled(&text, digits::Slip::NothingForZero))),
+    ("digits-nine-is-eight", |sheet| model::table(sheet).map(|text| respelled(&text, digits::Slip::NineIsEight))),
 ];
 
 /// The same without a slip, so that it is the slip that is noticed.
 pub fn table_by_fields(sheet: &[u8]) -> Result<Vec<u8>, Refusal> {
-    listed_with(sheet, |_| {})
+    listed_with(sheet, |_| {}).map(|text| respelled(&text, digits::Slip::None))
 }
 
 /// The header and a line for each case, each cut into its fields.
@@ -116,7 +123,7 @@ fn two_digits_at_least(rows: &mut Rows) {
 
 // ---------------------------------------------------------------- Wrong house forms
 
-pub const HOUSE_FAULTS: [(&str, Printer); 46] = [
+pub const HOUSE_FAULTS: [(&str, Printer); 52] = [
     ("greatest-limit-kept", |sheet| house_with(sheet, Slip::GreatestLimit)),
     ("first-limit-kept", |sheet| house_with(sheet, Slip::FirstLimit)),
     ("last-limit-kept", |sheet| house_with(sheet, Slip::LastLimit)),
@@ -163,11 +170,17 @@ pub const HOUSE_FAULTS: [(&str, Printer); 46] = [
     ("reactions-count-of-signals", |sheet| house_with(sheet, Slip::ReactionsCountOfSignals)),
     ("reactions-count-as-typed", |sheet| house_with(sheet, Slip::ReactionsCountAsTyped)),
     ("reactions-of-the-first-only", |sheet| house_with(sheet, Slip::ReactionsOfTheFirst)),
+    ("digits-place-skipped", |sheet| model::house(sheet).map(|form| respelled(&form, digits::Slip::PlaceSkipped))),
+    ("digits-leading-zero", |sheet| model::house(sheet).map(|form| respelled(&form, digits::Slip::LeadingZero))),
+    ("digits-ten-ones", |sheet| model::house(sheet).map(|form| respelled(&form, digits::Slip::TenOnes))),
+    ("digits-zeros-lost", |sheet| model::house(sheet).map(|form| respelled(&form, digits::Slip::ZerosLost))),
+    ("digits-nothing-for-0", |sheet| model::house(sheet).map(|form| respelled(&form, digits::Slip::NothingForZero))),
+    ("digits-nine-is-eight", |sheet| model::house(sheet).map(|form| respelled(&form, digits::Slip::NineIsEight))),
 ];
 
 /// The same without a slip, so that it is the slip that is noticed.
 pub fn house_by_sorting(sheet: &[u8]) -> Result<Vec<u8>, Refusal> {
-    house_with(sheet, Slip::None)
+    house_with(sheet, Slip::None).map(|form| respelled(&form, digits::Slip::None))
 }
 
 #[derive(Clone, Copy, PartialEq)]

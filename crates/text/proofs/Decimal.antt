@@ -45,12 +45,9 @@ length-decimal-le (suc k) v h =
           rw (decimal-more v l, length-append) (omega (arith, length-decimal-le k (v / 10) t))
     ]
 
--- so there are at most five below 65,536, and at most four of a tenth
+-- so there are at most five below 65,536
 pub length-decimal-16 : (v : ℕ) → v ≤ 65535 → length (decimal v) ≤ 5
 length-decimal-16 v h = length-decimal-le 4 v (omega arith)
-
-pub length-tenth-16 : (v : ℕ) → v ≤ 65535 → length (decimal (v / 10)) ≤ 4
-length-tenth-16 v h = length-decimal-le 3 (v / 10) (omega arith)
 
 -- what holds of each digit, and of the digits of v where it holds of those of v / 10, holds of the digits of every v
 module _ (P : ℕ → List ℕ → Type 0) (digit : (v : ℕ) → v < 10 → P v ((48 + v) ∷ []))

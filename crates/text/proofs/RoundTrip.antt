@@ -16,7 +16,7 @@ use Rattle.text.specs.Decimal.{decimal}
 use Rattle.text.proofs.ReadNumber.{isDigit-true}
 use Rattle.text.proofs.Decimal.{decimal-digit, decimal-more, by-digits}
 
-valueFrom-append : (v : ℕ) (s t : List ℕ) → valueFrom v (s ++ t) ≡ valueFrom (valueFrom v s) t
+pub valueFrom-append : (v : ℕ) (s t : List ℕ) → valueFrom v (s ++ t) ≡ valueFrom (valueFrom v s) t
 valueFrom-append v [] t = refl
 valueFrom-append v (b ∷ s) t = valueFrom-append (10 * v + (b - 48)) s t
 
@@ -27,13 +27,13 @@ valueFrom-decimal =
     (λ v h. omega arith)
     (λ v s h e. rw (valueFrom-append 0 s ((48 + v % 10) ∷ []), e) (omega arith))
 
-every-append : (f : ℕ → Bool) (s t : List ℕ) → every f s ≡ true → every f t ≡ true → every f (s ++ t) ≡ true
+pub every-append : (f : ℕ → Bool) (s t : List ℕ) → every f s ≡ true → every f t ≡ true → every f (s ++ t) ≡ true
 every-append f [] t h k = k
 every-append f (b ∷ s) t h k =
     let p = and-true (f b) (every f s) h in
     and-both (f b) (every f (s ++ t)) (p .0) (every-append f s t (p .1) k)
 
-last-digit : (v : ℕ) → v < 10 → every isDigit ((48 + v) ∷ []) ≡ true
+pub last-digit : (v : ℕ) → v < 10 → every isDigit ((48 + v) ∷ []) ≡ true
 last-digit v h = rw (isDigit-true (48 + v) (omega arith) (omega arith))
 
 every-decimal : (v : ℕ) → every isDigit (decimal v) ≡ true
@@ -52,7 +52,7 @@ first-decimal =
     let last = (48 + v % 10) ∷ [] in
     (omega (arith, length-append s last, p .0), λ z. p .1 (sym (List·getD-append s last 0 0 (p .0)) ∙ z)))
 
-isNatural-first : (s : List ℕ) → every isDigit s ≡ true → 0 < length s → (getD s 0 0 ≡ 48 → ⊥) → isNatural s ≡ true
+pub isNatural-first : (s : List ℕ) → every isDigit s ≡ true → 0 < length s → (getD s 0 0 ≡ 48 → ⊥) → isNatural s ≡ true
 isNatural-first [] e h n = absurd (omega arith)
 isNatural-first (b ∷ s) e h n =
     and-both (every isDigit (b ∷ s)) (not (eqb b 48) || eqb (length s) 0) e (rw (ne-eqb b 48 n))

@@ -7,6 +7,7 @@ ghost use Rattle.text.specs.Lines.{upTo};
 ghost use Rattle.text.specs.Cuts.{CutsAre, FieldIs};
 ghost use Rattle.text.specs.ReadNumber.{capped, readDigits, readNatural, readNumber};
 ghost use Rattle.text.specs.Spelled.{DigitsAre};
+ghost use Rattle.text.specs.Places.{CountedOff, PlacesAre, Placed};
 
 // Where the first byte d stands, or the length where there is none.
 pub fn until(s: &[u8], d: u8) -> usize
@@ -191,21 +192,75 @@ pub struct Digits {
     pub count: usize,
 }
 
-// The digits of v: those of v / 10, and the last.
+// How often a weight goes into a number, and what is left.
+struct Counted {
+    digit: u8,
+    left: u16,
+}
+
+// The weight taken off v as often as it goes, by threes and then by ones: from a loop that takes off the same each time
+// the compiler would make a division.
+fn count_off(v: u16, weight: u16) -> Counted
+    requires { ⌜ (v < 10 * weight) × (weight ≤ 10000) ⌝ }
+    ensures { λ r. ⌜ CountedOff v weight r ⌝ }
+{
+    let three = 3 * weight;
+    let mut digit: u8 = 0;
+    let mut left = v;
+    while weight <= left {
+        if three <= left {
+            left -= three;
+            digit += 3;
+        } else {
+            left -= weight;
+            digit += 1;
+        }
+    }
+    Counted { digit, left }
+}
+
+// How many digits are counted off, and what is left of the number. The digits themselves stand in an array beside it.
+struct Places {
+    count: usize,
+    left: u16,
+}
+
+// The place of this weight, behind those above it. A zero is left out where no digit stands before it.
+fn place(bytes: &mut [u8; 5], above: Places, weight: u16) -> Places
+    requires { ⌜ PlacesAre (10 * weight) (now bytes) above × (above .count < 5) × (weight ≤ 10000) ⌝ }
+    ensures { λ r. ⌜ Placed weight (now (bytes .entry)) above (now (bytes .exit)) r ⌝ }
+{
+    let counted = count_off(above.left, weight);
+    let at = above.count;
+    if counted.digit == 0 {
+        if at == 0 {
+            return Places {
+                count: 0,
+                left: counted.left,
+            };
+        }
+    }
+    bytes[at] = b'0' + counted.digit;
+    Places {
+        count: at + 1,
+        left: counted.left,
+    }
+}
+
+// The digits of v: ten-thousands, thousands, hundreds and tens are counted off, and the ones are left.
 pub fn spell(v: u16) -> Digits
     ensures { λ r. ⌜ DigitsAre v r ⌝ }
 {
-    if v < 10 {
-        let mut bytes = [0u8; 5];
-        bytes[0] = b'0' + v as u8;
-        return Digits { bytes, count: 1 };
-    }
-    let high = spell(v / 10);
-    let mut bytes = high.bytes;
-    let at = high.count;
-    bytes[at] = b'0' + (v % 10) as u8;
+    let mut bytes = [0u8; 5];
+    let none = Places { count: 0, left: v };
+    let ten_thousands = place(&mut bytes, none, 10000);
+    let thousands = place(&mut bytes, ten_thousands, 1000);
+    let hundreds = place(&mut bytes, thousands, 100);
+    let tens = place(&mut bytes, hundreds, 10);
+    let count = tens.count;
+    bytes[count] = b'0' + tens.left as u8;
     Digits {
         bytes,
-        count: at + 1,
+        count: count + 1,
     }
 }
