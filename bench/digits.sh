@@ -21,7 +21,7 @@ calls=101
 instructions() { # PROGRAM WORDS..
     valgrind --tool=callgrind --callgrind-out-file="$out/file" "$out/$1" "${@:2}" >"$out/said" 2>"$out/err" ||
         die "$(tail -1 "$out/err")"
-    sed -n 's/^totals: //p' "$out/file"
+    sed -n 's/^totals: //p' "$out/file" | grep . || die "no count"
 }
 call() { # PROGRAM MINUTE [read]
     local one many
@@ -35,10 +35,14 @@ cost() { # PROGRAM MINUTE: without reading
 }
 status=0
 printf '%8s %14s %14s %14s %7s\n' minute 'listing bytes' instructions former ratio
-for minute in 0 7 42 365 9999 10000 10080 58888 65535; do
-    now=$(cost 1 "$minute") && former=
-    [ $# -eq 1 ] || former=$(cost 2 "$minute") || exit 2
-    awk -v m="$minute" -v b="$(cat "$out/said")" -v n="$now" -v f="$former" 'BEGIN {
+for minute in 0 7 42 365 8888 9999 10000 10080 58888 65535; do
+    now=$(cost 1 "$minute") || exit 2
+    bytes=$(cat "$out/said") former=
+    if [ $# -eq 2 ]; then
+        former=$(cost 2 "$minute") || exit 2
+        [ "$(cat "$out/said")" = "$bytes" ] || die "listings of other lengths"
+    fi
+    awk -v m="$minute" -v b="$bytes" -v n="$now" -v f="$former" 'BEGIN {
         if (f == "") { printf "%8d %14d %14d\n", m, b, n; exit 0 }
         printf "%8d %14d %14d %14d %7.2f\n", m, b, n, f, n / f
         exit n > 2 * f }' || status=1

@@ -1,5 +1,5 @@
-//! The mode `numbers`: each number that a listing or a house form can have, through the C calls, against the digits
-//! that Rust prints. And wrong programs that write numbers by counting off, as 02, point 5 asks, with a slip.
+//! The mode `numbers`: each number that a listing or a house form can have in a place, through the C calls, against the
+//! digits that Rust prints. And wrong programs that write numbers by counting off, as 02, point 5 asks, with a slip.
 
 use crate::library::{own, Library};
 use crate::model;
@@ -16,11 +16,12 @@ const HORIZONS: i64 = 10_081;
 const LIMITS: i64 = 20_161;
 const REACTIONS: i64 = 59;
 const RULES: usize = 64;
+const EVENTS: usize = 16;
+const SIGNALS: usize = 4;
 
 /// What was compared.
 pub fn words() -> String {
-    let counts = RULES + 1;
-    let forms = format!("{LIMITS} limits, {HORIZONS} horizons, {REACTIONS} reactions and {counts} counts of rules");
+    let forms = format!("{LIMITS} limits, {HORIZONS} horizons, {REACTIONS} reactions and every count of a section");
     format!("{MINUTES} minutes in listings, and {forms} in house forms: no difference")
 }
 
@@ -28,10 +29,14 @@ pub fn words() -> String {
 pub fn compare_all(library: &Library) -> Result<(), Difference> {
     let limits: Vec<i64> = (-10_080..=10_080).collect();
     assert_eq!(limits.len() as i64, LIMITS);
-    let of_limits = limits.chunks(RULES).map(|limits| form(10_080, limits, None));
-    let of_horizons = (0..HORIZONS).map(|horizon| form(horizon, &[], None));
-    let of_reactions = (2..2 + REACTIONS).map(|reaction| form(0, &[], Some(reaction)));
-    let of_counts = (0..=RULES).map(|count| form(0, &limits[..count], None));
+    let of_limits = limits.chunks(RULES).map(|limits| form(10_080, [EVENTS, SIGNALS], limits, &[]));
+    let of_horizons = (0..HORIZONS).map(|horizon| form(horizon, [1, 0], &[], &[]));
+    let of_reactions = (2..2 + REACTIONS).map(|reaction| form(0, [1, 1], &[], &[reaction]));
+    let counts_of_rules = (0..=RULES).map(|count| form(0, [EVENTS, 0], &limits[..count], &[]));
+    let counts_of_events = (1..=EVENTS).map(|count| form(0, [count, 0], &[], &[]));
+    let counts_of_signals = (0..=SIGNALS).map(|count| form(0, [SIGNALS, count], &[], &[]));
+    let counts_of_reactions = (0..=SIGNALS).map(|count| form(0, [SIGNALS; 2], &[], &[60; SIGNALS][..count]));
+    let of_counts = counts_of_rules.chain(counts_of_events).chain(counts_of_signals).chain(counts_of_reactions);
     let forms = of_limits.chain(of_horizons).chain(of_reactions).chain(of_counts);
     let listings = (0..MINUTES).step_by(CELLS).map(|first| compare_minutes(library, first));
     let all = listings.chain(forms.map(|form| compare_form(library, &form)));
@@ -40,7 +45,7 @@ pub fn compare_all(library: &Library) -> Result<(), Difference> {
 
 /// A table of minutes from the first on, listed and read back.
 fn compare_minutes(library: &Library, first: usize) -> Result<(), String> {
-    let sheet = form(0, &[], None).replace("signals,1\np,a\n", "signals,4\np,a\nq,b\nr,c\ns,d\n");
+    let sheet = form(0, [EVENTS, SIGNALS], &[], &[]);
     let net = model::read(sheet.as_bytes()).expect("a sheet");
     assert_eq!(net.cells(), CELLS);
     let minutes: Vec<u16> = (first..first + CELLS).map(|minute| minute as u16).collect();
@@ -55,14 +60,22 @@ fn compare_minutes(library: &Library, first: usize) -> Result<(), String> {
     Err(format!("minutes from {first} on are read back with the answer {answer:#x} as {back:?}"))
 }
 
-/// A sheet that is typed as in its house form: max rows, of which no two have the same ends, in their order.
-fn form(horizon: i64, limits: &[i64], reaction: Option<i64>) -> String {
-    let name = |event: usize| char::from(b'a' + event as u8);
-    let names: String = (0..16).map(|event| format!("{}\n", name(event))).collect();
-    let row = |(place, limit): (usize, &i64)| format!("max,{},{},{limit},-\n", name(place / 16), name(place % 16));
-    let rules: String = limits.iter().enumerate().map(row).collect();
-    let reactions = reaction.map_or(String::new(), |minutes| format!("reactions,1\np,{minutes}\n"));
-    format!("horizon,{horizon}\nevents,16\n{names}signals,1\np,a\nrules,{}\n{rules}{reactions}", limits.len())
+/// A sheet with so many events and signals that is typed as in its house form: max rows, of which no two have the same
+/// ends, in their order, and the reactions of the first signals.
+fn form(horizon: i64, [events, signals]: [usize; 2], limits: &[i64], reactions: &[i64]) -> String {
+    let letter = |place: usize| char::from(b'a' + place as u8);
+    let mut text = format!("horizon,{horizon}\nevents,{events}\n");
+    text.extend((0..events).map(|event| format!("{}\n", letter(event))));
+    text += &format!("signals,{signals}\n");
+    text.extend((0..signals).map(|signal| format!("{0},{0}\n", letter(signal))));
+    text += &format!("rules,{}\n", limits.len());
+    let row = |(place, limit)| format!("max,{},{},{limit},-\n", letter(place / EVENTS), letter(place % EVENTS));
+    text.extend(limits.iter().enumerate().map(row));
+    if !reactions.is_empty() {
+        text += &format!("reactions,{}\n", reactions.len());
+        text.extend(reactions.iter().enumerate().map(|(signal, minutes)| format!("{},{minutes}\n", letter(signal))));
+    }
+    text
 }
 
 fn compare_form(library: &Library, form: &str) -> Result<(), String> {

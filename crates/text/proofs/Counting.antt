@@ -1,7 +1,8 @@
 -- Laws of digits that are counted off place by place. A weight is taken off some times more, and at most nine times in
--- all (`count-more`, `count-few`). One place more makes the same number as before and begins with no zero, whether its
--- digit is left out or put behind the others (`place-none`, `place-one`). The ones behind the tens are the number as it
--- is written (`digits-last`), since digits without a leading zero are those of their value. Assumes nothing.
+-- all (`off-more`, `off-few`). With one place more the number made is the same and no zero leads, whether the place's
+-- digit is left out or put behind the others (`place-none`, `place-one`). With the ones behind them the digits are the
+-- number as it is written (`digits-last`), since digits without a leading zero are those of their value. Assumes
+-- nothing.
 use mathlib.Core.Path.{_≡_, refl, sym, _∙_, ap}
 use mathlib.Core.Bool.{true, not}
 use mathlib.Core.List.{List, [], _∷_, _++_}
@@ -18,7 +19,7 @@ use Rattle.prelude.proofs.Tests.{and-true, and-both}
 use Rattle.text.specs.Number.{isDigit, isNatural, valueFrom}
 use Rattle.text.specs.Decimal.{decimal}
 use Rattle.text.specs.Spelled.{DigitsAre}
-use Rattle.text.specs.Places.{CountedOff, areLeading, made, PlacesAre, Placed}
+use Rattle.text.specs.Places.{CountedOff, noLeadingZero, made, PlacesAre, Placed}
 use Rattle.text.specs.declared.Counted.{Counted}
 use Rattle.text.specs.declared.Places.{Places}
 use Rattle.text.proofs.Decimal.{decimal-digit}
@@ -26,12 +27,12 @@ use Rattle.text.proofs.RoundTrip.{valueFrom-append, every-append, last-
 use Rattle.text.proofs.RoundTrip.{isNatural-first, isNatural-decimal, decimal-valueFrom}
 
 -- k more of the weights are taken off, which are x
-pub count-more : (k x d w l v : ℕ) → x ≡ k * w → x ≤ l → d * w + l ≡ v → (d + k) * w + (l - x) ≡ v
-count-more k x d w l v t h e = omega (arith, add-mul d k w)
+pub off-more : (k x d w l v : ℕ) → x ≡ k * w → x ≤ l → d * w + l ≡ v → (d + k) * w + (l - x) ≡ v
+off-more k x d w l v t h e = omega (arith, add-mul d k w)
 
 -- of less than ten weights at most nine are taken off
-pub count-few : (d w l v : ℕ) → d * w + l ≡ v → v < 10 * w → d ≤ 9
-count-few d w l v e h = let t : d < 10 = lt-of-mul-lt-mul-right w (omega arith) in omega arith
+pub off-few : (d w l v : ℕ) → d * w + l ≡ v → v < 10 * w → d ≤ 9
+off-few d w l v e h = let t : d < 10 = lt-of-mul-lt-mul-right w (omega arith) in omega arith
 
 -- a digit put behind those that stand in front
 text-more : (bytes : List ℕ) (count d : ℕ) → length bytes ≡ 5 → count < 5
@@ -42,24 +43,24 @@ text-more bytes count d sized room = rw add-one (take-suc-set bytes count (48 + 
 value-more : (s : List ℕ) (d : ℕ) → valueFrom 0 (s ++ (48 + d) ∷ []) ≡ 10 * valueFrom 0 s + d
 value-more s d = valueFrom-append 0 s ((48 + d) ∷ []) ∙ omega arith
 
-every-more : (s : List ℕ) (d : ℕ) → d ≤ 9 → areLeading s ≡ true → every isDigit (s ++ (48 + d) ∷ []) ≡ true
+every-more : (s : List ℕ) (d : ℕ) → d ≤ 9 → noLeadingZero s ≡ true → every isDigit (s ++ (48 + d) ∷ []) ≡ true
 every-more s d h e =
     every-append isDigit s ((48 + d) ∷ []) (and-true (every isDigit s) (not (eqb (getD s 0 0) 48)) e .0)
     (last-digit d (omega arith))
 
-first-more : (s : List ℕ) (d : ℕ) → (d ≡ 0 → length s ≡ 0 → ⊥) → areLeading s ≡ true
+first-more : (s : List ℕ) (d : ℕ) → (d ≡ 0 → length s ≡ 0 → ⊥) → noLeadingZero s ≡ true
     → getD (s ++ (48 + d) ∷ []) 0 0 ≡ 48 → ⊥
 first-more [] d n e z = n (omega arith) refl
 first-more (b ∷ s) d n e z =
     eqb-false b 48 (not-true (eqb b 48) (and-true (every isDigit (b ∷ s)) (not (eqb b 48)) e .1)) z
 
-leading-more : (s : List ℕ) (d : ℕ) → d ≤ 9 → (d ≡ 0 → length s ≡ 0 → ⊥) → areLeading s ≡ true
-    → areLeading (s ++ (48 + d) ∷ []) ≡ true
+leading-more : (s : List ℕ) (d : ℕ) → d ≤ 9 → (d ≡ 0 → length s ≡ 0 → ⊥) → noLeadingZero s ≡ true
+    → noLeadingZero (s ++ (48 + d) ∷ []) ≡ true
 leading-more s d h n e =
     and-both (every isDigit (s ++ (48 + d) ∷ [])) (not (eqb (getD (s ++ (48 + d) ∷ []) 0 0) 48)) (every-more s d h e)
     (rw (ne-eqb (getD (s ++ (48 + d) ∷ []) 0 0) 48 (first-more s d n e)))
 
-natural-more : (s : List ℕ) (d : ℕ) → d ≤ 9 → areLeading s ≡ true → isNatural (s ++ (48 + d) ∷ []) ≡ true
+natural-more : (s : List ℕ) (d : ℕ) → d ≤ 9 → noLeadingZero s ≡ true → isNatural (s ++ (48 + d) ∷ []) ≡ true
 natural-more [] d h e = ap isNatural (sym (decimal-digit d (omega arith))) ∙ isNatural-decimal d
 natural-more (b ∷ s) d h e =
     isNatural-first (b ∷ s ++ (48 + d) ∷ []) (every-more (b ∷ s) d h e) (omega arith)
@@ -77,7 +78,7 @@ module _ (w : ℕ) (bytes : List ℕ) (p : Places) (c : Counted) (above : Places
       let kept : 0 * w + c .left ≡ p .left = rw z at (off .whole) in
       record {
         are = record { sized = above .sized; leading = refl; rest = off .rest };
-        same = rw n (made-more 0 0 w (c .left) (p .left) kept);
+        kept = rw n (made-more 0 0 w (c .left) (p .left) kept);
         few = omega arith;
       }
 
@@ -93,10 +94,10 @@ module _ (w : ℕ) (bytes : List ℕ) (p : Places) (c : Counted) (above : Places
         are =
             record {
               sized = length-set bytes (p .count) (48 + d) ∙ above .sized;
-              leading = rw text (leading-more s d (off .single) (λ z e. n z (sym front ∙ e)) (above .leading));
+              leading = rw text (leading-more s d (off .most) (λ z e. n z (sym front ∙ e)) (above .leading));
               rest = off .rest;
             };
-        same = rw (text, value-more s d) (made-more (valueFrom 0 s) d w (c .left) (p .left) (off .whole));
+        kept = rw (text, value-more s d) (made-more (valueFrom 0 s) d w (c .left) (p .left) (off .whole));
         few = omega arith;
       }
 

@@ -219,7 +219,7 @@ fn count_off(v: u16, weight: u16) -> Counted
     Counted { digit, left }
 }
 
-// How many digits are counted off, and what is left of the number. The digits themselves stand in an array beside it.
+// How many digits of the places counted off stand in an array beside this, and what is left of the number.
 struct Places {
     count: usize,
     left: u16,

@@ -4,7 +4,7 @@ use mathlib.Core.Path.{_≡_, refl}
 use Prim.Native.Nat.{_+_, _*_, _≤_}
 use native.Mathlib.Omega.{arith}
 use borrow.Author.Needs.{needs}
-use Rattle.text.proofs.Counting.{count-more, count-few}
+use Rattle.text.proofs.Counting.{off-more, off-few}
 use Rattle.text.proofs.count_off.Statement.{statement}
 use Rattle.text.proofs.count_off.Tie as tie
 
@@ -15,7 +15,7 @@ abbrev μ-loop : tie.MeasureT-loop
 μ-loop v weight three digit₀ left₀ digit left = left
 
 few : (here : tie.At-loop Inv-loop μ-loop) → here .loop .digit ≤ 9
-few here = count-few _ (here .before .args .weight) _ (here .before .args .v) (here .loop .inv) (search needs)
+few here = off-few _ (here .before .args .weight) _ (here .before .args .v) (here .loop .inv) (search needs)
 
 add-digit : tie.Need-add-digit Inv-loop μ-loop
 add-digit c = omega (arith, few (c .before .before))
@@ -23,7 +23,7 @@ add-digit c = omega (arith, few (c .before .before))
 loop-again : tie.Need-loop-again Inv-loop μ-loop
 loop-again c =
     let here = c .before .before in
-    count-more 3 _ _ (here .before .args .weight) _ _ refl (search needs) (here .loop .inv)
+    off-more 3 _ _ (here .before .args .weight) _ _ refl (search needs) (here .loop .inv)
 
 add-digit-2 : tie.Need-add-digit-2 Inv-loop μ-loop
 add-digit-2 c = omega (arith, few (c .before .before))
@@ -31,10 +31,10 @@ add-digit-2 c = omega (arith, few (c .before .before))
 loop-again-2 : tie.Need-loop-again-2 Inv-loop μ-loop
 loop-again-2 c =
     let here = c .before .before in
-    count-more 1 _ _ (here .before .args .weight) _ _ (search needs) (search needs) (here .loop .inv)
+    off-more 1 _ _ (here .before .args .weight) _ _ (search needs) (search needs) (here .loop .inv)
 
 returns : tie.Need-returns Inv-loop μ-loop
-returns c = record { whole = c .before .loop .inv; rest = search needs; single = few (c .before) }
+returns c = record { whole = c .before .loop .inv; rest = search needs; most = few (c .before) }
 
 pub count-off-spec : {M : Type 1} → statement M
 count-off-spec =

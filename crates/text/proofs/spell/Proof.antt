@@ -14,10 +14,10 @@ returns c =
     let thousands = hundreds .before .before in
     let ten-thousands = thousands .before .before in
     digits-last _ _ _
-    (tens .place4 .ensures .same
-    ∙ hundreds .place3 .ensures .same
-    ∙ thousands .place2 .ensures .same
-    ∙ ten-thousands .place .ensures .same
+    (tens .place4 .ensures .kept
+    ∙ hundreds .place3 .ensures .kept
+    ∙ thousands .place2 .ensures .kept
+    ∙ ten-thousands .place .ensures .kept
     ∙ zero-add _)
     (tens .place4 .ensures .are)
     (search needs)
