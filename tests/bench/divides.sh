@@ -2,11 +2,11 @@
 # divides.sh LIBRARY: numbers are written without division (02, point 5), in what the compiler makes of it too. It may
 # turn a loop that counts off back into a division, and it divides by a constant by multiplying with another.
 #
-# Looked at are opening_listing, opening_house and all that they call. There no instruction divides; none multiplies but
-# a register by a register or by what is in memory, and then the function puts no large constant into a register; in
-# the crates that write numbers, `text` and `page`, none multiplies at all. Nothing is called that is not in the library,
-# but memcpy and its like. And the source of these two crates has no / and no % outside contracts. That each of these is
-# noticed is tried on small functions first.
+# Looked at are opening_listing, opening_house and all that they call. There no instruction divides; none multiplies
+# but a register by a register or by what is in memory, and then the function puts no large constant into a register;
+# in the crates that write numbers, `text` and `page`, none multiplies at all. Nothing is called that is not in the
+# library, but memcpy and its like. And the source of these two crates has no / and no % outside contracts. That each of
+# these is noticed is tried on small functions first.
 # Prints one line and exits with 0, or says what was found and exits with 1.
 set -u
 cd "$(dirname "$0")/../.." || exit 2
