@@ -35,7 +35,7 @@ cost() { # PROGRAM MINUTE: without reading
 }
 status=0
 printf '%8s %14s %14s %14s %7s\n' minute 'listing bytes' instructions former ratio
-for minute in 0 7 42 365 8888 9999 10000 10080 58888 65535; do
+for minute in 0 7 42 365 8888 9999 10000 10080 58888 65534; do
     now=$(cost 1 "$minute") || exit 2
     bytes=$(cat "$out/said") former=
     if [ $# -eq 2 ]; then

@@ -15,8 +15,12 @@ const NAME_MOST: usize = 8;
 const REACTION_MOST: i32 = 60;
 /// The most fields that a line has.
 const FIELDS: usize = 5;
-/// A constraint that is a `fix` has two bounds.
-const BOUNDS: usize = 2 * RULES;
+/// A constraint that is a `fix` has two bounds, and an event one for each letter of its label.
+const BOUNDS: usize = 2 * RULES + EVENTS * SIGNALS;
+/// What a cell holds whose event does not happen in its scenario.
+pub const BLANK: u16 = u16::MAX;
+/// Later than any known time: when a proposition is known that is not given.
+const NEVER: u16 = 32_767;
 
 // ---------------------------------------------------------------- The sheet
 
@@ -28,16 +32,34 @@ pub enum Kind {
 }
 
 /// The sum of the weights of a label's true letters, and that of its false ones.
-#[derive(Clone, Copy)]
+#[derive(Clone, Copy, PartialEq)]
 pub struct Label {
     pub positive: u8,
     pub negative: u8,
 }
 
 impl Label {
+    const NONE: Label = Label { positive: 0, negative: 0 };
+
+    /// No true letter is false in the scenario, and no false one true. (In bytes, so that many are tested at once.)
     pub fn covers(self, scenario: usize) -> bool {
-        let (positive, negative) = (usize::from(self.positive), usize::from(self.negative));
-        scenario & positive == positive && scenario & negative == 0
+        let scenario = scenario as u8;
+        (self.positive & !scenario) | (self.negative & scenario) == 0
+    }
+
+    /// Whether the letter of a proposition stands in the label.
+    pub fn mentions(self, proposition: usize) -> bool {
+        (self.positive | self.negative) >> proposition & 1 == 1
+    }
+
+    /// Whether each letter of the other stands here with the same sign.
+    fn includes(self, other: Label) -> bool {
+        self.positive & other.positive == other.positive && self.negative & other.negative == other.negative
+    }
+
+    /// The letters of both.
+    fn join(self, other: Label) -> Label {
+        Label { positive: self.positive | other.positive, negative: self.negative | other.negative }
     }
 }
 
@@ -61,11 +83,11 @@ pub struct Network<'a> {
     reactions: [u16; SIGNALS],
     rules: usize,
     constraints: [Constraint; RULES],
+    labels: [Label; EVENTS],
 }
 
 impl<'a> Network<'a> {
     fn empty(horizon: u16) -> Self {
-        let label = Label { positive: 0, negative: 0 };
         Network {
             horizon,
             events: 0,
@@ -75,7 +97,8 @@ impl<'a> Network<'a> {
             observations: [0; SIGNALS],
             reactions: [1; SIGNALS],
             rules: 0,
-            constraints: [Constraint { kind: Kind::Max, from: 0, to: 0, label, limit: 0 }; RULES],
+            constraints: [Constraint { kind: Kind::Max, from: 0, to: 0, label: Label::NONE, limit: 0 }; RULES],
+            labels: [Label::NONE; EVENTS],
         }
     }
 
@@ -103,6 +126,11 @@ impl<'a> Network<'a> {
 
     pub fn constraints(&self) -> &[Constraint] {
         &self.constraints[..self.rules]
+    }
+
+    /// The label of each event: `-`, or what its line says.
+    pub fn labels(&self) -> &[Label] {
+        &self.labels[..self.events]
     }
 
     fn event_named(&self, name: &[u8]) -> Option<usize> {
@@ -199,6 +227,18 @@ pub fn read(sheet: &[u8]) -> Result<Network<'_>, Refusal> {
         let line = lines.next()?;
         slow |= add_reaction(&mut network, line.fields(), slow).map_err(|number| (number, lines.line))?;
     }
+    if lines.rest.is_empty() {
+        return Ok(network);
+    }
+    let mut placed = 0;
+    let count = lines.section(b"cases", 0, network.events as i32)?;
+    for _ in 0..count {
+        let line = lines.next()?;
+        placed |= add_label(&mut network, line.fields(), placed).map_err(|number| (number, lines.line))?;
+    }
+    if count > 0 {
+        test_labels(&network).map_err(|number| (number, lines.line))?;
+    }
     if !lines.rest.is_empty() {
         return Err((10, lines.line + 1));
     }
@@ -255,6 +295,39 @@ fn add_reaction(network: &mut Network, fields: &[&[u8]], slow: u8) -> Result<u8,
     }
     network.reactions[signal] = minutes as u16;
     Ok(1 << signal)
+}
+
+/// The bit of the event, where those of these bits have a line already.
+fn add_label(network: &mut Network, fields: &[&[u8]], placed: u16) -> Result<u16, u8> {
+    let &[name, label] = fields else {
+        return Err(3);
+    };
+    if !is_name(name) || !is_label(label) {
+        return Err(6);
+    }
+    let event = network.event_named(name);
+    if event.is_some_and(|u| placed >> u & 1 == 1) {
+        return Err(7);
+    }
+    let event = event.ok_or(8)?;
+    network.labels[event] = label_of(network, label)?;
+    Ok(1 << event)
+}
+
+/// All labels together: 20 where the start has one, 21 where one lacks part of the label of an event whose signal it
+/// uses.
+fn test_labels(network: &Network) -> Result<(), u8> {
+    if network.labels[0] != Label::NONE {
+        return Err(20);
+    }
+    for (p, &event) in network.observations().iter().enumerate() {
+        let needed = network.labels[usize::from(event)];
+        let lacks = |label: Label| label.mentions(p) && !label.includes(needed);
+        if network.labels().iter().any(|&label| lacks(label)) || network.constraints().iter().any(|c| lacks(c.label)) {
+            return Err(21);
+        }
+    }
+    Ok(())
 }
 
 fn add_rule(network: &mut Network, fields: &[&[u8]]) -> Result<(), u8> {
@@ -328,7 +401,7 @@ fn is_label(field: &[u8]) -> bool {
 
 /// A well-formed label; 8 where a letter is not defined, 9 where one stands twice.
 fn label_of(network: &Network, field: &[u8]) -> Result<Label, u8> {
-    let mut label = Label { positive: 0, negative: 0 };
+    let mut label = Label::NONE;
     if field == b"-" {
         return Ok(label);
     }
@@ -367,13 +440,16 @@ struct Bound {
     weight: u16,
 }
 
-/// The bounds of each scenario, and what else a round takes of a network.
+/// The bounds of each scenario, and what else a round takes of a network. Where no event has a label, `labelled` is
+/// false, and no label is looked at.
 pub struct Compiled {
     horizon: u16,
     scenarios: usize,
     signals: usize,
     observations: [u8; SIGNALS],
     reactions: [u16; SIGNALS],
+    labels: [Label; EVENTS],
+    labelled: bool,
     counts: [usize; SCENARIOS],
     bounds: [[Bound; BOUNDS]; SCENARIOS],
 }
@@ -387,9 +463,16 @@ impl Compiled {
             signals: network.signals,
             observations: network.observations,
             reactions: network.reactions,
+            labels: network.labels,
+            labelled: network.labels.iter().any(|&label| label != Label::NONE),
             counts: [0; SCENARIOS],
             bounds: [[Bound { target: 0, source: 0, weight: 0 }; BOUNDS]; SCENARIOS],
         }
+    }
+
+    /// Whether event `u` happens in scenario `s`.
+    fn happens(&self, s: usize, u: usize) -> bool {
+        !self.labelled || self.labels[u % EVENTS].covers(s)
     }
 
     fn list(&mut self, label: Label, target: u8, source: u8, weight: i32) {
@@ -407,14 +490,32 @@ impl Compiled {
     }
 }
 
+/// The bounds of each constraint, under the label that joins its own and those of its two events; behind them the waits
+/// of the labels.
 #[inline(never)]
 pub fn compile(network: &Network, compiled: &mut Compiled) {
     for c in network.constraints() {
+        let ends = network.labels[usize::from(c.from) % EVENTS].join(network.labels[usize::from(c.to) % EVENTS]);
+        let label = c.label.join(ends);
         if !matches!(c.kind, Kind::Min) {
-            compiled.list(c.label, c.from, c.to, HORIZON - c.limit);
+            compiled.list(label, c.from, c.to, HORIZON - c.limit);
         }
         if !matches!(c.kind, Kind::Max) {
-            compiled.list(c.label, c.to, c.from, HORIZON + c.limit);
+            compiled.list(label, c.to, c.from, HORIZON + c.limit);
+        }
+    }
+    if compiled.labelled {
+        list_waits(network, compiled);
+    }
+}
+
+/// An event comes no sooner than each signal in its label plus that signal's reaction.
+fn list_waits(network: &Network, compiled: &mut Compiled) {
+    for (u, &label) in network.labels().iter().enumerate() {
+        for (p, (&event, &reaction)) in network.observations().iter().zip(network.reactions()).enumerate() {
+            if label.mentions(p) {
+                compiled.list(label, u as u8, event, HORIZON + i32::from(reaction));
+            }
         }
     }
 }
@@ -427,12 +528,13 @@ enum Outcome {
     Rises,
 }
 
-/// The first known time of each set of propositions in a scenario.
-fn first_known(compiled: &Compiled, row: &Row) -> [u16; SCENARIOS] {
-    let mut first = [u16::MAX; SCENARIOS];
+/// The first known time of each set of propositions in scenario `s`.
+fn first_known(compiled: &Compiled, row: &Row, s: usize) -> [u16; SCENARIOS] {
+    let mut first = [NEVER; SCENARIOS];
     let mut sets = 1;
     for (&u, &reaction) in compiled.observations.iter().zip(&compiled.reactions).take(compiled.signals) {
-        let time = row[usize::from(u) % EVENTS] + reaction;
+        let u = usize::from(u) % EVENTS;
+        let time = if compiled.happens(s, u) { row[u] + reaction } else { NEVER };
         for d in 0..sets {
             first[sets + d] = first[d].min(time);
         }
@@ -444,7 +546,7 @@ fn first_known(compiled: &Compiled, row: &Row) -> [u16; SCENARIOS] {
 /// One row after the round, from the table before it. (Events are below 16 anyhow; `%` is cheaper than the test of an index.)
 fn raise_row(compiled: &Compiled, table: &Table, s: usize) -> Row {
     let row = table[s];
-    let first = first_known(compiled, &row);
+    let first = first_known(compiled, &row, s);
     let mut raised = row.map(|time| time + HORIZON as u16);
     for bound in compiled.bounds(s) {
         let target = &mut raised[usize::from(bound.target) % EVENTS];
@@ -455,7 +557,15 @@ fn raise_row(compiled: &Compiled, table: &Table, s: usize) -> Row {
         let other = &table[(s ^ d) % SCENARIOS];
         raised = array::from_fn(|u| raised[u].max(other[u].min(known)));
     }
+    if compiled.labelled {
+        return clear_absent(compiled, s, raised);
+    }
     raised
+}
+
+/// Zero in each cell of the row whose event does not happen in scenario `s`.
+fn clear_absent(compiled: &Compiled, s: usize, row: Row) -> Row {
+    array::from_fn(|u| if compiled.labels[u].covers(s) { row[u] } else { 0 })
 }
 
 fn round(compiled: &Compiled, table: &Table, new: &mut Table) -> Outcome {
@@ -521,8 +631,11 @@ pub fn solve_counted(sheet: &[u8], table: &mut [u16]) -> (Result<usize, Refusal>
     if !found {
         return (Err((13, 0)), count);
     }
-    for (out, row) in table.chunks_exact_mut(network.events).zip(&times[..network.scenarios()]) {
-        out.copy_from_slice(&row[..network.events]);
+    let rows = times[..network.scenarios()].iter().enumerate();
+    for (out, (s, row)) in table.chunks_exact_mut(network.events).zip(rows) {
+        for (u, (cell, &time)) in out.iter_mut().zip(row).enumerate() {
+            *cell = if compiled.happens(s, u) { time } else { BLANK };
+        }
     }
     (Ok(cells), count)
 }

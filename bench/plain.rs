@@ -1,33 +1,56 @@
 //! The plain loops: each round takes, for every cell, all rules, all other cases and all signals, straight from the definitions.
 //! The reader is that of equal.rs; the answers are the same.
 
-use crate::equal::{by_bytes, read, Constraint, Kind, Network, Refusal, EVENTS, SCENARIOS};
+use crate::equal::{by_bytes, read, Constraint, Kind, Network, Refusal, BLANK, EVENTS, SCENARIOS};
 
 /// Minutes by case and event.
 type Table = [[i32; EVENTS]; SCENARIOS];
 
-/// The minute from which event `u` of case `s` has to be on by one rule, from the table before the round.
-fn by_rule(table: &Table, c: &Constraint, s: usize, u: usize) -> i32 {
+/// An event happens where its label holds.
+fn happens(network: &Network, s: usize, u: usize) -> bool {
+    network.labels()[u].covers(s)
+}
+
+/// The minute from which event `u` of case `s` has to be on by one rule, from the table before the round. A rule covers
+/// a case only if both its events happen there; `u` does.
+fn by_rule(network: &Network, table: &Table, c: &Constraint, s: usize, u: usize) -> i32 {
     let (from, to) = (usize::from(c.from), usize::from(c.to));
     let mut least = 0;
     if c.label.covers(s) {
-        if u == from && !matches!(c.kind, Kind::Min) {
+        if u == from && happens(network, s, to) && !matches!(c.kind, Kind::Min) {
             least = least.max(table[s][to] - c.limit);
         }
-        if u == to && !matches!(c.kind, Kind::Max) {
+        if u == to && happens(network, s, from) && !matches!(c.kind, Kind::Max) {
             least = least.max(table[s][from] + c.limit);
         }
     }
     least
 }
 
+/// The minute from which event `u` of case `s` has to be on by its label: it comes no sooner than each signal there
+/// plus that signal's reaction.
+fn by_label(network: &Network, table: &Table, s: usize, u: usize) -> i32 {
+    let mut least = 0;
+    for (p, (&event, &reaction)) in network.observations().iter().zip(network.reactions()).enumerate() {
+        if network.labels()[u].mentions(p) {
+            least = least.max(table[s][usize::from(event)] + i32::from(reaction));
+        }
+    }
+    least
+}
+
 /// The minute from which event `u` of case `s` has to be on by the hyperarc to case `r`: that of `u` in `r`, or the
-/// earliest in `s` at which a signal counts on which the two differ.
+/// earliest in `s` at which a signal counts on which the two differ. Only events that happen in both are compared, and
+/// only signals count that are given in `s`.
 fn by_case(network: &Network, table: &Table, s: usize, r: usize, u: usize) -> i32 {
+    if !happens(network, r, u) {
+        return 0;
+    }
     let mut least = table[r][u];
     for (p, (&event, &reaction)) in network.observations().iter().zip(network.reactions()).enumerate() {
-        if (s ^ r) >> p & 1 == 1 {
-            least = least.min(table[s][usize::from(event)] + i32::from(reaction));
+        let event = usize::from(event);
+        if (s ^ r) >> p & 1 == 1 && happens(network, s, event) {
+            least = least.min(table[s][event] + i32::from(reaction));
         }
     }
     least
@@ -38,9 +61,12 @@ fn round(network: &Network, table: &Table) -> Table {
     let mut new = [[0; EVENTS]; SCENARIOS];
     for s in 0..network.scenarios() {
         for u in 0..network.events() {
-            let mut least = table[s][u];
+            if !happens(network, s, u) {
+                continue;
+            }
+            let mut least = table[s][u].max(by_label(network, table, s, u));
             for c in network.constraints() {
-                least = least.max(by_rule(table, c, s, u));
+                least = least.max(by_rule(network, table, c, s, u));
             }
             for r in 0..network.scenarios() {
                 if r != s {
@@ -82,9 +108,9 @@ pub fn solve_counted(sheet: &[u8], table: &mut [u16]) -> (Result<usize, Refusal>
         }
         minutes = new;
     }
-    let rows = minutes[..network.scenarios()].iter().flat_map(|row| &row[..network.events()]);
-    for (out, &minute) in table.iter_mut().zip(rows) {
-        *out = minute as u16;
+    for (i, out) in table[..cells].iter_mut().enumerate() {
+        let (s, u) = (i / network.events(), i % network.events());
+        *out = if happens(&network, s, u) { minutes[s][u] as u16 } else { BLANK };
     }
     (Ok(cells), count)
 }

@@ -3,6 +3,8 @@
 #
 # LIBRARY is the path of libopening.a (rt staticlib opening), or the word `standin`, for equal.rs under the library's names.
 # OUT takes the programs and callgrind's files; a temporary folder, removed at the end, if it is not given.
+# WITHOUT, in the environment, names ordinary sheets to leave out: WITHOUT=cases4 for a library from before request 6,
+# which does not read labels of events.
 # Exit status: 0 if every target is met, 1 if one is not or an answer differs, 2 if something could not be built or run.
 #
 # Both sides are built for release (opt-level 3 and one module on each side; no flags for this machine's processor) and called in
@@ -10,11 +12,11 @@
 # and a run with one, so the program's start, the reading of the file and the first use of libc's functions are no part of it.
 #
 # One-off work, reading and compiling, is found from outside, in the same way on both sides, since the library's
-# functions may be inlined. An ordinary sheet (slow4 is one with reactions) is solved with its own horizon (R rounds)
-# and with `horizon,10`, which its first round passes: the lines differ in two digits, so the difference is R - 1
-# rounds (and the writing of the table, under 1 % of it). One round less than the second cost is the one-off work. Of
-# it, reading is what a call costs that lends no table: such a call ends with refusal 12 once the sheet is read. What
-# callgrind says of the functions that are still there is printed as a check.
+# functions may be inlined. An ordinary sheet (slow4 is one with reactions, cases4 one with labels of events too) is
+# solved with its own horizon (R rounds) and with `horizon,10`, which its first round passes: the lines differ in two
+# digits, so the difference is R - 1 rounds (and the writing of the table, under 1 % of it). One round less than the
+# second cost is the one-off work. Of it, reading is what a call costs that lends no table: such a call ends with
+# refusal 12 once the sheet is read. What callgrind says of the functions that are still there is printed as a check.
 #
 # callgrind counts each byte that a `rep stosb` of libc's memset writes as an instruction, from 2,048 bytes on. With
 # GLIBC_TUNABLES=glibc.cpu.x86_rep_stosb_threshold=1000000 in the environment, memset runs and counts as its vector loop.
@@ -36,7 +38,10 @@ fi
 "${release[@]}" -o "$out/speed" "$here/main.rs" -L "native=$out/link" || die "no program"
 
 # ---- measure
-ordinary='ordinary2 ordinary3 ordinary4 slow4'
+ordinary='ordinary2 ordinary3 ordinary4 slow4 cases4'
+for name in ${WITHOUT:-}; do
+    case " $ordinary " in *" $name "*) ordinary=${ordinary/$name/} ;; *) die "no ordinary sheet $name" ;; esac
+done
 declare -A cost
 for name in $ordinary; do sed '1s/.*/horizon,10/' "$here/sheets/$name.csv" >"$out/$name-short.csv"; done
 sheet_of() { if [ -f "$here/sheets/$1.csv" ]; then echo "$here/sheets/$1.csv"; else echo "$out/$1.csv"; fi; }

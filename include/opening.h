@@ -13,6 +13,8 @@
  *     rules,m       m from 0 to 64; then m lines `kind,from,to,limit,label`
  *     reactions,r   r from 0 to 4; then r lines `letter,minutes`, minutes from 1 to 60. The sheet may end before this section;
  *                   any byte behind the rules begins it
+ *     cases,c       c from 0 to n; then c lines `event,label`. The sheet may end before this section; any byte behind the
+ *                   reactions begins it, so where there are none `reactions,0` stands before it
  *
  * Of the difference minute(to) - minute(from) the kind `max` asks that it is at most the limit, `min` that it is at least the
  * limit, and `fix` that it is the limit, which is from -10,080 to 10,080. A label is `-` for every case, or letters, each with
@@ -21,17 +23,24 @@
  *
  * A signal's reaction is how many minutes after its event it is trusted. Without a line it is 1; a letter has at most one line.
  *
+ * An event with a line among the cases happens where its label holds, and every other event in all cases; an event has at most
+ * one line. The start has none but `-`, and the label of an event or a rule that uses a signal has each letter of the label of
+ * the event that gives it, with its sign. A signal is given only where its event happens.
+ *
  * The table
  *
  * Signal i of the sheet (the first is 0) is true in case c where c >> i & 1: there are 2^k cases. A table has one minute for
  * each event in each case. The minute of event u (the first is 0) in case c is the two bytes from byte 2 * (c * n + u) on, the
  * low byte first. So a table takes 2 * n * 2^k bytes, and never more than OPENING_TABLE_MOST. n and k are those of the sheet's
- * lines: no call hands them out.
+ * lines: no call hands them out. Where the event does not happen in the case, both bytes are 255: this blank, 65,535, is no
+ * minute, and is listed as `-`.
  *
- * A table is good if, first, no minute is over the horizon and the start is at 0 in each case; second, each rule holds in each
- * case of its label; and third, each event has the same minute in any two cases s and r, unless the minute in s of a signal
- * that tells them apart, plus the signal's reaction, is at most the event's minute in s: what is given at minute 5 may change
- * what happens from minute 6 on, and with a reaction of 8 from minute 13 on.
+ * A table is good if, first, it has blanks just where events do not happen, no minute is over the horizon, the start is at 0 in
+ * each case, and each event that happens comes no sooner than each signal in its label plus that signal's reaction; second, each
+ * rule holds in each case of its label in which both its events happen; and third, each event has the same minute in any two
+ * cases s and r in which it happens, unless the minute in s of a signal that is given in s and tells them apart, plus the
+ * signal's reaction, is at most the event's minute in s: what is given at minute 5 may change what happens from minute 6 on, and
+ * with a reaction of 8 from minute 13 on.
  *
  * Signals heard are handed in as text: their letters, each with `!` before it if the signal said false (`p!q`), in any order;
  * nothing, or `-`, for none; no line feed and no NUL.
@@ -73,12 +82,12 @@
  *      4  an ill-formed number: `010`, `-0`, `+5`, nothing
  *      5  a well-formed number beyond its range, however many digits it has
  *      6  an ill-formed name, letter or label; an empty line where a name is due
- *      7  a name or letter defined a second time, an event that already gives a signal, or a letter that already has a
- *         line among the reactions
+ *      7  a name or letter defined a second time, an event that already gives a signal, a letter that already has a line
+ *         among the reactions, or an event that already has one among the cases
  *      8  an event or letter that is not defined
  *      9  a label with one letter twice, with either sign
- *     10  bytes behind the last line of the reactions, a lone line feed or a NUL too: the line that they begin; bytes
- *         behind the rules that are no such section are 2 to 5
+ *     10  bytes behind the last line of the cases, a lone line feed or a NUL too: the line that they begin; bytes behind
+ *         the rules, or behind the reactions, that are no such section are 2 to 5
  *     11  judge, due, listing: not exactly n * 2^k minutes in the table, or an odd number of bytes         (line 0)
  *     12  solve, read_listing: the table has fewer than n * 2^k whole pairs of bytes;
  *         listing, house: out is shorter than the text                                                     (line 0)
@@ -91,10 +100,14 @@
  *     18  read_listing: the listing is longer than 4,096 bytes (line 1), or the line is not that of this sheet's
  *         listing: another header, another case, another count of fields, no line feed, a line missing (the line that
  *         it would be) or left over
- *     19  read_listing: a minute on the line is ill-formed (`05`, `-0`, `+5`, a space, nothing), negative or over 65,535
+ *     19  read_listing: a minute on the line is ill-formed (`05`, `-0`, `+5`, a space, nothing), negative or over 65,534; a
+ *         `-` alone is a blank
+ *     20  the start is given a label other than `-`: the last line of the cases
+ *     21  an event's or rule's label lacks part of the label of an event whose signal it uses: the last line of the cases
  *
- * Of the sheet, 1 is tried before any line; then its first line at fault decides, and on it the lowest number. A fault of the sheet
- * (1 to 10) comes before all others. Then each call has its own, in this order: solve 12, 13; judge 11; due 11, 14, 15, 16;
+ * Of the sheet, 1 is tried before any line; then its first line at fault decides, and on it the lowest number. 20 and 21 look at
+ * all labels, and are tried on the last line of the cases, if that section has lines. A fault of the sheet (1 to 10, 20, 21) comes
+ * before all others. Then each call has its own, in this order: solve 12, 13; judge 11; due 11, 14, 15, 16;
  * listing 11, 12; house 17, 12; read_listing 18, 19, 12, where 18 is tried over the whole listing before any 19.
  *
  * Example, with <stdio.h> and <string.h>:
@@ -149,7 +162,7 @@ enum {
 /* The judge's words. */
 enum { OPENING_PASS = 0, OPENING_LATE = 1, OPENING_RULE = 2, OPENING_UNHEARD = 3 };
 
-/* Writes the least good table of the sheet, that is the good table in which no event is later than in any other.
+/* Writes the least good table of the sheet, that is the good table in which no event that happens is later than in any other.
  *
  * Whole pairs are counted: of an odd table_len the last byte is not used. If the answer's number is 0, the first
  * 2 * opening_minutes(answer) bytes of the table are written, and all bytes behind them are unaltered; a table longer than
@@ -162,11 +175,12 @@ uint64_t opening_solve(const uint8_t *sheet, size_t sheet_len, uint8_t *table, s
  * says only that there is a verdict; opening_word(answer) then is
  *
  *     OPENING_PASS     the table is good
- *     OPENING_LATE     in case opening_first, event opening_second is over the horizon, or is the start and not at 0
+ *     OPENING_LATE     in case opening_first, event opening_second is over the horizon, is the start and not at 0, has a minute
+ *                      where it does not happen or a blank where it does, or comes sooner than its label's signals allow
  *     OPENING_RULE     in case opening_first, rule opening_second of the sheet (the first is 0) is broken
- *     OPENING_UNHEARD  in case opening_first, event opening_third has another minute than in case opening_second, although no
- *                      signal that tells the two cases apart has in case opening_first come at least its reaction before
- *                      that event's minute there
+ *     OPENING_UNHEARD  in case opening_first, event opening_third has another minute than in case opening_second, in which it
+ *                      happens too, although no signal that tells the two cases apart has in case opening_first come at least
+ *                      its reaction before that event's minute there
  *
  * All cells are tried for Late first, by case and then event; then all rules, by case and then rule; then the pairs of cases,
  * by the first, the second and then the event. Numbers that a word does not use are 0. */
@@ -177,7 +191,8 @@ uint64_t opening_judge(const uint8_t *sheet, size_t sheet_len, const uint8_t *ta
  * A signal is heard before the minute if its event was due its reaction ago or earlier: what is given at 5 is heard from 6 on,
  * and with a reaction of 8 from 13 on. The text must be all that has been heard, and no more, in any order. Two cases that have
  * heard the same get the same events. Nothing is written; table_len is as for the judge. If the answer's number is 0, bit u of
- * opening_events(answer) says whether event u is due. That nothing is due is no fault, nor is a minute over the horizon.
+ * opening_events(answer) says whether event u is due. That nothing is due is no fault, nor is a minute over the horizon. An event
+ * that does not happen is never due, and its signal never heard.
  *
  * The judge is asked first, at each call: a table that it does not pass is answered with 14 at every minute, whatever has been
  * heard. opening_judge says what is wrong with such a table. */
@@ -185,7 +200,8 @@ uint64_t opening_due(const uint8_t *sheet, size_t sheet_len, const uint8_t *tabl
                      const uint8_t *heard, size_t heard_len);
 
 /* Writes the listing of a table: a line with `case`, then a comma and a name for each event; and for each case a line with
- * `T` or `F` for each signal (`-` if there is none), then a comma and a minute for each event. Each line ends with a line feed.
+ * `T` or `F` for each signal (`-` if there is none), then a comma and a minute for each event, `-` for a blank. Each line ends
+ * with a line feed.
  *
  * table_len is as for the judge. The table need not be good: any minutes are listed. If the answer's number is 0, the first
  * opening_bytes(answer) bytes of out are the listing, with no NUL behind it, and all bytes behind them are unaltered; an out
@@ -209,14 +225,15 @@ uint64_t opening_read_listing(const uint8_t *sheet, size_t sheet_len, const uint
  * ends swapped and its limit negated, a `fix` as both). Of rows with equal ends and label the one with the least limit stays.
  * They are ordered by `from`, then `to`, in event order, then by the sum of the weights of the label's true letters (signal i
  * has weight 1 << i), then of its false ones; a label's letters stand in signal order. Of the reactions only those other than
- * 1 are listed, in signal order, with no section if there are none.
+ * 1 are listed, in signal order, with no section if there are none; of the cases only the lines whose label is not `-`, in event
+ * order, with no section if there are none, and `reactions,0` before it where no reaction is listed.
  *
  * The form is itself a sheet, with the same good tables, and it is its own form; its rules have other places than the sheet's,
  * so a Rule verdict on the one does not name a rule of the other. Two sheets have the same form, byte for byte, if and only if
- * horizons, events, signals, reactions (1 without a line) and the rows that stay are equal. If the answer's number is 0, the
- * first opening_bytes(answer) bytes of out are the form, with no NUL behind it, and all bytes behind them are unaltered; an out
- * longer than needed is no fault, and OPENING_SHEET_MOST bytes are always enough. Otherwise out keeps all its contents. A sheet
- * that has a good table may still be refused with 17. */
+ * horizons, events, signals, reactions (1 without a line), event labels (`-` without one) and the rows that stay are equal. If the
+ * answer's number is 0, the first opening_bytes(answer) bytes of out are the form, with no NUL behind it, and all bytes behind
+ * them are unaltered; an out longer than needed is no fault, and OPENING_SHEET_MOST bytes are always enough. Otherwise out keeps
+ * all its contents. A sheet that has a good table may still be refused with 17. */
 uint64_t opening_house(const uint8_t *sheet, size_t sheet_len, uint8_t *out, size_t out_len);
 
 /* Of every answer: the number of the refusal, or 0. */

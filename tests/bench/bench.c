@@ -357,11 +357,22 @@ static const uint16_t opened_after_60[] = {0, 5, 65, 0, 5, 100};
 static const char slow_pair[] = PAIR PAIR_RULES "reactions,2\nq,3\np,2\n";
 static const uint16_t pair_opened[] = {0, 2, 5, 0, 2, 20, 0, 2, 10, 0, 2, 20};
 
+/* The start gives p and the call q. */
+#define KEYS "horizon,60\nevents,3\nstart\ncall\ndoor\nsignals,2\np,start\nq,call\n"
+
+/* A key gives a duress signal that counts after 2 minutes; it is turned again only where that is true, 3 minutes after
+ * the first turn at the soonest. The form of this. */
+#define DURESS "horizon,60\nevents,3\nstart\nkey\nagain\nsignals,1\np,key\nrules,2\n"
+static const char duress[] = DURESS "min,start,key,5,-\nmin,key,again,3,-\nreactions,1\np,2\ncases,2\nagain,p\nkey,-\n";
+static const char duress_form[] = DURESS "max,key,start,-5,-\nmax,again,key,-3,-\nreactions,1\np,2\ncases,1\nagain,p\n";
+static const char duress_listing[] = "case,start,key,again\nF,0,5,-\nT,0,5,8\n";
+static const uint16_t duress_turned[] = {0, 5, 65535, 0, 5, 8};
+
 /* A minute with a high byte: 1000 is 232 and 3. */
 static const char high[] = "horizon,10080\nevents,2\nstart\ndoor\nsignals,0\nrules,1\nmin,start,door,1000,-\n";
 static const uint16_t high_opened[] = {0, 1000};
 
-/* Refusals 2 to 10, each on some line; 1 needs a length of its own. */
+/* Refusals 2 to 10, 20 and 21, each on some line; 1 needs a length of its own. */
 static const struct {
     unsigned number, line;
     const char *sheet;
@@ -403,9 +414,34 @@ static const struct {
     {7, 14, HEAD TWO RULES "reactions,4\np,2\np,3\nq,4\nr,5\n"},
     {8, 13, HEAD TWO RULES "reactions,1\nq,2\n"},
     {8, 14, HEAD TWO RULES "reactions,4\np,2\nq,3\nr,4\ns,5\n"},
-    {10, 13, HEAD TWO RULES "reactions,0\n\n"},
-    {10, 13, HEAD TWO RULES "reactions,0\nx"},
-    {10, 14, HEAD TWO RULES "reactions,1\np,2\nreactions,0\n"},
+    {3, 13, HEAD TWO RULES "reactions,0\n\n"},
+    {2, 13, HEAD TWO RULES "reactions,0\nx"},
+    {3, 14, HEAD TWO RULES "reactions,1\np,2\nreactions,0\n"},
+    {3, 12, HEAD TWO RULES "cases,0\n"},
+    {2, 13, HEAD TWO RULES "reactions,0\ncases,0"},
+    {4, 13, HEAD TWO RULES "reactions,0\ncases,00\n"},
+    {5, 13, HEAD TWO RULES "reactions,0\ncases,4\n"},
+    {5, 13, HEAD TWO RULES "reactions,0\ncases,-1\n"},
+    {2, 14, HEAD TWO RULES "reactions,0\ncases,1\n"},
+    {2, 15, HEAD TWO RULES "reactions,0\ncases,2\ndoor,p\ncall,-"},
+    {3, 14, HEAD TWO RULES "reactions,0\ncases,1\ndoor\n"},
+    {3, 14, HEAD TWO RULES "reactions,0\ncases,1\ndoor,p,\n"},
+    {6, 14, HEAD TWO RULES "reactions,0\ncases,1\nDoor,p\n"},
+    {6, 14, HEAD TWO RULES "reactions,0\ncases,1\ndoors,p!\n"},
+    {7, 15, HEAD TWO RULES "reactions,0\ncases,2\ndoor,p\ndoor,q\n"},
+    {7, 15, HEAD TWO RULES "reactions,0\ncases,2\ndoor,-\ndoor,p\n"},
+    {8, 14, HEAD TWO RULES "reactions,0\ncases,1\ndoors,p\n"},
+    {8, 14, HEAD TWO RULES "reactions,0\ncases,1\ndoor,qq\n"},
+    {9, 14, HEAD TWO RULES "reactions,0\ncases,1\ndoor,p!p\n"},
+    {10, 14, HEAD TWO RULES "reactions,0\ncases,0\n\n"},
+    {10, 15, HEAD TWO RULES "reactions,0\ncases,1\ndoor,p\nx"},
+    {20, 14, HEAD TWO RULES "reactions,0\ncases,1\nstart,p\n"},
+    {20, 15, HEAD TWO RULES "reactions,0\ncases,2\nstart,!p\ndoor,p\nx"},
+    {8, 15, HEAD TWO RULES "reactions,0\ncases,2\nstart,p\ndoor,q\n"},
+    {21, 13, KEYS "rules,1\nmin,start,door,9,q\nreactions,0\ncases,1\ncall,p\n"},
+    {21, 13, KEYS "rules,0\nreactions,0\ncases,2\ncall,p\ndoor,q\n"},
+    {21, 13, KEYS "rules,0\nreactions,0\ncases,2\ndoor,!pq\ncall,p\n"},
+    {20, 13, KEYS "rules,0\nreactions,0\ncases,2\nstart,q\ncall,p\n"},
 };
 
 /* ---------------------------------------------------------------- What is tried */
@@ -544,14 +580,14 @@ static void long_sheets(void)
 {
     static char sheet[OPENING_SHEET_MOST + 1];
     static const uint8_t bytes[12];
-    const unsigned behind[6] = {10, 14, 0, 0, 0, 0}, too_long[6] = {1, 0, 0, 0, 0, 0};
+    const unsigned behind[6] = {10, 16, 0, 0, 0, 0}, too_long[6] = {1, 0, 0, 0, 0, 0};
     memset(sheet, 'x', sizeof sheet);
-    memcpy(sheet, after_2, strlen(after_2));
-    solve("4,096 bytes", sheet, OPENING_SHEET_MOST, 12, 10, 14, NULL, 0);
+    memcpy(sheet, duress, strlen(duress));
+    solve("4,096 bytes", sheet, OPENING_SHEET_MOST, 12, 10, 16, NULL, 0);
     solve("4,097 bytes", sheet, OPENING_SHEET_MOST + 1, 12, 1, 0, NULL, 0);
     judge_bytes("4,096 bytes, judged", sheet, OPENING_SHEET_MOST, bytes, sizeof bytes, behind);
     judge_bytes("4,097 bytes, judged", sheet, OPENING_SHEET_MOST + 1, bytes, sizeof bytes, too_long);
-    refused_by_all("4,096 bytes, by the others", sheet, OPENING_SHEET_MOST, 10, 14);
+    refused_by_all("4,096 bytes, by the others", sheet, OPENING_SHEET_MOST, 10, 16);
     refused_by_all("4,097 bytes, by the others", sheet, OPENING_SHEET_MOST + 1, 1, 0);
 }
 
@@ -737,6 +773,39 @@ static void slow_questions(void)
     due("too quick a table", handed, 0, "", 0, 14, 0, 0);
 }
 
+/* Events that only some cases have: what is blank, what may not be, and what is too soon for a label. */
+static void labelled_events(void)
+{
+    static const char ring[] = DURESS "min,start,key,5,-\nmin,key,again,3,-\nreactions,0\ncases,1\nkey,p\n";
+    static const char plain_form[] = DURESS "max,key,start,-5,-\nmax,again,key,-3,-\nreactions,0\ncases,1\nagain,p\n";
+    static const char plain[] = DURESS "min,start,key,5,-\nmin,key,again,3,-\nreactions,1\np,1\ncases,1\nagain,p\n";
+    static const struct question asked[] = {
+        {0, "", 0, 1},   {5, "", 0, 2},      {6, "", 0, 0},  {7, "", 16, 0},     {7, "p", 0, 0},       {8, "p", 0, 4},
+        {8, "!p", 0, 0}, {65535, "p", 0, 0}, {8, "", 16, 0}, {65535, "", 16, 0}, {65535, "!p", 0, 0},
+    };
+    uint8_t bytes[12];
+    const struct handed handed = {duress, strlen(duress), bytes, pairs(bytes, duress_turned, 6)};
+    solve("a second turn after duress", duress, strlen(duress), 12, 0, 0, duress_turned, 6);
+    solve("a second turn after duress, a pair less", duress, strlen(duress), 10, 12, 0, NULL, 0);
+    solve("labelled with its own signal", ring, strlen(ring), 12, 13, 0, NULL, 0);
+    judge("a second turn after duress, judged", duress, duress_turned, 6, OPENING_PASS, 0, 0, 0);
+    judge("wrongly filled", duress, (const uint16_t[]){0, 5, 8, 0, 5, 8}, 6, OPENING_LATE, 0, 2, 0);
+    judge("wrongly filled with 0", duress, (const uint16_t[]){0, 5, 0, 0, 5, 8}, 6, OPENING_LATE, 0, 2, 0);
+    judge("wrongly blank", duress, (const uint16_t[]){0, 5, 65535, 0, 5, 65535}, 6, OPENING_LATE, 1, 2, 0);
+    judge("too soon for its label", duress, (const uint16_t[]){0, 5, 65535, 0, 5, 6}, 6, OPENING_LATE, 1, 2, 0);
+    judge("just in time for its label", duress, (const uint16_t[]){0, 5, 65535, 0, 5, 7}, 6, OPENING_RULE, 1, 1, 0);
+    judge("a giver wrongly blank", duress, (const uint16_t[]){0, 5, 65535, 0, 65535, 8}, 6, OPENING_LATE, 1, 1, 0);
+    due_by_hand(handed, asked, sizeof asked / sizeof asked[0]);
+    list("a second turn after duress, listed", handed, strlen(duress_listing), 0, 0, duress_listing);
+    list("a second turn after duress, a byte less", handed, strlen(duress_listing) - 1, 12, 0, NULL);
+    reread_minutes("a second turn after duress, read back", duress, duress_listing, 12, duress_turned, 6);
+    misread("65535 for a blank", duress, printed("case,start,key,again\nF,0,5,65535\nT,0,5,8\n"), 19, 2);
+    house("house form, labelled", duress, strlen(duress), strlen(duress_form), 0, 0, duress_form);
+    house("house form, labelled, a byte less", duress, strlen(duress), strlen(duress_form) - 1, 12, 0, NULL);
+    house("house form of a labelled form", duress_form, strlen(duress_form), ROOM, 0, 0, duress_form);
+    house("house form, no reactions before labels", plain, strlen(plain), strlen(plain_form), 0, 0, plain_form);
+}
+
 /* Texts that are no list of the sheet's one letter. */
 static const struct {
     size_t length;
@@ -779,7 +848,7 @@ static void questions_turned_away(void)
 static void listings(void)
 {
     static const char *const text = example_listing;
-    static const char bad_text[] = NAMES "F,65535,10,256\nT,9999,10000,0\n";
+    static const char bad_text[] = NAMES "F,-,10,256\nT,9999,10000,0\n";
     static const char high_text[] = "case,start,door\n-,0,1000\n";
     static const uint16_t bad[] = {65535, 10, 256, 9999, 10000, 0};
     const size_t exact = strlen(text);
@@ -823,7 +892,7 @@ static void longest_listing(void)
         for (unsigned p = 0; p < 4; p++)
             at += (size_t)sprintf(text + at, "%c", s >> p & 1 ? 'T' : 'F');
         for (unsigned u = 0; u < 16; u++) {
-            const uint16_t minute = (uint16_t)(65535 - 16 * s - u);
+            const uint16_t minute = (uint16_t)(65534 - 16 * s - u);
             at += (size_t)sprintf(text + at, ",%u", minute);
             pairs(bytes + 2 * (16 * s + u), &minute, 1);
         }
@@ -866,7 +935,7 @@ static void solve_list_and_reread(const char *sheet)
 static void listings_read_back(void)
 {
     static const char *const solved[] = {example, signal_last, two_signals, weights, four_signals, after_1,
-                                         after_2, after_15,    after_60,    slow_pair, high};
+                                         after_2, after_15,    after_60,    slow_pair, high,         duress};
     for (size_t i = 0; i < sizeof solved / sizeof solved[0]; i++)
         solve_list_and_reread(solved[i]);
     reread_minutes("read back, exact", example, example_listing, 12, opened, 6);
@@ -876,7 +945,7 @@ static void listings_read_back(void)
     for (size_t length = 0; length < 12; length++)
         reread("read back, too short", example, strlen(example), printed(example_listing), length, 12, 0, NULL, 0);
     reread_minutes("read back, no good table", no_table, example_listing, 12, opened, 6);
-    reread_minutes("read back, a table that is not good", example, NAMES "F,65535,10,256\nT,9999,10000,0\n", 12,
+    reread_minutes("read back, a table that is not good", example, NAMES "F,-,10,256\nT,9999,10000,0\n", 12,
                    (const uint16_t[]){65535, 10, 256, 9999, 10000, 0}, 6);
     reread_minutes("read back, one to five digits", example, NAMES "F,9,99,999\nT,100,65534,1\n", 12,
                    (const uint16_t[]){9, 99, 999, 100, 65534, 1}, 6);
@@ -921,7 +990,12 @@ static const struct {
     {19, 2, NAMES "F,0, 5,6\nT,0,5,20\n"},
     {19, 2, NAMES "F,0,5,6\r\nT,0,5,20\r\n"},
     {19, 2, NAMES "F,0,5,65536\nT,0,5,020\n"},
-    {19, 3, NAMES "F,0,5,65535\nT,0,5,65536\n"},
+    {19, 2, NAMES "F,0,5,65535\nT,0,5,65536\n"},
+    {19, 2, NAMES "F,65535,5,6\nT,0,5,20\n"},
+    {19, 2, NAMES "F,0,--,6\nT,0,5,20\n"},
+    {19, 2, NAMES "F,0,5, -\nT,0,5,20\n"},
+    {19, 3, NAMES "F,0,5,65534\nT,0,5,65536\n"},
+    {19, 3, NAMES "F,-,-,-\nT,0,5,65535\n"},
     {19, 3, NAMES "F,1,5,6\nT,0,18446744073709551621,20\n"},
     {19, 3, NAMES "F,0,5,6\nT,0,5,\n"},
 };
@@ -1063,8 +1137,10 @@ static void rows_left(void)
     house("65 rows, no bytes: 17 comes first", sheet, strlen(sheet), 0, 17, 0, NULL);
     strcat(sheet, "reactions,0\n");
     house("65 rows and no reactions", sheet, strlen(sheet), OPENING_SHEET_MOST, 17, 0, NULL);
+    strcat(sheet, "cases,0\n");
+    house("65 rows and no labels", sheet, strlen(sheet), OPENING_SHEET_MOST, 17, 0, NULL);
     strcat(sheet, "x");
-    house("65 rows and a byte: 10 comes first", sheet, strlen(sheet), OPENING_SHEET_MOST, 10, 55, NULL);
+    house("65 rows and a byte: 10 comes first", sheet, strlen(sheet), OPENING_SHEET_MOST, 10, 56, NULL);
 }
 
 /* 16 events, 4 signals: 256 minutes in 512 bytes, so that both bytes of their count are used. Event i waits for minute i. */
@@ -1122,6 +1198,7 @@ int main(void)
     played_tables();
     questions();
     slow_questions();
+    labelled_events();
     questions_turned_away();
     listings();
     longest_listing();
@@ -1138,6 +1215,7 @@ int main(void)
     solve_then_judge(high);
     solve_then_judge(after_60);
     solve_then_judge(slow_pair);
+    solve_then_judge(duress);
     printf("bench: %u calls, all answers and all lent bytes as the papers ask\n", calls);
     return 0;
 }

@@ -36,7 +36,8 @@ pub fn of_call(number: u8) -> Refusal {
     Refusal { number, line: 0 }
 }
 
-/// What the solver does with a table of so many bytes: refusals 1 to 10, 12 and 13 in this order, or the minutes.
+/// What the solver does with a table of so many bytes: the sheet's own refusals, 12 and 13 in this order, or the
+/// minutes.
 fn solver_outcome(case: &Case, length: usize) -> Result<&[u16], Refusal> {
     let net = case.reading.as_ref().map_err(|refusal| *refusal)?;
     if length / 2 < net.cells() {
@@ -45,7 +46,7 @@ fn solver_outcome(case: &Case, length: usize) -> Result<&[u16], Refusal> {
     case.solved.as_deref().ok_or(of_call(13))
 }
 
-/// For a table of so many bytes that is handed in: refusals 1 to 10, then 11.
+/// For a table of so many bytes that is handed in: the sheet's own refusals, then 11.
 pub fn of_size(reading: &Result<Net, Refusal>, bytes: usize) -> Result<&Net, Refusal> {
     let net = reading.as_ref().map_err(|refusal| *refusal)?;
     if bytes == 2 * net.cells() { Ok(net) } else { Err(of_call(11)) }
@@ -56,12 +57,12 @@ pub fn minutes(table: &[u8]) -> Vec<u16> {
     table.chunks_exact(2).map(|pair| u16::from(pair[0]) + 256 * u16::from(pair[1])).collect()
 }
 
-/// What the judge says of these bytes: refusals 1 to 11, then the verdict.
+/// What the judge says of these bytes: the sheet's own refusals, 11, then the verdict.
 pub fn judge_outcome(reading: &Result<Net, Refusal>, table: &[u8]) -> Result<Verdict, Refusal> {
     of_size(reading, table.len()).map(|net| model::judge(net, &minutes(table)))
 }
 
-/// Refusals 1 to 11, then what the player says.
+/// The sheet's own refusals, then 11, then what the player says.
 fn due_outcome(reading: &Result<Net, Refusal>, table: &[u8], minute: u16, heard: &[u8]) -> Result<u16, Refusal> {
     of_size(reading, table.len()).and_then(|net| played(net, &minutes(table), minute, model::heard(heard)))
 }
@@ -371,7 +372,9 @@ fn reading_kind(reading: &Result<Net, Refusal>) -> String {
 
 fn solver_kind(case: &Case, outcome: &Result<&[u16], Refusal>) -> String {
     match (&case.reading, outcome) {
+        (Ok(net), Ok(_)) if net.is_labelled() => "solver wrote a table, with blanks".to_string(),
         (Ok(net), Ok(table)) => format!("solver wrote a table, {}", alike(net, table)),
+        (Ok(net), Err(Refusal { number: 13, .. })) if net.is_labelled() => "solver refused 13, labelled".to_string(),
         (_, Ok(_)) => "solver wrote a table for a refused sheet".to_string(),
         (_, Err(refusal)) => format!("solver refused {:>2}", refusal.number),
     }

@@ -18,6 +18,8 @@ const REACTIONS: i64 = 59;
 const RULES: usize = 64;
 const EVENTS: usize = 16;
 const SIGNALS: usize = 4;
+/// All events but the start.
+const LABELS: usize = 15;
 
 /// What was compared.
 pub fn words() -> String {
@@ -30,6 +32,7 @@ pub fn compare_all(library: &Library) -> Result<(), Difference> {
     let limits: Vec<i64> = (-10_080..=10_080).collect();
     assert_eq!(limits.len() as i64, LIMITS);
     let of_limits = limits.chunks(RULES).map(|limits| form(10_080, [EVENTS, SIGNALS], limits, &[]));
+    let counts_of_labels = (1..=LABELS).map(|count| labelled_form(count));
     let of_horizons = (0..HORIZONS).map(|horizon| form(horizon, [1, 0], &[], &[]));
     let of_reactions = (2..2 + REACTIONS).map(|reaction| form(0, [1, 1], &[], &[reaction]));
     let counts_of_rules = (0..=RULES).map(|count| form(0, [EVENTS, 0], &limits[..count], &[]));
@@ -37,6 +40,7 @@ pub fn compare_all(library: &Library) -> Result<(), Difference> {
     let counts_of_signals = (0..=SIGNALS).map(|count| form(0, [SIGNALS, count], &[], &[]));
     let counts_of_reactions = (0..=SIGNALS).map(|count| form(0, [SIGNALS; 2], &[], &[60; SIGNALS][..count]));
     let of_counts = counts_of_rules.chain(counts_of_events).chain(counts_of_signals).chain(counts_of_reactions);
+    let of_counts = of_counts.chain(counts_of_labels);
     let forms = of_limits.chain(of_horizons).chain(of_reactions).chain(of_counts);
     let listings = (0..MINUTES).step_by(CELLS).map(|first| compare_minutes(library, first));
     let all = listings.chain(forms.map(|form| compare_form(library, &form)));
@@ -75,6 +79,13 @@ fn form(horizon: i64, [events, signals]: [usize; 2], limits: &[i64], reactions: 
         text += &format!("reactions,{}\n", reactions.len());
         text.extend(reactions.iter().enumerate().map(|(signal, minutes)| format!("{},{minutes}\n", letter(signal))));
     }
+    text
+}
+
+/// The same with a label for so many events behind the start, which gives the signal, and no reaction.
+fn labelled_form(count: usize) -> String {
+    let mut text = form(0, [EVENTS, 1], &[], &[]) + &format!("reactions,0\ncases,{count}\n");
+    text.extend((1..=count).map(|event| format!("{},a\n", char::from(b'a' + event as u8))));
     text
 }
 

@@ -1,12 +1,16 @@
 //! Wrong libraries, to see that the comparison notices them: those of document 01's last section, and some like them
-//! for each call, for reactions (02, point 3) and for listings read back (02, point 4).
+//! for each call, for reactions (02, point 3), for listings read back (02, point 4) and for events that only some cases
+//! have (02, point 6).
 
 use crate::library::own::{
     self, handed, minutes_of, pack, refused, refused_call, returned, two_bytes, verdict, write, write_text,
 };
 use crate::library::{Library, Question};
-use crate::model::{self, truth, Kind, Net, Refusal, Rule, Verdict};
+use crate::labels::{self, Slip as Absent};
+use crate::leaps::{self, Slip as Solved};
+use crate::model::{self, truth, Kind, Label, Net, Refusal, Rule, Verdict, BLANK};
 use crate::readers::{self, Slip as Back};
+use crate::sections::{self, up_to_reactions, Slip};
 use std::ops::RangeInclusive;
 
 const fn solver(solve: fn(&[u8], &mut [u8]) -> u64) -> Library {
@@ -42,7 +46,7 @@ const REFUSES_ALL: Library = Library {
     read_listing: |_, _, _| refused_call(12),
 };
 
-pub const FAULTS: [(&str, Library); 260] = [
+pub const FAULTS: [(&str, Library); 374] = [
     ("13-at-once", solver(|sheet, table| with_solver(sheet, table, |_| None))),
     ("refuses-all", REFUSES_ALL),
     ("minute-0-throughout", solver(|sheet, table| with_solver(sheet, table, |net| model::solve(net).map(|good| vec![0; good.len()])))),
@@ -180,6 +184,55 @@ pub const FAULTS: [(&str, Library); 260] = [
     ("reactions-2-behind-them", judge(|sheet, table| read_by(sheet, table, Slip::TwoBehind))),
     ("reactions-10-a-line-before", judge(|sheet, table| read_by(sheet, table, Slip::TenALineBefore))),
     ("reactions-twice-accepted", judge(|sheet, table| read_by(sheet, table, Slip::TwiceAccepted))),
+    ("cases-not-read", judge(|sheet, table| read_by(sheet, table, Slip::TenBehindReactions))),
+    ("cases-behind-the-rules", judge(|sheet, table| read_by(sheet, table, Slip::CasesBehindRules))),
+    ("cases-lone-feed-accepted", judge(|sheet, table| read_by(sheet, table, Slip::CasesFeedAccepted))),
+    ("cases-lone-feed-is-10", judge(|sheet, table| read_by(sheet, table, Slip::CasesFeedIsTen))),
+    ("cases-one-more", judge(|sheet, table| read_by(sheet, table, Slip::CasesOneMore))),
+    ("cases-one-less", judge(|sheet, table| read_by(sheet, table, Slip::CasesOneLess))),
+    ("cases-as-far-as-16", judge(|sheet, table| read_by(sheet, table, Slip::CasesOf16))),
+    ("cases-0-refused", judge(|sheet, table| read_by(sheet, table, Slip::NoCasesRefused))),
+    ("cases-first-line-counts", judge(|sheet, table| read_by(sheet, table, Slip::FirstLabelCounts))),
+    ("cases-last-line-counts", judge(|sheet, table| read_by(sheet, table, Slip::LastLabelCounts))),
+    ("cases-dash-not-counted", judge(|sheet, table| read_by(sheet, table, Slip::DashNotCounted))),
+    ("cases-7-and-8-exchanged", judge(|sheet, table| read_by(sheet, table, Slip::SevenEightExchanged))),
+    ("cases-8-before-7", judge(|sheet, table| read_by(sheet, table, Slip::EightBeforeSeven))),
+    ("cases-7-before-6", judge(|sheet, table| read_by(sheet, table, Slip::SevenBeforeSix))),
+    ("cases-9-before-8", judge(|sheet, table| read_by(sheet, table, Slip::NineBeforeEight))),
+    ("cases-9-before-7", judge(|sheet, table| read_by(sheet, table, Slip::NineBeforeSeven))),
+    ("cases-letter-twice-accepted", judge(|sheet, table| read_by(sheet, table, Slip::LetterTwiceAccepted))),
+    ("cases-empty-label-is-dash", judge(|sheet, table| read_by(sheet, table, Slip::EmptyLabelIsDash))),
+    ("cases-dash-ill-formed", judge(|sheet, table| read_by(sheet, table, Slip::DashIllFormed))),
+    ("cases-unknown-event-ignored", judge(|sheet, table| read_by(sheet, table, Slip::UnknownEventIgnored))),
+    ("cases-unknown-letter-ignored", judge(|sheet, table| read_by(sheet, table, Slip::UnknownLetterIgnored))),
+    ("cases-third-field-ignored", judge(|sheet, table| read_by(sheet, table, Slip::MoreFieldsIgnored))),
+    ("cases-name-begins", judge(|sheet, table| read_by(sheet, table, Slip::NameBegins))),
+    ("cases-label-of-the-next", judge(|sheet, table| read_by(sheet, table, Slip::LabelOfTheNext))),
+    ("20-not-tried", judge(|sheet, table| read_by(sheet, table, Slip::TwentyNotTried))),
+    ("20-for-dash", judge(|sheet, table| read_by(sheet, table, Slip::TwentyForDash))),
+    ("20-at-its-line", judge(|sheet, table| read_by(sheet, table, Slip::TwentyAtItsLine))),
+    ("20-at-the-heading", judge(|sheet, table| read_by(sheet, table, Slip::TwentyAtTheHeading))),
+    ("20-without-line", judge(|sheet, table| read_by(sheet, table, Slip::TwentyWithoutLine))),
+    ("20-behind-10", judge(|sheet, table| read_by(sheet, table, Slip::TwentyBehindTheEnd))),
+    ("20-at-once", judge(|sheet, table| read_by(sheet, table, Slip::TwentyAtOnce))),
+    ("20-of-the-last-event", judge(|sheet, table| read_by(sheet, table, Slip::TwentyForLast))),
+    ("21-before-20", judge(|sheet, table| read_by(sheet, table, Slip::TwentyOneFirst))),
+    ("21-not-tried", judge(|sheet, table| read_by(sheet, table, Slip::TwentyOneNotTried))),
+    ("21-of-events-only", judge(|sheet, table| read_by(sheet, table, Slip::OfEventsOnly))),
+    ("21-of-rules-only", judge(|sheet, table| read_by(sheet, table, Slip::OfRulesOnly))),
+    ("21-of-listed-only", judge(|sheet, table| read_by(sheet, table, Slip::OfListedOnly))),
+    ("21-as-lines-are-read", judge(|sheet, table| read_by(sheet, table, Slip::SoFarOnly))),
+    ("21-signs-not-asked", judge(|sheet, table| read_by(sheet, table, Slip::SignsNotAsked))),
+    ("21-first-letter-only", judge(|sheet, table| read_by(sheet, table, Slip::FirstLetterOnly))),
+    ("21-own-signal-refused", judge(|sheet, table| read_by(sheet, table, Slip::OwnSignalRefused))),
+    ("21-turned-about", judge(|sheet, table| read_by(sheet, table, Slip::TurnedAbout))),
+    ("21-of-short-labels-only", judge(|sheet, table| read_by(sheet, table, Slip::OneStepLess))),
+    ("21-at-its-line", judge(|sheet, table| read_by(sheet, table, Slip::TwentyOneAtItsLine))),
+    ("21-without-line", judge(|sheet, table| read_by(sheet, table, Slip::TwentyOneWithoutLine))),
+    ("21-at-the-heading", judge(|sheet, table| read_by(sheet, table, Slip::TwentyOneAtTheHeading))),
+    ("21-behind-10", judge(|sheet, table| read_by(sheet, table, Slip::TenBeforeTwentyOne))),
+    ("21-is-8", judge(|sheet, table| read_by(sheet, table, Slip::TwentyOneIsEight))),
+    ("21-for-a-rule-that-covers-nothing", judge(|sheet, table| read_by(sheet, table, Slip::ContradictionRefused))),
     ("reactions-before-rules", judge(|sheet, table| own::judge(&section_moved(sheet), table))),
     ("solver-reactions-ignored", solver(|sheet, table| solved_with(sheet, table, IGNORED))),
     ("solver-reaction-late", solver(|sheet, table| solved_with(sheet, table, LATE))),
@@ -202,6 +255,60 @@ pub const FAULTS: [(&str, Library); 260] = [
     ("due-judged-without-reactions", due(judged_without_reactions)),
     ("house-reactions-dropped", house(|sheet, out| write_text(model::house(sheet).map(without_reactions), out))),
     ("house-room-without-reactions", house(room_without_reactions)),
+    ("judge-filled-not-asked", judge(|sheet, table| judged_as(sheet, table, Absent::FilledNotAsked))),
+    ("judge-filled-with-0-accepted", judge(|sheet, table| judged_as(sheet, table, Absent::ZeroAccepted))),
+    ("judge-blank-not-asked", judge(|sheet, table| judged_as(sheet, table, Absent::BlankNotAsked))),
+    ("judge-labels-ignored", judge(|sheet, table| judged_as(sheet, table, Absent::LabelsIgnored))),
+    ("judge-wait-not-asked", judge(|sheet, table| judged_as(sheet, table, Absent::WaitNotAsked))),
+    ("judge-wait-of-one", judge(|sheet, table| judged_as(sheet, table, Absent::WaitOfOne))),
+    ("judge-wait-a-minute-less", judge(|sheet, table| judged_as(sheet, table, Absent::WaitAMinuteLess))),
+    ("judge-wait-a-minute-more", judge(|sheet, table| judged_as(sheet, table, Absent::WaitAMinuteMore))),
+    ("judge-wait-in-its-minute", judge(|sheet, table| judged_as(sheet, table, Absent::WaitInItsMinute))),
+    ("judge-wait-for-true-letters", judge(|sheet, table| judged_as(sheet, table, Absent::WaitForTrue))),
+    ("judge-wait-for-false-letters", judge(|sheet, table| judged_as(sheet, table, Absent::WaitForFalse))),
+    ("judge-wait-for-the-first-letter", judge(|sheet, table| judged_as(sheet, table, Absent::WaitForFirst))),
+    ("judge-wait-not-for-blanks", judge(|sheet, table| judged_as(sheet, table, Absent::WaitNotForBlanks))),
+    ("judge-wait-where-absent-too", judge(|sheet, table| judged_as(sheet, table, Absent::WaitWhereAbsent))),
+    ("judge-waits-behind-the-rest", judge(|sheet, table| judged_as(sheet, table, Absent::WaitsLast))),
+    ("judge-blanks-before-the-rest", judge(|sheet, table| judged_as(sheet, table, Absent::BlanksFirst))),
+    ("judge-wait-is-a-rule", judge(|sheet, table| judged_as(sheet, table, Absent::WaitIsRule))),
+    ("judge-rule-by-label-only", judge(|sheet, table| judged_as(sheet, table, Absent::RuleByLabel))),
+    ("judge-rule-if-from-happens", judge(|sheet, table| judged_as(sheet, table, Absent::RuleIfFrom))),
+    ("judge-rule-if-to-happens", judge(|sheet, table| judged_as(sheet, table, Absent::RuleIfTo))),
+    ("judge-rule-if-either-happens", judge(|sheet, table| judged_as(sheet, table, Absent::RuleIfEither))),
+    ("judge-blank-is-0-in-a-rule", judge(|sheet, table| judged_as(sheet, table, Absent::BlankIsZero))),
+    ("judge-not-given-counts", judge(|sheet, table| judged_as(sheet, table, Absent::NotGivenCounts))),
+    ("judge-one-case-is-unheard", judge(|sheet, table| judged_as(sheet, table, Absent::OneCaseUnheard))),
+    ("judge-point-3-of-unlabelled-only", judge(|sheet, table| judged_as(sheet, table, Absent::UnlabelledOnly))),
+    ("solver-labels-set-no-waits", solver(|sheet, table| solved_as(sheet, table, Solved::NoWaits))),
+    ("solver-label-waits-of-one", solver(|sheet, table| solved_as(sheet, table, Solved::WaitsOfOne))),
+    ("solver-label-waits-for-true-letters", solver(|sheet, table| solved_as(sheet, table, Solved::WaitsForTrue))),
+    ("solver-label-waits-for-the-first-letter", solver(|sheet, table| solved_as(sheet, table, Solved::WaitsForFirst))),
+    ("solver-rule-of-an-absent-event", solver(|sheet, table| solved_as(sheet, table, Solved::RulesOfLabelOnly))),
+    ("solver-absent-cell-raised", solver(|sheet, table| solved_as(sheet, table, Solved::AbsentRaised))),
+    ("solver-blank-cells-are-0", solver(|sheet, table| solved_as(sheet, table, Solved::BlanksZero))),
+    ("solver-labels-ignored", solver(|sheet, table| with_solver(sheet, table, labels_ignored))),
+    ("solver-labels-at-the-end", solver(|sheet, table| with_solver(sheet, table, blanked_at_the_end))),
+    ("solver-blank-is-65534", solver(|sheet, table| with_solver(sheet, table, |net| blanks_as(net, 65_534)))),
+    ("solver-blank-is-the-horizon", solver(|sheet, table| with_solver(sheet, table, blanks_as_horizon))),
+    ("solver-13-where-labelled", solver(|sheet, table| with_solver(sheet, table, unlabelled_only))),
+    ("solver-label-of-the-first-letter", solver(|sheet, table| with_solver(sheet, table, first_letter))),
+    ("due-blank-at-65535", due(|asked| with_absent(asked, every_event))),
+    ("due-absent-signal-heard-at-once", due(|asked| with_absent(asked, blanks_at_0))),
+    ("due-absent-signal-is-false", due(absent_signal_is_false)),
+    ("due-16-at-65535", due(|asked| if asked.minute == BLANK { own::due(asked).max(16) } else { own::due(asked) })),
+    ("due-labelled-not-played", due(unplayed)),
+    ("listing-blank-in-digits", listing(|sheet, table, out| listed_as(sheet, table, out, |_, _, _| "65535"))),
+    ("listing-blank-is-empty", listing(|sheet, table, out| listed_as(sheet, table, out, |_, _, _| ""))),
+    ("listing-blank-is-0", listing(|sheet, table, out| listed_as(sheet, table, out, |_, _, _| "0"))),
+    ("listing-blank-of-two", listing(|sheet, table, out| listed_as(sheet, table, out, |_, _, _| "--"))),
+    ("listing-dash-only-where-absent", listing(|sheet, table, out| listed_as(sheet, table, out, dash_where_absent))),
+    ("listing-dash-only-in-labelled", listing(|sheet, table, out| listed_as(sheet, table, out, dash_in_labelled))),
+    ("listing-dash-where-absent", listing(dash_where_filled)),
+    ("listing-of-odd-minutes", listing(|sheet, table, out| own::listing(sheet, &each_minute(table, |it| it | 1), out))),
+    ("listing-refused-over-blanks", listing(refused_over_blanks)),
+    ("house-labels-dropped", house(|sheet, out| write_text(model::house(sheet).map(without_label_lines), out))),
+    ("house-room-without-labels", house(room_without_labels)),
     ("read-18-and-19-exchanged", reader(|sheet, text, room| read_back(sheet, text, room, Back::NumbersExchanged))),
     ("read-lines-in-turn", reader(|sheet, text, room| read_back(sheet, text, room, Back::LinesInTurn))),
     ("read-19-before-18-on-a-line", reader(|sheet, text, room| read_back(sheet, text, room, Back::NineteenOnTheLine))),
@@ -251,12 +358,23 @@ pub const FAULTS: [(&str, Library); 260] = [
     ("read-last-comma-ignored", reader(|sheet, text, room| read_back(sheet, text, room, Back::LastCommaIgnored))),
     ("read-missing-field-is-0", reader(|sheet, text, room| read_back(sheet, text, room, Back::MissingFieldIsZero))),
     ("read-fields-are-19", reader(|sheet, text, room| read_back(sheet, text, room, Back::FieldsAreNineteen))),
-    ("read-65535-refused", reader(|sheet, text, room| read_back(sheet, text, room, Back::Refused65535))),
+    ("read-65535-accepted", reader(|sheet, text, room| read_back(sheet, text, room, Back::Accepted65535))),
+    ("read-65534-refused", reader(|sheet, text, room| read_back(sheet, text, room, Back::Refused65534))),
+    ("read-dash-refused", reader(|sheet, text, room| read_back(sheet, text, room, Back::DashRefused))),
+    ("read-dash-is-0", reader(|sheet, text, room| read_back(sheet, text, room, Back::DashIsZero))),
+    ("read-dash-is-65534", reader(|sheet, text, room| read_back(sheet, text, room, Back::DashIs65534))),
+    ("read-dash-is-18", reader(|sheet, text, room| read_back(sheet, text, room, Back::DashIsEighteen))),
+    ("read-dash-with-spaces", reader(|sheet, text, room| read_back(sheet, text, room, Back::DashWithSpaces))),
+    ("read-dash-of-two", reader(|sheet, text, room| read_back(sheet, text, room, Back::DashOfTwo))),
+    ("read-dash-only-once-a-row", reader(|sheet, text, room| read_back(sheet, text, room, Back::DashOnlyOnce))),
+    ("read-dash-not-at-the-start", reader(|sheet, text, room| read_back(sheet, text, room, Back::DashNotAtTheStart))),
+    ("read-dash-only-in-labelled", reader(|sheet, text, room| read_back(sheet, text, room, Back::DashOnlyInLabelled))),
+    ("read-dash-only-where-absent", reader(|sheet, text, it| read_back(sheet, text, it, Back::DashOnlyWhereAbsent))),
     ("read-65536-is-0", reader(|sheet, text, room| read_back(sheet, text, room, Back::Accepted65536))),
     ("read-wraps-at-2-16", reader(|sheet, text, room| read_back(sheet, text, room, Back::WrapsAt16Bits))),
     ("read-wraps-at-2-32", reader(|sheet, text, room| read_back(sheet, text, room, Back::WrapsAt32Bits))),
     ("read-wraps-at-2-64", reader(|sheet, text, room| read_back(sheet, text, room, Back::WrapsAt64Bits))),
-    ("read-capped-at-65535", reader(|sheet, text, room| read_back(sheet, text, room, Back::Capped))),
+    ("read-capped-at-65534", reader(|sheet, text, room| read_back(sheet, text, room, Back::Capped))),
     ("read-10080-at-most", reader(|sheet, text, room| read_back(sheet, text, room, Back::AsFarAs10080))),
     ("read-horizon-at-most", reader(|sheet, text, room| read_back(sheet, text, room, Back::AsFarAsHorizon))),
     ("read-leading-0-accepted", reader(|sheet, text, room| read_back(sheet, text, room, Back::LeadingZero))),
@@ -341,7 +459,7 @@ fn same_minute_solve(net: &Net) -> Option<Vec<u16>> {
     loop {
         let before = minutes.clone();
         for s in 0..net.cases() {
-            net.rules.iter().filter(|rule| model::agrees(rule, s)).for_each(|rule| sweep_rule(net, &mut minutes, s, rule));
+            net.rules.iter().filter(|rule| net.covers(rule, s)).for_each(|rule| sweep_rule(net, &mut minutes, s, rule));
             (0..net.cases()).filter(|&r| r != s).for_each(|r| sweep_case(net, &mut minutes, s, r));
         }
         let over = |cell: usize| minutes[cell] > if cell % net.events.len() == 0 { 0 } else { net.horizon };
@@ -561,7 +679,7 @@ fn rules_from_1(net: &Net, table: &[u16]) -> Verdict {
 fn rule_before_case(net: &Net, table: &[u16]) -> Verdict {
     let Verdict::Rule { .. } = model::judge(net, table) else { return model::judge(net, table) };
     let broken = |case: usize, rule: &Rule| {
-        model::agrees(rule, case) && !model::holds(rule, table[net.cell(case, rule.from)], table[net.cell(case, rule.to)])
+        net.covers(rule, case) && !model::holds(rule, table[net.cell(case, rule.from)], table[net.cell(case, rule.to)])
     };
     let pairs = (0..net.rules.len()).flat_map(|rule| (0..net.cases()).map(move |case| (case, rule)));
     let (case, rule) = pairs.into_iter().find(|&(case, rule)| broken(case, &net.rules[rule])).unwrap();
@@ -699,7 +817,8 @@ fn with_player(asked: Question, player: Player) -> u64 {
         };
         let fitting = (0..net.cases()).find(|&case| (player.fits)(&history(case), &list)).ok_or(16)?;
         let case = (player.answers)(fitting, net.cases());
-        let due = |event: &usize| (player.due)(table[net.cell(case, *event)], asked.minute);
+        let at = |event: usize| table[net.cell(case, event)];
+        let due = |event: &usize| net.happens(case, *event) && (player.due)(at(*event), asked.minute);
         Ok((0..net.events.len()).filter(due).map(|event| 1 << event).sum())
     })
 }
@@ -803,153 +922,14 @@ fn written_where_17(sheet: &[u8], out: &mut [u8]) -> u64 {
     answer
 }
 
-// ---------------------------------------------------------------- Wrong readers of reactions
-
-/// What is wrong with a reader of reactions.
-#[derive(Clone, Copy, PartialEq)]
-enum Slip {
-    None,
-    ZeroAccepted,
-    SixtyRefused,
-    SixtyOneAccepted,
-    MinutesOfAByte,
-    FirstLineCounts,
-    LastLineCounts,
-    SevenForEight,
-    SixBeforeFive,
-    SevenBeforeFive,
-    FirstByteIsLetter,
-    UndefinedIgnored,
-    ThirdFieldIgnored,
-    FiveLines,
-    AsManyAsSignals,
-    NoLinesRefused,
-    TenBehindRules,
-    LoneFeedAccepted,
-    LoneFeedIsTen,
-    EndNotAsked,
-    FeedBehindAccepted,
-    TwoBehind,
-    TenALineBefore,
-    TwiceAccepted,
-}
+// ---------------------------------------------------------------- Wrong readers of reactions and labels
 
 /// The right judge, with another reader.
 fn read_by(sheet: &[u8], table: &[u8], slip: Slip) -> u64 {
-    match read_with(sheet, slip) {
+    match sections::read_with(sheet, slip) {
         Err(refusal) => refused(refusal),
         Ok(net) if table.len() == 2 * net.cells() => verdict(model::judge(&net, &minutes_of(table))),
         Ok(_) => refused_call(11),
-    }
-}
-
-/// A sheet read the other way without a slip, so that it is the slip that is noticed.
-pub fn read_again(sheet: &[u8]) -> Result<Net, Refusal> {
-    read_with(sheet, Slip::None)
-}
-
-/// Where the rules of a sheet end, and what it says up to there; nothing where a line before that is at fault.
-fn up_to_reactions(sheet: &[u8]) -> Option<(usize, Net)> {
-    let ends = (1..=sheet.len()).filter(|&end| sheet[end - 1] == b'\n' && sheet.len() <= model::SHEET_MOST);
-    ends.filter_map(|end| model::read(&sheet[..end]).ok().map(|net| (end, net))).next()
-}
-
-/// The section of reactions read another way than the model's, with one slip or none: by lines that are cut before.
-fn read_with(sheet: &[u8], slip: Slip) -> Result<Net, Refusal> {
-    let Some((end, mut net)) = up_to_reactions(sheet) else { return model::read(sheet) };
-    let lines: Vec<&[u8]> = sheet[end..].split_inclusive(|&byte| byte == b'\n').collect();
-    let lines_before = sheet[..end].iter().filter(|&&byte| byte == b'\n').count();
-    let refuse = |number: u8, place: usize| Err(Refusal { number, line: lines_before + 1 + place });
-    match (&lines[..], slip) {
-        ([], _) | ([b"\n"], Slip::LoneFeedAccepted) => return Ok(net),
-        (_, Slip::TenBehindRules) | ([b"\n"], Slip::LoneFeedIsTen) => return refuse(10, 0),
-        _ => {}
-    }
-    let count = match count_line(lines[0], &net, slip) {
-        Err(number) => return refuse(number, 0),
-        Ok(count) => count as usize,
-    };
-    let mut seen: Vec<u8> = vec![];
-    for place in 1..=count {
-        match reaction_line(lines.get(place).copied().unwrap_or(b""), &net, &seen, slip) {
-            Err(number) => return refuse(number, place),
-            Ok((letter, minutes)) => {
-                let counts = slip != Slip::FirstLineCounts || !seen.contains(&letter);
-                let signals = net.signals.iter_mut().filter(|signal| counts && signal.letter == letter);
-                signals.for_each(|signal| signal.reaction = minutes);
-                seen.push(letter);
-            }
-        }
-    }
-    match (&lines[(count + 1).min(lines.len())..], slip) {
-        ([], _) | (_, Slip::EndNotAsked) | ([b"\n"], Slip::FeedBehindAccepted) => Ok(net),
-        ([next, ..], Slip::TwiceAccepted) if next.starts_with(b"reactions,") => Ok(net),
-        ([next, ..], Slip::TwoBehind) if !next.ends_with(b"\n") => refuse(2, count + 1),
-        (_, Slip::TenALineBefore) => refuse(10, count),
-        _ => refuse(10, count + 1),
-    }
-}
-
-/// A line without its line feed, cut at its commas; or 2.
-fn cut(line: &[u8]) -> Result<Vec<&[u8]>, u8> {
-    line.strip_suffix(b"\n").map(|line| line.split(|&byte| byte == b',').collect()).ok_or(2)
-}
-
-/// 4 for what is no number, 5 for one beyond its range.
-fn small_number(field: &[u8], range: RangeInclusive<i64>) -> Result<i64, u8> {
-    let text = String::from_utf8_lossy(field);
-    let digits = text.strip_prefix('-').unwrap_or(&text);
-    let whole = !digits.is_empty() && !digits.starts_with('0') && digits.bytes().all(|byte| byte.is_ascii_digit());
-    if whole || text == "0" { text.parse().ok().filter(|number| range.contains(number)).ok_or(5) } else { Err(4) }
-}
-
-fn count_line(line: &[u8], net: &Net, slip: Slip) -> Result<i64, u8> {
-    let most = match slip {
-        Slip::FiveLines => 5,
-        Slip::AsManyAsSignals => net.signals.len() as i64,
-        _ => 4,
-    };
-    match cut(line)?[..] {
-        [b"reactions", count] => small_number(count, i64::from(slip == Slip::NoLinesRefused)..=most),
-        _ => Err(3),
-    }
-}
-
-/// The letter and its minutes; these letters have a line already.
-fn reaction_line(line: &[u8], net: &Net, seen: &[u8], slip: Slip) -> Result<(u8, i64), u8> {
-    let fields = cut(line)?;
-    if fields.len() != 2 && (slip != Slip::ThirdFieldIgnored || fields.len() != 3) {
-        return Err(3);
-    }
-    let minutes = match slip {
-        Slip::ZeroAccepted => small_number(fields[1], 0..=60),
-        Slip::SixtyRefused => small_number(fields[1], 1..=59),
-        Slip::SixtyOneAccepted => small_number(fields[1], 1..=61),
-        Slip::MinutesOfAByte => match small_number(fields[1], 1..=65_535).map(|minutes| minutes % 256) {
-            Ok(0 | 61..) => Err(5),
-            minutes => minutes,
-        },
-        _ => small_number(fields[1], 1..=60),
-    };
-    let letter = match fields[0] {
-        [letter @ b'a'..=b'z'] => Ok(*letter),
-        [letter @ b'a'..=b'z', ..] if slip == Slip::FirstByteIsLetter => Ok(*letter),
-        _ => Err(6),
-    };
-    let twice = letter.is_ok_and(|letter| seen.contains(&letter));
-    match (minutes, letter) {
-        (Err(5), Err(6)) if slip == Slip::SixBeforeFive => Err(6),
-        (Err(5), _) if twice && slip == Slip::SevenBeforeFive => Err(7),
-        (Err(number), _) | (_, Err(number)) => Err(number),
-        (Ok(minutes), Ok(letter)) if twice => match slip {
-            Slip::FirstLineCounts | Slip::LastLineCounts => Ok((letter, minutes)),
-            slip => Err(if slip == Slip::SevenForEight { 8 } else { 7 }),
-        },
-        (Ok(minutes), Ok(letter)) => match net.signals.iter().any(|signal| signal.letter == letter) {
-            false if slip == Slip::SevenForEight => Err(7),
-            false if slip != Slip::UndefinedIgnored => Err(8),
-            _ => Ok((letter, minutes)),
-        },
     }
 }
 
@@ -1002,10 +982,13 @@ fn with_reactions(asked: Question, mistake: Mistake) -> u64 {
 fn by_place(sheet: &[u8]) -> Vec<u8> {
     let (Some((end, _)), Ok(net)) = (up_to_reactions(sheet), model::read(sheet)) else { return sheet.to_vec() };
     let mut text = sheet[..end].to_vec();
-    for (place, line) in sheet[end..].split_inclusive(|&byte| byte == b'\n').enumerate() {
-        match place.checked_sub(1) {
-            None => text.extend(line),
-            Some(place) => text.extend([&[net.signals[place].letter], &line[1..]].concat()),
+    let mut letters = net.signals.iter().map(|signal| signal.letter);
+    for line in sheet[end..].split_inclusive(|&byte| byte == b'\n') {
+        match line {
+            [_, b',', minutes @ ..] if minutes[0].is_ascii_digit() => {
+                text.extend([&[letters.next().expect("a signal")], &line[1..]].concat())
+            }
+            _ => text.extend(line),
         }
     }
     text
@@ -1028,6 +1011,148 @@ fn without_reactions(mut form: Vec<u8>) -> Vec<u8> {
 fn room_without_reactions(sheet: &[u8], out: &mut [u8]) -> u64 {
     match model::house(sheet) {
         Ok(form) if (without_reactions(form.clone()).len()..form.len()).contains(&out.len()) => {
+            let length = out.len();
+            out.copy_from_slice(&form[..length]);
+            two_bytes(form.len() as u16)
+        }
+        _ => own::house(sheet, out),
+    }
+}
+
+// ---------------------------------------------------------------- Labels mistaken
+
+/// The right judge's calls, with a judge of `labels.rs`.
+fn judged_as(sheet: &[u8], table: &[u8], slip: Absent) -> u64 {
+    with_judge(sheet, table, |net, table| labels::judge(net, table, slip))
+}
+
+/// The right solver's calls, with a solver of `leaps.rs`.
+fn solved_as(sheet: &[u8], table: &mut [u8], slip: Solved) -> u64 {
+    with_solver(sheet, table, |net| leaps::table_with(net, slip))
+}
+
+fn labels_ignored(net: &Net) -> Option<Vec<u16>> {
+    model::solve(&without_labels(net))
+}
+
+fn unlabelled_only(net: &Net) -> Option<Vec<u16>> {
+    model::solve(net).filter(|_| !net.is_labelled())
+}
+
+fn without_labels(net: &Net) -> Net {
+    Net { labels: vec![vec![]; net.events.len()], ..net.clone() }
+}
+
+/// A table for events that all happen, in which some are then blank.
+fn blanked_at_the_end(net: &Net) -> Option<Vec<u16>> {
+    let all = model::solve(&without_labels(net))?;
+    Some(model::with_blanks(net, &all.iter().map(|&minute| i64::from(minute)).collect::<Vec<i64>>()))
+}
+
+/// Another number in the cells without their event.
+fn blanks_as(net: &Net, number: u16) -> Option<Vec<u16>> {
+    model::solve(net).map(|good| good.iter().map(|&minute| if minute == BLANK { number } else { minute }).collect())
+}
+
+fn blanks_as_horizon(net: &Net) -> Option<Vec<u16>> {
+    blanks_as(net, net.horizon as u16)
+}
+
+/// An event is taken to happen where the first letter of its label holds.
+fn first_letter(net: &Net) -> Option<Vec<u16>> {
+    let single = |label: &Label| label.iter().copied().take(1).collect();
+    leaps::table_with(&Net { labels: net.labels.iter().map(single).collect(), ..net.clone() }, Solved::None)
+}
+
+/// The right judge, and a player of another network and table.
+fn with_absent(asked: Question, change: fn(&Net, &[u16]) -> (Net, Vec<u16>)) -> u64 {
+    played_by(asked, |net, table, list| {
+        let (net, table) = change(net, table);
+        model::due(&net, &table, asked.minute, &list)
+    })
+}
+
+/// Every event is taken to happen, so that a blank is minute 65,535.
+fn every_event(net: &Net, table: &[u16]) -> (Net, Vec<u16>) {
+    (without_labels(net), table.to_vec())
+}
+
+/// Every signal is taken to be given, at minute 0 where its event is blank.
+fn blanks_at_0(net: &Net, table: &[u16]) -> (Net, Vec<u16>) {
+    let mut given = net.clone();
+    net.signals.iter().for_each(|signal| given.labels[signal.event].clear());
+    let gives = |cell: usize| net.signals.iter().any(|signal| signal.event == cell % net.events.len());
+    let minute = |cell: usize| if table[cell] == BLANK && gives(cell) { 0 } else { table[cell] };
+    (given, (0..table.len()).map(minute).collect())
+}
+
+/// What is not given in the first case that agrees with the list is taken for false, and heard.
+fn absent_signal_is_false(asked: Question) -> u64 {
+    played_by(asked, |net, table, mut list| {
+        let right = model::due(net, table, asked.minute, &list);
+        let place = |letter: u8| net.signals.iter().position(|signal| signal.letter == letter);
+        let agrees = |case: &usize| list.iter().all(|told| place(told.0).is_some_and(|p| truth(*case, p) == told.1));
+        let Some(case) = (0..net.cases()).find(agrees).filter(|_| right == Err(16)) else { return right };
+        list.retain(|told| told.1 || place(told.0).is_some_and(|p| net.gives(case, p)));
+        model::due(net, table, asked.minute, &list)
+    })
+}
+
+/// 14 for every sheet with a labelled event.
+fn unplayed(asked: Question) -> u64 {
+    match handed(asked.sheet, asked.table) {
+        Ok((net, _)) if net.is_labelled() => 14,
+        _ => own::due(asked),
+    }
+}
+
+/// A listing with other words for a blank, by network, case and event.
+fn listed_as(sheet: &[u8], table: &[u8], out: &mut [u8], word: fn(&Net, usize, usize) -> &'static str) -> u64 {
+    let text = handed(sheet, table).map(|(net, minutes)| {
+        let text = String::from_utf8(model::listing(sheet, &net, &minutes)).expect("a listing is ASCII");
+        let mut rows: Vec<Vec<&str>> = text.lines().map(|line| line.split(',').collect()).collect();
+        for (case, row) in rows[1..].iter_mut().enumerate() {
+            let fields = row[1..].iter_mut().enumerate();
+            fields.for_each(|(event, field)| if *field == "-" { *field = word(&net, case, event) });
+        }
+        rows.iter().map(|row| row.join(",") + "\n").collect::<String>().into_bytes()
+    });
+    write_text(text, out)
+}
+
+fn dash_where_absent(net: &Net, case: usize, event: usize) -> &'static str {
+    if net.happens(case, event) { "65535" } else { "-" }
+}
+
+fn dash_in_labelled(net: &Net, _: usize, event: usize) -> &'static str {
+    if net.labels[event].is_empty() { "65535" } else { "-" }
+}
+
+/// 11 for a table with a blank.
+fn refused_over_blanks(sheet: &[u8], table: &[u8], out: &mut [u8]) -> u64 {
+    own::listing(sheet, if minutes_of(table).contains(&BLANK) { &[] } else { table }, out)
+}
+
+/// A cell without its event is printed as blank, whatever it holds.
+fn dash_where_filled(sheet: &[u8], table: &[u8], out: &mut [u8]) -> u64 {
+    let blanked = |(net, minutes): (Net, Vec<u16>)| {
+        let minutes: Vec<i64> = minutes.into_iter().map(i64::from).collect();
+        model::listing(sheet, &net, &model::with_blanks(&net, &minutes))
+    };
+    write_text(handed(sheet, table).map(blanked), out)
+}
+
+/// A form without its lines of labels.
+fn without_label_lines(form: Vec<u8>) -> Vec<u8> {
+    let lines: Vec<&[u8]> = form.split_inclusive(|&byte| byte == b'\n').collect();
+    let heading = lines.iter().rposition(|line| line.starts_with(b"cases,"));
+    lines[..heading.unwrap_or(lines.len())].concat()
+}
+
+/// A writer that asks for as much room as the sections before the labels take.
+fn room_without_labels(sheet: &[u8], out: &mut [u8]) -> u64 {
+    match model::house(sheet) {
+        Ok(form) if (without_label_lines(form.clone()).len()..form.len()).contains(&out.len()) => {
             let length = out.len();
             out.copy_from_slice(&form[..length]);
             two_bytes(form.len() as u16)

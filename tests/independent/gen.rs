@@ -3,11 +3,11 @@
 //! `sheet` makes valid and damaged sheets of all sizes, `tiny_sheet` those that the search of `model.rs` can finish,
 //! and `table` the bytes of a table for a sheet that was accepted. `table_sheet` has the longest listings among its
 //! sheets; `house_sheet` makes sheets whose house forms are worth a look, `retyped` types the procedure of an
-//! accepted sheet another way, and `slowed` makes a procedure of it that differs in one reaction only. `minute` and
-//! `heard` make questions to the player of a table. `listing` makes listings to be read back, printed and damaged, and
-//! `files` a sheet and a listing for the program `judge`.
+//! accepted sheet another way, and `slowed` and `relabelled` make a procedure of it that differs in one reaction or in
+//! one event's label only. `minute` and `heard` make questions to the player of a table. `listing` makes listings to be
+//! read back, printed and damaged, and `files` a sheet and a listing for the program `judge`.
 
-use crate::model::{self, Files, Kind, Net, Verdict};
+use crate::model::{self, Files, Kind, Label, Net, Verdict, BLANK};
 use std::collections::BTreeSet;
 
 // ---------------------------------------------------------------- Chance
@@ -71,7 +71,7 @@ pub struct DraftRule {
     pub from: usize,
     pub to: usize,
     pub limit: i64,
-    pub label: Vec<(usize, bool)>,
+    pub label: Label,
 }
 
 pub struct Draft {
@@ -79,8 +79,12 @@ pub struct Draft {
     pub events: Vec<String>,
     pub signals: Vec<(u8, usize)>,
     pub rules: Vec<DraftRule>,
-    /// The lines of the last section, each a signal and its minutes, in any order; or no section.
+    /// The lines of the section of reactions, each a signal and its minutes, in any order; or no section.
     pub reactions: Option<Vec<(usize, i64)>>,
+    /// The label of each event.
+    pub labels: Vec<Label>,
+    /// The events that have a line in the last section, in any order, all those with a label among them; or no section.
+    pub cases: Option<Vec<usize>>,
 }
 
 /// What a line is for.
@@ -91,12 +95,16 @@ enum Place {
     Signal,
     Rule,
     Reaction,
+    Label,
 }
+
+/// A line's place and its fields.
+type Line = (Place, Vec<Vec<u8>>);
 
 /// A sheet cut into lines and fields, so that it can be damaged with aim.
 #[derive(Clone)]
 struct Paper {
-    lines: Vec<(Place, Vec<Vec<u8>>)>,
+    lines: Vec<Line>,
 }
 
 impl Paper {
@@ -135,13 +143,45 @@ impl Draft {
             let (from, to) = (&self.events[rule.from], &self.events[rule.to]);
             paper.put(Place::Rule, &[rule.kind, from, to, &rule.limit.to_string(), &self.label_text(&rule.label)]);
         }
-        if let Some(lines) = &self.reactions {
+        if self.reactions.is_some() || self.cases.is_some() {
+            let lines = self.reactions.as_deref().unwrap_or_default();
             paper.put(Place::Section, &["reactions", &lines.len().to_string()]);
             for &(signal, minutes) in lines {
                 paper.put(Place::Reaction, &[&self.letter_text(signal), &minutes.to_string()]);
             }
         }
+        if let Some(events) = &self.cases {
+            paper.put(Place::Section, &["cases", &events.len().to_string()]);
+            for &event in events {
+                paper.put(Place::Label, &[&self.events[event], &self.label_text(&self.labels[event])]);
+            }
+        }
         paper
+    }
+
+    fn happens(&self, case: usize, event: usize) -> bool {
+        model::holds_in(&self.labels[event], case)
+    }
+
+    /// A label with what the labels of the events ask whose signals it uses; a letter that would contradict those
+    /// before it is left out, with what it needs.
+    pub fn completed(&self, label: &[(usize, bool)]) -> Label {
+        label.iter().fold(vec![], |whole, &letter| self.with_letter(&whole, letter).unwrap_or(whole))
+    }
+
+    /// A label with a letter more and all that this one needs, or nothing if that contradicts it.
+    fn with_letter(&self, label: &[(usize, bool)], letter: (usize, bool)) -> Option<Label> {
+        let (mut whole, mut needed) = (label.to_vec(), vec![letter]);
+        while let Some((signal, truth)) = needed.pop() {
+            if whole.contains(&(signal, !truth)) {
+                return None;
+            }
+            if !whole.contains(&(signal, truth)) {
+                whole.push((signal, truth));
+                needed.extend(self.labels[self.signals[signal].1].iter().copied());
+            }
+        }
+        Some(whole)
     }
 
     fn letter_text(&self, signal: usize) -> String {
@@ -224,21 +264,78 @@ fn names(rng: &mut Rng, count: usize) -> Vec<String> {
     names
 }
 
-pub fn label(rng: &mut Rng, signals: usize) -> Vec<(usize, bool)> {
-    if signals == 0 || rng.chance(25) {
-        return vec![];
-    }
-    let letters = if rng.chance(60) { 1 } else { rng.between(1, signals as i64) as usize };
-    rng.different(letters, signals).into_iter().map(|signal| (signal, rng.chance(50))).collect()
+pub fn any_label(rng: &mut Rng, signals: usize) -> Label {
+    if signals == 0 || rng.chance(25) { vec![] } else { some_letters(rng, &(0..signals).collect::<Vec<usize>>()) }
 }
 
-/// A draft without rules.
+/// One of these signals or more, each with a truth.
+fn some_letters(rng: &mut Rng, signals: &[usize]) -> Label {
+    let letters = if rng.chance(60) { 1 } else { rng.between(1, signals.len() as i64) as usize };
+    let places = rng.different(letters, signals.len());
+    places.into_iter().map(|place| (signals[place], rng.chance(50))).collect()
+}
+
+/// A label that a rule of this draft may have.
+fn label(rng: &mut Rng, draft: &Draft) -> Label {
+    let label = draft.completed(&any_label(rng, draft.signals.len()));
+    rng.shuffled(&label)
+}
+
+/// A draft without rules; about half of those with signals have labelled events.
 pub fn bare(rng: &mut Rng, size: &Size, horizon: i64) -> Draft {
+    let mut draft = unlabelled(rng, size, horizon);
+    let percent = if rng.chance(40) { 0 } else { rng.pick(&[20, 40, 70]) };
+    label_events(rng, &mut draft, percent);
+    draft
+}
+
+/// A draft without rules and without labelled events.
+pub fn unlabelled(rng: &mut Rng, size: &Size, horizon: i64) -> Draft {
     let letters = rng.different(size.signals, 26);
     let givers = rng.different(size.signals, size.events);
     let signals = letters.into_iter().zip(givers).map(|(letter, event)| (b'a' + letter as u8, event)).collect();
     let reactions = reactions(rng, size.signals, horizon);
-    Draft { horizon, events: names(rng, size.events), signals, rules: vec![], reactions }
+    let labels = vec![vec![]; size.events];
+    Draft { horizon, events: names(rng, size.events), signals, rules: vec![], reactions, labels, cases: None }
+}
+
+/// Labels some of the events, and draws the last section. A giver's label has only signals whose givers have theirs
+/// already, so that no event waits for itself, but for a few drafts in which some do.
+pub fn label_events(rng: &mut Rng, draft: &mut Draft, percent: usize) {
+    let order = rng.different(draft.signals.len(), draft.signals.len());
+    let ringed = rng.chance(8);
+    for (place, &signal) in order.iter().enumerate() {
+        let known = if ringed { &order[..] } else { &order[..place] };
+        label_event(rng, draft, draft.signals[signal].1, known, if percent == 0 { 0 } else { percent.max(50) });
+    }
+    for event in 1..draft.events.len() {
+        if draft.signals.iter().all(|signal| signal.1 != event) {
+            label_event(rng, draft, event, &order, percent);
+        }
+    }
+    if ringed {
+        complete_rings(draft);
+    }
+    draft.labels.iter_mut().for_each(|label| *label = rng.shuffled(label));
+    draft.cases = cases_anew(rng, draft);
+}
+
+fn label_event(rng: &mut Rng, draft: &mut Draft, event: usize, signals: &[usize], percent: usize) {
+    if event != 0 && !signals.is_empty() && rng.chance(percent) {
+        let letters = some_letters(rng, signals);
+        draft.labels[event] = draft.completed(&letters);
+    }
+}
+
+/// Completes labels that use one another's signals; where they contradict each other there are none.
+fn complete_rings(draft: &mut Draft) {
+    for _ in 0..=draft.signals.len() {
+        let completed = draft.labels.iter().map(|label| draft.completed(label)).collect();
+        draft.labels = completed;
+    }
+    if draft.labels.iter().any(|label| draft.completed(label).len() != label.len()) {
+        draft.labels.iter_mut().for_each(Vec::clear);
+    }
 }
 
 /// No section, or one with lines for some of the signals, in any order.
@@ -293,7 +390,7 @@ fn pushing_rule(rng: &mut Rng, draft: &Draft) -> DraftRule {
     let (first, then) = if rng.chance(97) { (one.min(two), one.max(two)) } else { (one, two) };
     let step = (3 * draft.horizon / (events as i64 + 2)).max(1);
     let wait = if first == then { -rng.between(0, 3) } else { rng.between(0, step.min(draft.horizon)) };
-    let label = label(rng, draft.signals.len());
+    let label = label(rng, draft);
     if rng.chance(60) {
         DraftRule { kind: "min", from: first, to: then, limit: wait, label }
     } else {
@@ -307,7 +404,7 @@ fn branching_rule(rng: &mut Rng, draft: &Draft) -> DraftRule {
     let from = if rng.chance(70) { draft.signals[signal].1 } else { 0 };
     let to = if rng.chance(90) { draft.events.len() - 1 - rng.below(draft.events.len().div_ceil(2)) } else { from };
     let wait = if from == to { 0 } else { rng.between(1, (draft.horizon / 3).max(3)) };
-    DraftRule { kind: "min", from, to, limit: wait, label: vec![(signal, rng.chance(50))] }
+    DraftRule { kind: "min", from, to, limit: wait, label: draft.completed(&[(signal, rng.chance(50))]) }
 }
 
 /// A rule with a limit near to what the table has in the cases of its label; `tight` counts those that may ask for more.
@@ -315,7 +412,7 @@ fn close_rule(rng: &mut Rng, draft: &Draft, table: &[u16], tight: &mut usize) ->
     let events = draft.events.len();
     let from = rng.below(events);
     let to = if rng.chance(8) { from } else { rng.below(events) };
-    let label = label(rng, draft.signals.len());
+    let label = label(rng, draft);
     let (least, most) = differences(draft, table, from, to, &label);
     let mut slack = rng.pick(&[0, 0, 0, 1, 2, 30]);
     if *tight > 0 && rng.chance(50) {
@@ -331,13 +428,15 @@ fn close_rule(rng: &mut Rng, draft: &Draft, table: &[u16], tight: &mut usize) ->
     DraftRule { kind, from, to, limit: limit.clamp(-10_080, 10_080), label }
 }
 
-/// The least and the greatest minute(to) - minute(from) over the cases that agree with the label.
+/// The least and the greatest minute(to) - minute(from) over the cases that a rule with the label covers; 0 if it
+/// covers none.
 fn differences(draft: &Draft, table: &[u16], from: usize, to: usize, label: &[(usize, bool)]) -> (i64, i64) {
-    let agrees = |case: &usize| label.iter().all(|&(signal, asked)| model::truth(*case, signal) == asked);
+    let both = |case: usize| draft.happens(case, from) && draft.happens(case, to);
+    let covers = |case: &usize| model::holds_in(label, *case) && both(*case);
     let row = |case: usize| &table[case * draft.events.len()..];
     let difference = |case: usize| i64::from(row(case)[to]) - i64::from(row(case)[from]);
-    let all: Vec<i64> = (0..1 << draft.signals.len()).filter(agrees).map(difference).collect();
-    (*all.iter().min().unwrap(), *all.iter().max().unwrap())
+    let all: Vec<i64> = (0..1 << draft.signals.len()).filter(covers).map(difference).collect();
+    (all.iter().min().copied().unwrap_or(0), all.iter().max().copied().unwrap_or(0))
 }
 
 /// A rule from anywhere to anywhere, with limits at both ends and around 0 among them.
@@ -349,7 +448,7 @@ fn any_rule(rng: &mut Rng, draft: &Draft) -> DraftRule {
         _ => rng.between(-draft.horizon, draft.horizon),
     };
     let (kind, from, to) = (rng.pick(&["max", "min", "fix"]), rng.below(events), rng.below(events));
-    DraftRule { kind, from, to, limit, label: label(rng, draft.signals.len()) }
+    DraftRule { kind, from, to, limit, label: label(rng, draft) }
 }
 
 /// Moves rules about, and writes one over another at times: "Rules may repeat."
@@ -373,8 +472,8 @@ fn valid(rng: &mut Rng) -> Paper {
 pub fn sheet(rng: &mut Rng) -> Vec<u8> {
     let paper = valid(rng);
     match rng.below(100) {
-        0..=54 => paper.bytes(),
-        55..=65 => damaged_at_its_end(rng, paper),
+        0..=51 => paper.bytes(),
+        52..=68 => damaged_at_its_end(rng, paper),
         _ => damaged(rng, paper),
     }
 }
@@ -391,10 +490,13 @@ pub fn text_sheet(rng: &mut Rng) -> Vec<u8> {
 
 /// 16 events with names of 8 bytes, 4 signals, and minutes of five digits everywhere but at the start.
 fn broad(rng: &mut Rng) -> Draft {
-    let mut draft = bare(rng, &Size { events: 16, signals: 4, rules: 30 }, 10_080);
+    let mut draft = unlabelled(rng, &Size { events: 16, signals: 4, rules: 30 }, 10_080);
     draft.events = long_names(rng, 16);
+    if rng.chance(20) {
+        label_events(rng, &mut draft, 30);
+    }
     for to in 1..16 {
-        for (least, label) in [(10_000, vec![]), (10_040, label(rng, 4))] {
+        for (least, label) in [(10_000, vec![]), (10_040, label(rng, &draft))] {
             draft.rules.push(DraftRule { kind: "min", from: 0, to, limit: least + rng.between(0, 40), label });
         }
     }
@@ -492,7 +594,9 @@ fn brimming(rng: &mut Rng) -> Draft {
         let mut rule = house_rule(rng, &draft);
         if long {
             rule.limit = -rng.between(1_000, 10_080);
-            rule.label = rng.different(signals, signals).into_iter().map(|signal| (signal, rng.chance(10))).collect();
+            let order = rng.different(signals, signals);
+            let letters: Label = order.into_iter().map(|signal| (signal, rng.chance(10))).collect();
+            rule.label = draft.completed(&letters);
         }
         if left.insert(place(&rule)) {
             rule.kind = if rule.from == rule.to && rng.chance(50) { "fix" } else { "max" };
@@ -516,7 +620,7 @@ fn long_names(rng: &mut Rng, count: usize) -> Vec<String> {
 fn house_rule(rng: &mut Rng, draft: &Draft) -> DraftRule {
     let from = rng.below(draft.events.len());
     let to = if rng.chance(10) { from } else { rng.below(draft.events.len()) };
-    DraftRule { kind: "max", from, to, limit: house_limit(rng), label: label(rng, draft.signals.len()) }
+    DraftRule { kind: "max", from, to, limit: house_limit(rng), label: label(rng, draft) }
 }
 
 /// Both ends, around 0, and between.
@@ -567,6 +671,24 @@ pub fn slowed(rng: &mut Rng, sheet: &[u8], net: &Net) -> Vec<u8> {
     draft.bytes()
 }
 
+/// The same with another label of one event: another procedure, with another house form. Nothing where a few trials
+/// find no other label with which the sheet is accepted.
+pub fn relabelled(rng: &mut Rng, sheet: &[u8], net: &Net) -> Option<Vec<u8>> {
+    let sorted = |label: &Label| label.iter().copied().collect::<BTreeSet<(usize, bool)>>();
+    for _ in 0..if net.events.len() > 1 { 20 } else { 0 } {
+        let mut draft = drafted_from(sheet, net);
+        let event = 1 + rng.below(net.events.len() - 1);
+        draft.labels[event] = label(rng, &draft);
+        draft.cases = cases_anew(rng, &draft);
+        type_anew(rng, &mut draft);
+        let bytes = draft.bytes();
+        if sorted(&draft.labels[event]) != sorted(&net.labels[event]) && model::read(&bytes).is_ok() {
+            return Some(bytes);
+        }
+    }
+    None
+}
+
 /// What an accepted sheet says, with a line for the reaction of each signal.
 fn drafted_from(sheet: &[u8], net: &Net) -> Draft {
     let name = |event: &std::ops::Range<usize>| String::from_utf8(sheet[event.clone()].to_vec()).expect("a name");
@@ -584,12 +706,16 @@ fn drafted_from(sheet: &[u8], net: &Net) -> Draft {
         signals: net.signals.iter().map(|signal| (signal.letter, signal.event)).collect(),
         rules: net.rules.iter().map(rule).collect(),
         reactions: Some(net.signals.iter().map(|signal| signal.reaction).enumerate().collect()),
+        labels: net.labels.clone(),
+        cases: Some((0..net.events.len()).collect()),
     }
 }
 
-/// Types the rules and the reactions of a draft another way; what they ask stays the same.
+/// Types the rules, the reactions and the labels of a draft another way; what they ask stays the same.
 fn type_anew(rng: &mut Rng, draft: &mut Draft) {
     draft.reactions = reactions_anew(rng, draft);
+    draft.labels.iter_mut().for_each(|label| *label = rng.shuffled(label));
+    draft.cases = cases_anew(rng, draft);
     let rules = &mut draft.rules;
     split_some(rng, rules);
     join_some(rng, rules);
@@ -609,6 +735,16 @@ fn reactions_anew(rng: &mut Rng, draft: &Draft) -> Option<Vec<(usize, i64)>> {
     let all = (0..draft.signals.len()).map(|signal| (signal, draft.reaction(signal)));
     let lines: Vec<(usize, i64)> = all.filter(|line| line.1 != 1 || rng.chance(percent)).collect();
     if lines.is_empty() && rng.chance(50) { None } else { Some(rng.shuffled(&lines)) }
+}
+
+/// The events with a label in any order, the others with a line or without; where no line is left, an empty section or
+/// most often none.
+fn cases_anew(rng: &mut Rng, draft: &Draft) -> Option<Vec<usize>> {
+    let percent = rng.pick(&[0, 0, 10, 50, 100]);
+    let labelled = draft.labels.iter().any(|label| !label.is_empty());
+    let listed = |event: &usize| !draft.labels[*event].is_empty() || rng.chance(percent);
+    let lines: Vec<usize> = (0..draft.events.len()).filter(listed).collect();
+    if !labelled && rng.chance(80) { None } else { Some(rng.shuffled(&lines)) }
 }
 
 /// `max` and `min` for some of the `fix` rules, as long as there is room.
@@ -680,11 +816,18 @@ fn damaged(rng: &mut Rng, mut paper: Paper) -> Vec<u8> {
     bytes
 }
 
-/// A sheet with something done to its reactions, or behind its last line, and nothing else.
+/// A sheet with something done to its reactions or its labels, or behind its last line, and nothing else.
 fn damaged_at_its_end(rng: &mut Rng, mut paper: Paper) -> Vec<u8> {
-    if rng.chance(75) {
-        damage_reactions(rng, &mut paper);
-        return paper.bytes();
+    match rng.below(10) {
+        0..=2 => {
+            damage_reactions(rng, &mut paper);
+            return paper.bytes();
+        }
+        3..=7 => {
+            damage_labels(rng, &mut paper);
+            return paper.bytes();
+        }
+        _ => {}
     }
     let mut bytes = paper.bytes();
     match rng.below(5) {
@@ -706,7 +849,8 @@ fn damage_fields(rng: &mut Rng, paper: &mut Paper) {
         13 => move_lines(rng, paper),
         14 => if rng.chance(50) { change_field_count(rng, paper) } else { empty_field(rng, paper) },
         15 => damage_one_rule_twice(rng, paper),
-        _ => damage_reactions(rng, paper),
+        16 => damage_reactions(rng, paper),
+        _ => damage_labels(rng, paper),
     }
 }
 
@@ -722,10 +866,11 @@ fn put(rng: &mut Rng, paper: &mut Paper, place: Place, field: usize, text: Vec<u
 }
 
 fn odd_number(rng: &mut Rng) -> Vec<u8> {
-    const NUMBERS: [&str; 32] = [
-        "010", "-0", "+5", "-", "", "18446744073709551621", "18446744073709551616", "4294967301", "65541", "10081", "-10081", "10080",
-        "-10080", "00", "0", "-1", "--1", "1-", "1.0", " 1", "1 ", "1e3", "0x1", "5\r", "-010", "16", "17", "4", "5", "64", "65",
-        "99999",
+    const NUMBERS: [&str; 36] = [
+        "010", "-0", "-0", "-0", "+5", "-", "", "18446744073709551621", "18446744073709551621",
+        "18446744073709551621", "18446744073709551616", "4294967301", "65541", "10081", "-10081", "10080", "-10080",
+        "00", "0", "-1", "--1", "1-", "1.0", " 1", "1 ", "1e3", "0x1", "5\r", "-010", "16", "17", "4", "5", "64",
+        "65", "99999",
     ];
     match rng.below(10) {
         0 => [if rng.chance(50) { "-" } else { "" }, &"7".repeat(rng.between(3_000, 4_000) as usize)].concat().into_bytes(),
@@ -759,6 +904,7 @@ fn put_count(paper: &mut Paper, place: Place, count: i64) {
         Place::Name => b"events",
         Place::Signal => b"signals",
         Place::Reaction => b"reactions",
+        Place::Label => b"cases",
         _ => b"rules",
     };
     for (_, fields) in paper.lines.iter_mut().filter(|line| line.1.first().is_some_and(|first| first == word)) {
@@ -830,7 +976,7 @@ fn put_word(rng: &mut Rng, paper: &mut Paper) {
     } else {
         let word = rng.pick(&[
             "horizon", "events", "signals", "rules", "reactions", "rule", "Events", "signals ", "", "event", "eventss",
-            "rul\u{e9}s", "reaction", "reactionss",
+            "rul\u{e9}s", "reaction", "reactionss", "cases", "case", "Cases", "casess",
         ]);
         put(rng, paper, Place::Section, 0, word.as_bytes().to_vec());
     }
@@ -892,8 +1038,22 @@ fn damage_one_rule_twice(rng: &mut Rng, paper: &mut Paper) {
     }
 }
 
-/// Something done to the section of reactions, which is put behind the rules first if there is none.
+/// The lines from a section's heading on, which are taken off the paper; none if there is no such heading.
+fn split_section(paper: &mut Paper, word: &[u8]) -> Vec<Line> {
+    let heading = |line: &Line| line.0 == Place::Section && line.1.first().is_some_and(|first| first == word);
+    let place = paper.lines.iter().position(heading).unwrap_or(paper.lines.len());
+    paper.lines.split_off(place)
+}
+
+/// Something done to the section of reactions, which is put behind the rules first if there is none; the section of
+/// labels stays behind it.
 fn damage_reactions(rng: &mut Rng, paper: &mut Paper) {
+    let labels = split_section(paper, b"cases");
+    damage_last_reactions(rng, paper);
+    paper.lines.extend(labels);
+}
+
+fn damage_last_reactions(rng: &mut Rng, paper: &mut Paper) {
     if !paper.lines.iter().any(|line| line.1.first().is_some_and(|word| word == b"reactions")) {
         paper.put(Place::Section, &["reactions", "0"]);
     }
@@ -938,8 +1098,9 @@ fn letters_of(paper: &Paper) -> Vec<u8> {
 /// The ends of the range and what is beyond them, or no number; also what a byte or 16 bits would make of a larger
 /// one.
 fn odd_reaction(rng: &mut Rng) -> Vec<u8> {
-    const MINUTES: [&str; 18] = [
-        "0", "0", "61", "61", "60", "59", "1", "-1", "-60", "", "01", "-0", "+2", "2 ", "2\r", "257", "65538", "62",
+    const MINUTES: [&str; 20] = [
+        "0", "0", "61", "61", "60", "59", "1", "-1", "-60", "", "01", "-0", "+2", "2 ", "2\r", "257", "257", "258",
+        "65538", "62",
     ];
     rng.pick(&MINUTES).as_bytes().to_vec()
 }
@@ -983,8 +1144,8 @@ fn change_reaction_fields(rng: &mut Rng, paper: &mut Paper) {
 }
 
 /// The lines of the section, its heading first.
-fn reaction_section(paper: &Paper) -> Vec<(Place, Vec<Vec<u8>>)> {
-    let heading = |line: &(Place, Vec<Vec<u8>>)| line.1.first().is_some_and(|word| word == b"reactions");
+fn reaction_section(paper: &Paper) -> Vec<Line> {
+    let heading = |line: &Line| line.1.first().is_some_and(|word| word == b"reactions");
     paper.lines.iter().skip_while(|line| !heading(line)).cloned().collect()
 }
 
@@ -995,6 +1156,201 @@ fn move_section(paper: &mut Paper) {
     let rules = paper.lines.iter().position(|line| line.1.first().is_some_and(|word| word == b"rules"));
     let place = rules.unwrap_or(paper.lines.len());
     paper.lines.splice(place..place, section);
+}
+
+/// Something done to the section of labels, which is put behind the reactions first if there is none.
+fn damage_labels(rng: &mut Rng, paper: &mut Paper) {
+    let mut section = split_section(paper, b"cases");
+    if !paper.lines.iter().any(|line| line.1.first().is_some_and(|word| word == b"reactions")) {
+        paper.put(Place::Section, &["reactions", "0"]);
+    }
+    if section.is_empty() {
+        section = vec![(Place::Section, vec![b"cases".to_vec(), b"0".to_vec()])];
+    }
+    paper.lines.extend(section);
+    if paper.of(Place::Label).is_empty() && rng.chance(85) {
+        add_labels(rng, paper);
+    }
+    match rng.below(34) {
+        0..=3 => {
+            let text = odd_label(rng, &letters_of(paper));
+            put(rng, paper, Place::Label, 1, text);
+        }
+        4..=5 => {
+            let text = odd_name(rng);
+            put(rng, paper, Place::Label, 0, text);
+        }
+        6..=9 => second_label(rng, paper),
+        10 => put_count(paper, Place::Label, paper.of(Place::Label).len() as i64 + rng.pick(&[-1, 1])),
+        11 => put_count(paper, Place::Label, paper.of(Place::Name).len() as i64 + rng.pick(&[0, 1, 1])),
+        12 => put_count(paper, Place::Label, rng.pick(&[-1, 0, 16, 17])),
+        13..=15 => damage_one_label_twice(rng, paper),
+        16 if rng.chance(50) => put(rng, paper, Place::Label, 1, vec![]),
+        16 => change_label_fields(rng, paper),
+        17 => move_labels(rng, paper),
+        18 => paper.lines.extend(split_section(&mut paper.clone(), b"cases")),
+        19 => drop(paper.lines.pop()),
+        20..=22 => label_start(rng, paper),
+        23..=27 => unsettle_label(rng, paper, Place::Label, 1),
+        28..=29 => unsettle_label(rng, paper, Place::Rule, 4),
+        30..=31 => change_label_fields(rng, paper),
+        _ => {
+            label_start(rng, paper);
+            unsettle_label(rng, paper, Place::Label, 1);
+        }
+    }
+    if rng.chance(25) {
+        let text = rng.pick(&["", "x", "start,-", "cases,0"]);
+        paper.put(Place::Section, &[text]);
+    }
+}
+
+/// The names that the sheet has.
+fn names_of(paper: &Paper) -> Vec<Vec<u8>> {
+    paper.of(Place::Name).into_iter().filter_map(|line| paper.lines[line].1.first().cloned()).collect()
+}
+
+fn put_label_line(paper: &mut Paper, name: &[u8], label: &[u8]) {
+    paper.lines.push((Place::Label, vec![name.to_vec(), label.to_vec()]));
+}
+
+/// Letters of the sheet, or none, that a label line may have.
+fn label_bytes(rng: &mut Rng, letters: &[u8]) -> Vec<u8> {
+    if letters.is_empty() || rng.chance(30) {
+        return b"-".to_vec();
+    }
+    let places: Vec<usize> = (0..letters.len()).collect();
+    let signed = some_letters(rng, &places).into_iter().map(|(place, sign)| (letters[place], sign));
+    letters_text(&signed.collect::<Vec<(u8, bool)>>()).into_bytes()
+}
+
+/// Lines for some events, with labels of any letters, and their count; the start among them at times.
+fn add_labels(rng: &mut Rng, paper: &mut Paper) {
+    let (names, letters) = (names_of(paper), letters_of(paper));
+    let lines = rng.between(1, names.len().max(1) as i64) as usize;
+    for place in rng.different(lines.min(names.len()), names.len()) {
+        let label = if place == 0 { b"-".to_vec() } else { label_bytes(rng, &letters) };
+        put_label_line(paper, &names[place], &label);
+    }
+    put_count(paper, Place::Label, paper.of(Place::Label).len() as i64);
+}
+
+/// A second line for an event that has one, most often with its count; either of them may have `-`.
+fn second_label(rng: &mut Rng, paper: &mut Paper) {
+    let lines = paper.of(Place::Label);
+    if lines.is_empty() {
+        return;
+    }
+    let line = rng.pick(&lines);
+    let letters = letters_of(paper);
+    let label = label_bytes(rng, &letters);
+    if let (Some(old), true) = (paper.lines[line].1.get_mut(1), rng.chance(50)) {
+        *old = b"-".to_vec();
+    }
+    let name = paper.lines[line].1.first().cloned().unwrap_or_default();
+    match lines.iter().find(|&&other| other != line) {
+        Some(&other) if rng.chance(60) => paper.lines[other].1 = vec![name, label],
+        _ => {
+            put_label_line(paper, &name, &label);
+            put_count(paper, Place::Label, lines.len() as i64 + 1);
+        }
+    }
+}
+
+/// Two faults on one line, or a fault and an event that has a line already.
+fn damage_one_label_twice(rng: &mut Rng, paper: &mut Paper) {
+    let mut lines = paper.of(Place::Label);
+    if lines.len() == 1 {
+        put_label_line(paper, b"", b"");
+        put_count(paper, Place::Label, 2);
+        lines = paper.of(Place::Label);
+    }
+    let Some(&line) = lines.last() else { return };
+    let name = match paper.lines[lines[0]].1.first() {
+        Some(first) if rng.chance(60) => first.clone(),
+        _ => odd_name(rng),
+    };
+    let own = letters_of(paper);
+    let undefined: Vec<u8> = (b'a'..=b'z').filter(|letter| !own.contains(letter)).collect();
+    let label = match rng.below(10) {
+        0..=1 => vec![rng.pick(&undefined)],
+        2 => vec![rng.pick(&undefined); 2],
+        _ => odd_label(rng, &own),
+    };
+    let mut fields = vec![name, label];
+    if rng.chance(15) {
+        fields.push(vec![]);
+    }
+    paper.lines[line].1 = fields;
+}
+
+fn change_label_fields(rng: &mut Rng, paper: &mut Paper) {
+    let place = paper.lines.len() - 1 - rng.below(1 + paper.of(Place::Label).len()).min(paper.lines.len() - 1);
+    let fields = &mut paper.lines[place].1;
+    match rng.below(4) {
+        0 => fields.push(b"-".to_vec()),
+        1 => fields.insert(0, vec![]),
+        2 => drop(fields.pop()),
+        _ => fields.clear(),
+    }
+}
+
+/// The section of labels before that of the reactions, or before the rules, or in the place of the reactions.
+fn move_labels(rng: &mut Rng, paper: &mut Paper) {
+    let labels = split_section(paper, b"cases");
+    let reactions = split_section(paper, b"reactions");
+    match rng.below(4) {
+        0..=1 => paper.lines.extend(labels),
+        2 => paper.lines.extend([labels, reactions].concat()),
+        _ => {
+            let rules = split_section(paper, b"rules");
+            paper.lines.extend([labels, rules, reactions].concat());
+        }
+    }
+}
+
+/// The start's own line with a label other than `-`, and its count.
+fn label_start(rng: &mut Rng, paper: &mut Paper) {
+    let (names, letters) = (names_of(paper), letters_of(paper));
+    let Some(start) = names.first() else { return };
+    let label = label_bytes(rng, &letters);
+    let own = |line: &&usize| paper.lines[**line].1.first() == Some(start);
+    match paper.of(Place::Label).iter().find(own) {
+        Some(&line) => paper.lines[line].1 = vec![start.clone(), label],
+        None => {
+            let lines = paper.of(Place::Label);
+            let place = if lines.is_empty() { paper.lines.len() } else { rng.pick(&lines) };
+            paper.lines.insert(place, (Place::Label, vec![start.clone(), label]));
+            put_count(paper, Place::Label, lines.len() as i64 + 1);
+        }
+    }
+}
+
+/// A label that may lack something: a letter less, another sign, or other letters.
+fn unsettle_label(rng: &mut Rng, paper: &mut Paper, place: Place, field: usize) {
+    let letters = letters_of(paper);
+    let lines: Vec<usize> = paper.of(place).into_iter().filter(|&line| paper.lines[line].1.len() > field).collect();
+    let long: Vec<usize> = lines.iter().copied().filter(|&line| paper.lines[line].1[field].len() > 1).collect();
+    if lines.is_empty() {
+        return;
+    }
+    let line = if long.is_empty() || rng.chance(30) { rng.pick(&lines) } else { rng.pick(&long) };
+    let old = paper.lines[line].1[field].clone();
+    let mut signed: Vec<Vec<u8>> = vec![];
+    old.iter().for_each(|&byte| match signed.last_mut() {
+        Some(last) if last == b"!" => last.push(byte),
+        _ => signed.push(vec![byte]),
+    });
+    let letter = rng.below(signed.len().max(1));
+    match rng.below(3) {
+        0 if signed.len() > 1 => drop(signed.remove(letter)),
+        1 if old != b"-" && !signed.is_empty() => match signed[letter].strip_prefix(b"!") {
+            Some(rest) => signed[letter] = rest.to_vec(),
+            None => signed[letter].insert(0, b'!'),
+        },
+        _ => signed = vec![label_bytes(rng, &letters)],
+    }
+    paper.lines[line].1[field] = signed.concat();
 }
 
 fn damage_bytes(rng: &mut Rng, bytes: &mut Vec<u8>) {
@@ -1029,12 +1385,16 @@ fn change_byte(rng: &mut Rng, bytes: &mut Vec<u8>) {
     }
 }
 
-/// Bytes behind the end: behind the rules they begin the section of reactions, behind it there is nothing.
+/// Bytes behind the end: behind the rules they begin the section of reactions, behind it that of labels, and behind
+/// that there is nothing.
 fn append_bytes(rng: &mut Rng, bytes: &mut Vec<u8>) {
-    const TEXTS: [&str; 16] = [
+    const TEXTS: [&str; 30] = [
         "\n", "\n", "\n\n", " ", "x", "\r\n", "\0", "max,start,start,0,-\n", "rules,0\n", "reactions,0\n",
         "reactions,0", "reactions,0\n\n", "reactions,0\nx", "reactions,0\nreactions,0\n", "reactions,00\n",
-        "reactions\n",
+        "reactions\n", "cases,0\n", "cases,0\n", "cases,0", "cases\n", "cases,1\n", "cases,0\n\n",
+        "reactions,0\ncases,0\n", "reactions,0\ncases,0\n\n", "reactions,0\ncases,0\nx", "reactions,0\ncases,17\n",
+        "reactions,0\ncases,0\ncases,0\n", "reactions,0\ncases,00\n", "reactions,0\ncases,1\nstart,-\n",
+        "reactions,0\ncase,0\n",
     ];
     bytes.extend_from_slice(rng.pick(&TEXTS).as_bytes());
 }
@@ -1079,6 +1439,9 @@ pub fn table(rng: &mut Rng, net: &Net, solved: Option<&[u16]>) -> Vec<u8> {
     if net.is_slow() && rng.chance(30) {
         act_about_when_known(rng, net, &mut table);
     }
+    if net.is_labelled() && rng.chance(35) {
+        (0..rng.between(1, 2)).for_each(|_| misplace_blank(rng, net, &mut table));
+    }
     match rng.below(16) {
         0..=2 => {}
         3..=5 => nudge_cell(rng, &mut table),
@@ -1103,13 +1466,54 @@ fn hastened(net: &Net) -> Net {
     hastened
 }
 
+/// A cell without its event filled, one with it blank, or one too soon for a signal in its label, or just in time, or
+/// with nothing of that signal to wait for.
+fn misplace_blank(rng: &mut Rng, net: &Net, table: &mut [u16]) {
+    let cells: Vec<(usize, usize)> =
+        (0..net.cases()).flat_map(|case| (0..net.events.len()).map(move |event| (case, event))).collect();
+    let (here, absent): (Vec<_>, Vec<_>) = cells.into_iter().partition(|&(case, event)| net.happens(case, event));
+    let waiting: Vec<_> = here.iter().copied().filter(|&(_, event)| !net.labels[event].is_empty()).collect();
+    match rng.below(8) {
+        0..=2 if !absent.is_empty() => {
+            let ((case, event), other) = (rng.pick(&absent), rng.pick(&here));
+            let minutes = [0, net.horizon as u16, table[net.cell(other.0, other.1)], 65_534, random_minute(rng, net)];
+            table[net.cell(case, event)] = rng.pick(&minutes);
+        }
+        0..=3 => {
+            let (case, event) = rng.pick(&here);
+            table[net.cell(case, event)] = BLANK;
+        }
+        4 if !absent.is_empty() => {
+            let (_, event) = rng.pick(&absent);
+            let minute = random_minute(rng, net);
+            (0..net.cases()).for_each(|case| table[net.cell(case, event)] = minute);
+        }
+        5 if !waiting.is_empty() => {
+            let (case, event) = rng.pick(&waiting);
+            let (signal, _) = rng.pick(&net.labels[event]);
+            table[net.cell(case, net.signals[signal].event)] = BLANK;
+        }
+        _ if !waiting.is_empty() => {
+            let (_, event) = rng.pick(&waiting);
+            let (signal, _) = rng.pick(&net.labels[event]);
+            let off = rng.pick(&[-1, -1, 0, 0, 1]);
+            for case in (0..net.cases()).filter(|&case| net.happens(case, event)) {
+                let known = i64::from(table[net.cell(case, net.signals[signal].event)]) + net.signals[signal].reaction;
+                table[net.cell(case, event)] = (known + off).clamp(0, 65_535) as u16;
+            }
+        }
+        _ => {}
+    }
+}
+
 /// Moves an event, where a signal is true, to the minute at which the signal counts there, or to one of its
-/// neighbours, and leaves it or moves it to a later minute where the signal is false.
+/// neighbours, and leaves it or moves it to a later minute where the signal is false. Cells without the event, or
+/// without the signal, are left alone.
 fn act_about_when_known(rng: &mut Rng, net: &Net, table: &mut [u16]) {
     let (signal, event) = (rng.below(net.signals.len()), rng.below(net.events.len()));
     let (off, wait) = (rng.pick(&[-1, -1, 0, 0, 1]), rng.pick(&[0, 0, 1, 5]));
     let (truth, given) = (rng.chance(50), net.signals[signal].event);
-    for case in 0..net.cases() {
+    for case in (0..net.cases()).filter(|&case| net.happens(case, event) && net.happens(case, given)) {
         let known = i64::from(table[net.cell(case, given)]) + net.signals[signal].reaction;
         let cell = &mut table[net.cell(case, event)];
         match model::truth(case, signal) == truth {
@@ -1120,10 +1524,11 @@ fn act_about_when_known(rng: &mut Rng, net: &Net, table: &mut [u16]) {
     }
 }
 
-/// A table whose minutes mostly have five digits, whatever the sheet says.
+/// A table whose minutes mostly have five digits, whatever the sheet says; some have 65,535 in any cells.
 pub fn wide_table(rng: &mut Rng, net: &Net) -> Vec<u16> {
-    let least = rng.pick(&[0, 9_990, 10_000, 65_000]);
-    (0..net.cells()).map(|_| rng.between(least, 65_535) as u16).collect()
+    let (least, percent) = (rng.pick(&[0, 9_990, 10_000, 65_000, 65_530]), rng.pick(&[0, 0, 0, 1, 10, 60]));
+    let minute = |rng: &mut Rng| if rng.chance(percent) { BLANK } else { rng.between(least, 65_534) as u16 };
+    (0..net.cells()).map(|_| minute(rng)).collect()
 }
 
 /// Any bytes, for a sheet that is refused.
@@ -1137,40 +1542,47 @@ fn random_minute(rng: &mut Rng, net: &Net) -> u16 {
 }
 
 fn random_table(rng: &mut Rng, net: &Net) -> Vec<u16> {
-    let start_is_0 = rng.chance(80);
-    let minute = |cell: usize, rng: &mut Rng| match cell % net.events.len() {
+    let (start_is_0, blanks) = (rng.chance(80), rng.chance(80));
+    let events = net.events.len();
+    let minute = |cell: usize, rng: &mut Rng| match cell % events {
         0 if start_is_0 => 0,
+        event if blanks && !net.happens(cell / events, event) => BLANK,
         _ => random_minute(rng, net),
     };
     (0..net.cells()).map(|cell| minute(cell, rng)).collect()
 }
 
-/// A table that keeps points 1 and 3, whatever the rules say: each signal has one minute in all cases, and each other event has
-/// a minute that depends on earlier signals only.
+/// A table that keeps points 1 and 3, whatever the rules say, unless labels ask for more than the horizon has: each
+/// signal has one minute in all cases that have it, and each other event has a minute that depends on earlier signals
+/// only. Labels are waited for.
 fn heard_table(rng: &mut Rng, net: &Net) -> Vec<u16> {
-    let mut table = vec![0; net.cells()];
-    for event in 1..net.events.len() {
-        let minute = random_minute(rng, net);
-        (0..net.cases()).for_each(|case| table[net.cell(case, event)] = minute);
-    }
-    for event in 1..net.events.len() {
-        if net.signals.iter().all(|signal| signal.event != event) && rng.chance(60) {
-            put_off(rng, net, &mut table, event);
+    let mut minutes = vec![0];
+    minutes.extend((1..net.events.len()).map(|_| i64::from(random_minute(rng, net))));
+    for _ in 0..net.signals.len() {
+        for event in 1..net.events.len() {
+            let givers = net.labels[event].iter().map(|letter| &net.signals[letter.0]);
+            let known = givers.map(|signal| minutes[signal.event] + signal.reaction);
+            minutes[event] = known.fold(minutes[event], i64::max);
         }
     }
-    table
+    let mut table: Vec<i64> = (0..net.cells()).map(|cell| minutes[cell % net.events.len()]).collect();
+    for event in 1..net.events.len() {
+        if net.signals.iter().all(|signal| signal.event != event) && rng.chance(60) {
+            put_off(rng, net, &minutes, &mut table, event);
+        }
+    }
+    model::with_blanks(net, &table)
 }
 
-/// Moves an event to later minutes in cases that earlier signals tell apart.
-fn put_off(rng: &mut Rng, net: &Net, table: &mut [u16], event: usize) {
-    let minute = table[event];
-    let known = |signal: usize| i64::from(table[net.signals[signal].event]) + net.signals[signal].reaction;
-    let heard = |signal: usize| known(signal) <= i64::from(minute);
-    let mask: usize = (0..net.signals.len()).filter(|&signal| heard(signal)).map(|signal| 1 << signal).sum();
-    let room = net.horizon - i64::from(minute);
+/// Moves an event to later minutes in cases that earlier signals tell apart, each where it is given.
+fn put_off(rng: &mut Rng, net: &Net, minutes: &[i64], table: &mut [i64], event: usize) {
+    let known = |signal: usize| minutes[net.signals[signal].event] + net.signals[signal].reaction;
+    let heard = |case: usize, signal: usize| known(signal) <= minutes[event] && net.gives(case, signal);
+    let room = (net.horizon - minutes[event]).max(0);
     let waits: Vec<i64> = (0..net.cases()).map(|_| rng.between(0, room.min(3))).collect();
     for case in 0..net.cases() {
-        table[net.cell(case, event)] += waits[case & mask] as u16;
+        let mask: usize = (0..net.signals.len()).filter(|&signal| heard(case, signal)).map(|signal| 1 << signal).sum();
+        table[net.cell(case, event)] += waits[case & mask];
     }
 }
 
@@ -1511,19 +1923,24 @@ fn damage_two_rows(rng: &mut Rng, rows: &mut Rows) {
     }
 }
 
+/// A field written anew, at times one with a `-`.
 fn put_minute(rng: &mut Rng, row: &mut [Vec<u8>]) {
     if row.len() > 1 {
-        let field = 1 + rng.below(row.len() - 1);
-        row[field] = odd_minute(rng, &row[field]);
+        let dashes: Vec<usize> = (1..row.len()).filter(|&field| row[field] == b"-").collect();
+        let dash = !dashes.is_empty() && rng.chance(40);
+        let field = if dash { rng.pick(&dashes) } else { 1 + rng.below(row.len() - 1) };
+        row[field] = if dash && rng.chance(50) { b"65535".to_vec() } else { odd_minute(rng, &row[field]) };
     }
 }
 
-/// A minute that most often is ill-formed, negative or over 65,535; some are made of the one that stood there.
+/// A minute that most often is ill-formed, negative or over 65,534; some are made of the one that stood there. A lone
+/// `-` is the only way to write 65,535.
 fn odd_minute(rng: &mut Rng, old: &[u8]) -> Vec<u8> {
-    const MINUTES: [&str; 38] = [
-        "05", "00", "-0", "-0", "+5", "-5", "-1", "-", "", "", " ", "--5", "5-", "1.0", "1e3", "0x5", "T", "65535",
-        "65535", "65534", "65536", "65536", "65537", "65541", "70000", "99999", "100000", "131072", "655350", "-65535",
-        "-65536", "4294967296", "5:", "65:35", "/5", "5\0", "\u{ff15}", "\u{663}",
+    const MINUTES: [&str; 44] = [
+        "05", "00", "-0", "-0", "+5", "-5", "-1", "-", "-", "-", "--", " -", "- ", "", "", " ", "--5", "5-", "1.0",
+        "1e3", "0x5", "T", "65535", "65535", "65535", "65534", "65536", "65536", "65537", "65541", "70000", "99999",
+        "100000", "131072", "655350", "-65535", "-65536", "4294967296", "5:", "65:35", "/5", "5\0", "\u{ff15}",
+        "\u{663}",
     ];
     let value: u128 = String::from_utf8_lossy(old).parse().unwrap_or(5);
     let (before, behind) = (rng.pick(b"000--++ \t\0"), rng.pick(b"  \r\r::\0x,"));

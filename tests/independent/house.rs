@@ -1,4 +1,4 @@
-//! The mode `house`: a program that reads a sheet on standard input and prints its house form (02, points 2 and 3),
+//! The mode `house`: a program that reads a sheet on standard input and prints its house form (02, points 2, 3 and 6),
 //! against the model.
 
 use crate::gen::{self, Rng};
@@ -6,12 +6,12 @@ use crate::model;
 use crate::program::{check, printed, Mode, Program};
 use crate::{count, text_of, Counts};
 
-const KINDS: [&str; 4] = ["forms", "slow forms", "refused 17", "refused otherwise"];
+const KINDS: [&str; 5] = ["forms", "slow forms", "labelled forms", "refused 17", "refused otherwise"];
 
 pub const HOUSE: Mode = Mode { word: "house", given: "sheets", compare_one, kinds: &KINDS, tally };
 
 /// The sheet of one seed; where it has a form, also the form itself and another typing of the same procedure, and for
-/// some a procedure that differs in one reaction.
+/// some a procedure that differs in one reaction, and one that differs in one event's label.
 fn compare_one(program: Program, seed: u64, counts: &mut Counts) -> Result<(), String> {
     let mut rng = Rng::new(seed);
     let (kind, sheet) = gen::house_sheet(&mut rng);
@@ -28,11 +28,16 @@ fn compare_one(program: Program, seed: u64, counts: &mut Counts) -> Result<(), S
             if net.is_slow() {
                 count(counts, "slow forms".to_string());
             }
+            if net.is_labelled() {
+                count(counts, "labelled forms".to_string());
+            }
             if net.signals.is_empty() || rng.chance(75) {
                 return Ok(());
             }
             let slowed = gen::slowed(&mut rng, &sheet, &net);
-            check(program, "a sheet with another reaction", &slowed, &printed(model::house(&slowed)))
+            check(program, "a sheet with another reaction", &slowed, &printed(model::house(&slowed)))?;
+            let Some(relabelled) = gen::relabelled(&mut rng, &sheet, &net) else { return Ok(()) };
+            check(program, "a sheet with another label", &relabelled, &printed(model::house(&relabelled)))
         }
         Err(refusal) => {
             count(counts, if refusal.number == 17 { "refused 17" } else { "refused otherwise" }.to_string());
@@ -46,6 +51,7 @@ fn tally(counts: &Counts) -> String {
     let of = |kind: &str| counts.get(kind).copied().unwrap_or(0);
     let kinds = ["drafted", "crowded", "brimming", "damaged"].map(|kind| format!("{} {kind}", of(kind)));
     let ends = ["refused 17", "refused otherwise"].map(|kind| format!("{} {kind}", of(kind)));
-    let forms = format!("{} forms, {} of them with reactions", of("forms"), of("slow forms"));
+    let [slow, labelled] = ["slow forms", "labelled forms"].map(of);
+    let forms = format!("{} forms, {slow} of them with reactions and {labelled} with labels", of("forms"));
     format!("{}; {forms}, each also for itself and retyped, {}", kinds.join(", "), ends.join(", "))
 }

@@ -11,12 +11,13 @@ use std::ops::Range;
 use std::path::{absolute, Path, PathBuf};
 use std::process::{Command, Stdio};
 
-/// Each verdict, each refusal of a listing on several lines, and files that are missing, or longer than any that is
-/// read.
-const KINDS: [&str; 16] = [
+/// Each verdict, each refusal of a listing on several lines, some of them for a sheet with labelled events, and files
+/// that are missing, or longer than any that is read.
+const KINDS: [&str; 20] = [
     "pass", "late", "rule", "unheard", "refused by the sheet", "18 line 1", "18 line 2", "18 further down",
     "18 behind the last case", "19 line 2", "19 line 3", "19 further down", "without a sheet", "without a listing",
-    "with a longer sheet", "with a longer listing",
+    "with a longer sheet", "with a longer listing", "labelled pass", "labelled late", "labelled rule",
+    "labelled unheard",
 ];
 
 pub const JUDGE: Mode<Files> = Mode { word: "judge", given: "pairs of files", compare_one, kinds: &KINDS, tally };
@@ -59,7 +60,9 @@ fn kinds(files: &Files, outcome: &Result<Verdict, Refusal>) -> Vec<&'static str>
         (sheet.len() > model::SHEET_MOST, "with a longer sheet"),
         (listing.len() > model::LISTING_MOST, "with a longer listing"),
     ];
-    [said].into_iter().chain(odd.into_iter().filter(|odd| odd.0).map(|odd| odd.1)).collect()
+    let labelled = model::read(sheet).is_ok_and(|net| net.is_labelled());
+    let too = KINDS.into_iter().filter(|kind| labelled && kind.strip_prefix("labelled ") == Some(said));
+    [said].into_iter().chain(too).chain(odd.into_iter().filter(|odd| odd.0).map(|odd| odd.1)).collect()
 }
 
 /// What was compared.

@@ -9,7 +9,7 @@
 
 use crate::library::own;
 use crate::library::Tally;
-use crate::model::{self, agrees, truth, Kind, Net};
+use crate::model::{self, holds_in, truth, Kind, Net, Rule, BLANK};
 use crate::rounds::{self, Run};
 
 /// A bound of a cell: the least of these cells, each with these minutes added.
@@ -25,7 +25,7 @@ const TABLES_MOST: usize = 6_000;
 
 /// What is wrong with a solver.
 #[derive(Clone, Copy, PartialEq)]
-enum Slip {
+pub enum Slip {
     None,
     LastNotCounted,
     IdleNotCounted,
@@ -51,9 +51,16 @@ enum Slip {
     LongestForAll,
     ShortestForAll,
     LeaptAsSixty,
+    NoWaits,
+    WaitsOfOne,
+    WaitsForTrue,
+    WaitsForFirst,
+    RulesOfLabelOnly,
+    AbsentRaised,
+    BlanksZero,
 }
 
-pub const COUNT_FAULTS: [(&str, Tally); 26] = [
+pub const COUNT_FAULTS: [(&str, Tally); 32] = [
     ("last-round-not-counted", wrong(|sheet| answer(sheet, Slip::LastNotCounted))),
     ("idle-round-not-counted", wrong(|sheet| answer(sheet, Slip::IdleNotCounted))),
     ("passing-round-not-counted", wrong(|sheet| answer(sheet, Slip::PassingNotCounted))),
@@ -77,6 +84,12 @@ pub const COUNT_FAULTS: [(&str, Tally); 26] = [
     ("longest-reaction-for-all", wrong(|sheet| answer(sheet, Slip::LongestForAll))),
     ("shortest-reaction-for-all", wrong(|sheet| answer(sheet, Slip::ShortestForAll))),
     ("reaction-taken-for-60-in-leaps", wrong(|sheet| answer(sheet, Slip::LeaptAsSixty))),
+    ("labels-set-no-waits", wrong(|sheet| answer(sheet, Slip::NoWaits))),
+    ("label-waits-of-one", wrong(|sheet| answer(sheet, Slip::WaitsOfOne))),
+    ("label-waits-for-true-letters", wrong(|sheet| answer(sheet, Slip::WaitsForTrue))),
+    ("label-waits-for-the-first-letter", wrong(|sheet| answer(sheet, Slip::WaitsForFirst))),
+    ("rule-of-an-absent-event", wrong(|sheet| answer(sheet, Slip::RulesOfLabelOnly))),
+    ("absent-cell-raised", wrong(|sheet| answer(sheet, Slip::AbsentRaised))),
     ("refused-sheet-counts-one", wrong(|sheet| leaping(sheet).max(1))),
     ("plain-rounds-wrong", Tally { plain: |sheet| answer(sheet, Slip::LastNotCounted), ..own::TALLY }),
     ("never-leaps", Tally { leaping: own::plain, plain: own::plain, turns: |sheet| own::plain(sheet) & 0xffff_ffff }),
@@ -96,6 +109,11 @@ pub fn turns(sheet: &[u8]) -> u64 {
     model::read(sheet).map_or(0, |net| u64::from(Leaper::new(&net, Slip::None).run().1))
 }
 
+/// The table of a solver with a slip.
+pub fn table_with(net: &Net, slip: Slip) -> Option<Vec<u16>> {
+    Leaper::new(net, slip).run().0.table
+}
+
 fn answer(sheet: &[u8], slip: Slip) -> u64 {
     model::read(sheet).map_or(0, |net| rounds::answer(&net, &Leaper::new(&net, slip).run().0))
 }
@@ -106,6 +124,8 @@ struct Leaper {
     /// The same as a leap is tested by: a wrong solver may take others there.
     leap_bounds: Vec<Vec<Bound>>,
     limits: Table,
+    /// The cells without their event.
+    blank: Vec<bool>,
     events: usize,
     slip: Slip,
 }
@@ -125,7 +145,8 @@ impl Leaper {
         let all = |slip: Slip| (0..net.cells()).map(|cell| bounds(net, cell / events, cell % events, slip)).collect();
         let leap_slip = if slip == Slip::LeaptAsSixty { Slip::ReactionOfSixty } else { slip };
         let limits = (0..net.cells()).map(limit).collect();
-        Leaper { bounds: all(slip), leap_bounds: all(leap_slip), limits, events, slip }
+        let blank = (0..net.cells()).map(|cell| !net.happens(cell / events, cell % events)).collect();
+        Leaper { bounds: all(slip), leap_bounds: all(leap_slip), limits, blank, events, slip }
     }
 
     /// The run, and how many rounds were made one by one.
@@ -168,7 +189,12 @@ impl Leaper {
             Slip::PassingNotCounted => table.is_none(),
             _ => false,
         };
-        Run { count: count - u32::from(uncounted), table: table.map(|table| table.into_iter().map(|minute| minute as u16).collect()) }
+        let number = |(minute, &blank): (i64, &bool)| match blank && self.slip != Slip::BlanksZero {
+            true => BLANK,
+            false => minute as u16,
+        };
+        let table = table.map(|table| table.into_iter().zip(&self.blank).map(number).collect());
+        Run { count: count - u32::from(uncounted), table }
     }
 
     fn passed_over(&self, leap: &Leap) -> u32 {
@@ -238,27 +264,50 @@ impl Leaper {
     }
 }
 
-/// All bounds of one cell.
+/// All bounds of one cell. One without its event has none but its own value.
 fn bounds(net: &Net, s: usize, u: usize, slip: Slip) -> Vec<Bound> {
     let mut bounds = vec![vec![(net.cell(s, u), 0)]];
-    for rule in net.rules.iter().filter(|rule| agrees(rule, s)) {
+    if !net.happens(s, u) && slip != Slip::AbsentRaised {
+        return bounds;
+    }
+    let covers = |rule: &&Rule| match slip {
+        Slip::RulesOfLabelOnly | Slip::AbsentRaised => holds_in(&rule.label, s),
+        _ => net.covers(rule, s),
+    };
+    // what a wrong solver takes for the minute of an event that is absent
+    let absent = |event: usize| i64::from(slip == Slip::RulesOfLabelOnly && !net.happens(s, event)) * i64::from(BLANK);
+    for rule in net.rules.iter().filter(covers) {
         if rule.to == u && rule.kind != Kind::Max {
-            bounds.push(vec![(net.cell(s, rule.from), rule.limit)]);
+            bounds.push(vec![(net.cell(s, rule.from), rule.limit + absent(rule.from))]);
         }
         if rule.from == u && rule.kind != Kind::Min {
-            bounds.push(vec![(net.cell(s, rule.to), -rule.limit)]);
+            bounds.push(vec![(net.cell(s, rule.to), absent(rule.to) - rule.limit)]);
         }
     }
-    for r in (0..net.cases()).filter(|&r| r != s && (slip != Slip::OneSignalCases || (r ^ s).is_power_of_two())) {
+    let other = |r: usize| r != s && (slip != Slip::OneSignalCases || (r ^ s).is_power_of_two());
+    for r in (0..net.cases()).filter(|&r| other(r) && net.happens(r, u)) {
         let mut bound = vec![(net.cell(r, u), 0)];
         for (signal, given) in net.signals.iter().enumerate() {
-            if truth(s, signal) != truth(r, signal) {
+            if truth(s, signal) != truth(r, signal) && net.gives(s, signal) {
                 bound.push((net.cell(s, given.event), reaction(net, signal, slip)));
             }
         }
         bounds.push(bound);
     }
+    let waits = net.labels[u].iter().enumerate().filter(|(place, letter)| match slip {
+        Slip::NoWaits => false,
+        Slip::WaitsForTrue => letter.1,
+        Slip::WaitsForFirst => *place == 0,
+        _ => true,
+    });
+    bounds.extend(waits.map(|(_, letter)| wait(net, s, letter.0, slip)));
     bounds
+}
+
+/// The bound that a letter of a label sets.
+fn wait(net: &Net, s: usize, signal: usize, slip: Slip) -> Bound {
+    let wait = if slip == Slip::WaitsOfOne { 1 } else { reaction(net, signal, slip) };
+    vec![(net.cell(s, net.signals[signal].event), wait)]
 }
 
 /// The minutes after which a signal counts.

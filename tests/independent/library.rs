@@ -167,13 +167,14 @@ pub mod own {
         table.chunks_exact(2).map(|pair| u16::from_le_bytes([pair[0], pair[1]])).collect()
     }
 
-    /// A sheet and the table that is handed in with it: refusals 1 to 10, then 11; "an odd number of bytes is refusal 11".
+    /// A sheet and the table that is handed in with it: its own refusals, then 11; "an odd number of bytes is refusal
+    /// 11".
     pub fn handed(sheet: &[u8], table: &[u8]) -> Result<(Net, Vec<u16>), Refusal> {
         let net = model::read(sheet)?;
         if table.len() == 2 * net.cells() { Ok((net, minutes_of(table))) } else { Err(Refusal { number: 11, line: 0 }) }
     }
 
-    /// Refusals 1 to 10, then 12, then 13; "the solver counts the whole pairs it is lent".
+    /// The sheet's own refusals, then 12, then 13; "the solver counts the whole pairs it is lent".
     pub fn solve(sheet: &[u8], table: &mut [u8]) -> u64 {
         let net = match model::read(sheet) {
             Err(refusal) => return refused(refusal),
@@ -188,12 +189,12 @@ pub mod own {
         }
     }
 
-    /// Refusals 1 to 11, or the verdict.
+    /// The sheet's own refusals, then 11, or the verdict.
     pub fn judge(sheet: &[u8], table: &[u8]) -> u64 {
         handed(sheet, table).map_or_else(refused, |(net, minutes)| verdict(model::judge(&net, &minutes)))
     }
 
-    /// Refusals 1 to 11, then 14, then what the player says.
+    /// The sheet's own refusals, then 11, then 14, then what the player says.
     pub fn due(question: Question) -> u64 {
         match handed(question.sheet, question.table) {
             Ok((net, minutes)) if model::judge(&net, &minutes) != Verdict::Pass => refused_call(14),
@@ -201,7 +202,8 @@ pub mod own {
         }
     }
 
-    /// Refusals 1 to 11, then 15 for a text that is no list, then what the player says; the table is not judged.
+    /// The sheet's own refusals, then 11, then 15 for a text that is no list, then what the player says; the table is
+    /// not judged.
     pub fn play(Question { sheet, table, minute, heard }: Question) -> u64 {
         match (handed(sheet, table), model::heard(heard)) {
             (Err(refusal), _) => refused(refusal),
@@ -210,17 +212,17 @@ pub mod own {
         }
     }
 
-    /// Refusals 1 to 11, then 12, whatever the judge says of the table.
+    /// The sheet's own refusals, then 11, then 12, whatever the judge says of the table.
     pub fn listing(sheet: &[u8], table: &[u8], out: &mut [u8]) -> u64 {
         write_text(handed(sheet, table).map(|(net, minutes)| model::listing(sheet, &net, &minutes)), out)
     }
 
-    /// Refusals 1 to 10, then 17, then 12.
+    /// The sheet's own refusals, then 17, then 12.
     pub fn house(sheet: &[u8], out: &mut [u8]) -> u64 {
         write_text(model::house(sheet), out)
     }
 
-    /// Refusals 1 to 10, then 18, 19 and 12; whole pairs are counted, as for the solver.
+    /// The sheet's own refusals, then 18, 19 and 12; whole pairs are counted, as for the solver.
     pub fn read_listing(sheet: &[u8], listing: &[u8], table: &mut [u8]) -> u64 {
         returned(model::recover(sheet, listing, usize::MAX), table)
     }

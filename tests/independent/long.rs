@@ -5,7 +5,7 @@
 //! then an event is no earlier in one case than in the other. So a signal whose event is held late ends the climb with a table.
 
 use crate::gen::{self, Draft, DraftRule, Rng, Size};
-use crate::model::{self, Net};
+use crate::model::{self, Label, Net};
 use crate::rounds;
 
 /// As many rounds as the run of a sheet made here may take.
@@ -16,7 +16,6 @@ const TRIES: u32 = 12;
 /// As many rules as a sheet may have.
 const RULES_MOST: usize = model::RULES_MOST as usize;
 
-type Label = Vec<(usize, bool)>;
 type Maker = fn(&mut Rng, i64) -> Draft;
 
 const MAKERS: [Maker; 7] = [ring, held_ring, coupled_rings, chase, rings_by_case, small_rows, kept_rows];
@@ -52,7 +51,8 @@ pub fn request_8(events: usize, horizon: i64) -> Vec<u8> {
     let names = (0..events).map(|event| char::from(b'a' + event as u8).to_string()).collect();
     let places: Vec<usize> = (1..events).collect();
     let rules = ring_rows(&places, 1, |_| vec![]);
-    Draft { horizon, events: names, signals: vec![], rules, reactions: None }.bytes()
+    let labels = vec![vec![]; events];
+    Draft { horizon, events: names, signals: vec![], rules, reactions: None, labels, cases: None }.bytes()
 }
 
 /// A sheet of the other generator, valid or damaged, whose run is not too long.
@@ -86,6 +86,8 @@ fn finished(rng: &mut Rng, make: Maker, horizon: i64) -> Vec<u8> {
     if rng.chance(25) {
         bound_above(rng, &mut draft);
     }
+    let labels: Vec<Label> = draft.rules.iter().map(|rule| draft.completed(&rule.label)).collect();
+    draft.rules.iter_mut().zip(labels).for_each(|(rule, label)| rule.label = label);
     for rule in draft.rules.iter_mut().filter(|rule| rule.kind != "fix") {
         if rng.chance(15) {
             *rule = gen::turned(rule);
@@ -103,7 +105,7 @@ fn finished(rng: &mut Rng, make: Maker, horizon: i64) -> Vec<u8> {
 fn bound_above(rng: &mut Rng, draft: &mut Draft) {
     let Some(climbing) = draft.rules.get(rng.below(draft.rules.len().max(1))).map(|rule| rule.to) else { return };
     let minute = rng.between(0, draft.horizon);
-    let label = if rng.chance(50) { vec![] } else { gen::label(rng, draft.signals.len()) };
+    let label = if rng.chance(50) { vec![] } else { gen::any_label(rng, draft.signals.len()) };
     draft.rules.push(match rng.below(5) {
         0..=2 => DraftRule { kind: "max", from: 0, to: climbing, limit: minute, label },
         3 => DraftRule { kind: "fix", from: 0, to: climbing, limit: minute, label },
@@ -115,17 +117,22 @@ fn bound_above(rng: &mut Rng, draft: &mut Draft) {
 fn tighten(rng: &mut Rng, draft: &mut Draft) {
     let net = model::read(&draft.bytes()).expect("a drafted sheet is valid");
     let table = rounds::run_within(&net, ROUNDS_MOST).and_then(|run| run.table);
-    let latest = table.and_then(|table| table.into_iter().max());
+    let latest = table.and_then(|table| table.into_iter().filter(|&minute| minute != model::BLANK).max());
     if let Some(latest) = latest {
         draft.horizon = (i64::from(latest) + rng.between(-2, 2)).clamp(0, draft.horizon);
     }
 }
 
-/// A draft without rules whose signals are not given by the start. About half of those with signals have reactions.
+/// A draft without rules whose signals are not given by the start. About half of those with signals have reactions, and
+/// some have labelled events.
 fn giving(rng: &mut Rng, events: usize, signals: usize, horizon: i64) -> Draft {
-    let mut draft = gen::bare(rng, &Size { events, signals, rules: 0 }, horizon);
+    let mut draft = gen::unlabelled(rng, &Size { events, signals, rules: 0 }, horizon);
     let givers = rng.different(signals, events - 1);
     draft.signals.iter_mut().zip(givers).for_each(|(signal, giver)| signal.1 = giver + 1);
+    if rng.chance(50) {
+        let percent = rng.pick(&[10, 30, 50]);
+        gen::label_events(rng, &mut draft, percent);
+    }
     draft
 }
 
@@ -218,7 +225,7 @@ fn held_ring(rng: &mut Rng, horizon: i64) -> Draft {
     draft.rules = ring_rows(&places, rng.pick(&[1, 1, 2, 3]), |place| alternating(rng, signals, signal, place));
     stagger(rng, &mut draft.rules);
     for event in behind {
-        let label = gen::label(rng, signals);
+        let label = gen::any_label(rng, signals);
         draft.rules.push(min(rng.pick(&places), event, lead(rng, horizon), label));
     }
     hold(rng, &mut draft, 95);
@@ -237,14 +244,14 @@ fn coupled_rings(rng: &mut Rng, horizon: i64) -> Draft {
         let (signal, last, kind) = (rng.below(signals), rng.pick(&[1, 1, 2]), if all_alternate { 0 } else { rng.below(3) });
         let label = |place: usize| match kind {
             0 => alternating(rng, signals, signal, place),
-            1 => gen::label(rng, signals),
+            1 => gen::any_label(rng, signals),
             _ => vec![],
         };
         draft.rules.extend(ring_rows(ring, last, label));
     }
     stagger(rng, &mut draft.rules);
     for _ in 0..rng.between(1, 4) {
-        let label = gen::label(rng, signals);
+        let label = gen::any_label(rng, signals);
         draft.rules.push(min(rng.pick(&places), rng.pick(&places), lead(rng, horizon), label));
     }
     hold(rng, &mut draft, 90);
@@ -306,7 +313,7 @@ fn small_rows(rng: &mut Rng, horizon: i64) -> Draft {
     hold(rng, &mut draft, 50);
     let (most, from) = (rng.pick(&[0, 1, 1, 2]), unheld_events(rng, &draft));
     for _ in 0..rng.between(events as i64, 3 * events as i64) {
-        let label = gen::label(rng, signals);
+        let label = gen::any_label(rng, signals);
         draft.rules.push(min(rng.pick(&from), 1 + rng.below(events - 1), rng.between(-3, most), label));
     }
     draft
@@ -323,7 +330,7 @@ fn kept_rows(rng: &mut Rng, horizon: i64) -> Draft {
     let goal = signals + rng.between(events as i64, 3 * events as i64) as usize;
     for _ in 0..20 * goal {
         let (from, to) = (rng.pick(&from), 1 + rng.below(events - 1));
-        let label = if rng.chance(50) { gen::label(rng, signals) } else { whole_label(rng, signals) };
+        let label = if rng.chance(50) { gen::any_label(rng, signals) } else { whole_label(rng, signals) };
         let limit = least_difference(&net, &hidden, from, to, &label);
         if draft.rules.len() < goal && from != to && (-3..=2).contains(&limit) {
             draft.rules.push(min(from, to, limit, label));
@@ -358,6 +365,6 @@ fn hidden_table(rng: &mut Rng, net: &Net) -> Vec<i64> {
 
 /// The least minute(to) - minute(from) over the cases that agree with the label.
 fn least_difference(net: &Net, table: &[i64], from: usize, to: usize, label: &[(usize, bool)]) -> i64 {
-    let agrees = |case: &usize| label.iter().all(|&(signal, asked)| model::truth(*case, signal) == asked);
-    (0..net.cases()).filter(agrees).map(|case| table[net.cell(case, to)] - table[net.cell(case, from)]).min().unwrap()
+    let difference = |case: usize| table[net.cell(case, to)] - table[net.cell(case, from)];
+    (0..net.cases()).filter(|&case| model::holds_in(label, case)).map(difference).min().unwrap()
 }

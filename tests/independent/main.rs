@@ -33,6 +33,7 @@ mod faults;
 mod gen;
 mod house;
 mod judge;
+mod labels;
 mod leaps;
 mod lent;
 mod library;
@@ -42,6 +43,7 @@ mod printers;
 mod program;
 mod readers;
 mod rounds;
+mod sections;
 mod table;
 mod tally;
 mod verdicts;
@@ -162,16 +164,21 @@ fn alike(net: &Net, table: &[u16]) -> &'static str {
     if table.chunks(events).all(|row| *row == table[..events]) { "cases alike" } else { "cases differ" }
 }
 
-/// Whether some signal has a reaction other than 1.
+/// Whether some signal has a reaction other than 1, and some event a label other than `-`.
 fn pace(net: &Net) -> &'static str {
-    if net.is_slow() { "slow" } else { "not slow" }
+    match (net.is_slow(), net.is_labelled()) {
+        (false, false) => "not slow",
+        (true, false) => "slow",
+        (false, true) => "labelled",
+        (true, true) => "slow, labelled",
+    }
 }
 
 // ---------------------------------------------------------------- selftest and faults
 
 /// Raising, searching and rounds agree on tiny sheets, and so do a sheet and its house form, and its forms and those of another typing;
-/// raising and rounds agree on other sheets of few rounds, and two readers of reactions on all of those. The readers
-/// of listings agree on other sheets and listings.
+/// raising and rounds agree on other sheets of few rounds, and two readers of reactions and labels on all of those. The
+/// readers of listings agree on other sheets and listings.
 fn selftest(seed: u64, cases: u64) {
     let mut counts = Counts::new();
     for seed in seed..seed + cases {
@@ -185,8 +192,10 @@ fn selftest(seed: u64, cases: u64) {
         let other = gen::sheet(&mut Rng::new(seed));
         let alike_otherwise = selftest_house(&sheet, &net, seed).and_then(|_| selftest_rounds(&sheet));
         let others_alike = || selftest_rounds(&other).and_then(|_| selftest_reader(&other));
+        let judged_alike = || selftest_judge(&sheet, seed).and_then(|_| selftest_judge(&other, seed));
         let mut read_alike = || selftest_listings(&gen::files(&mut Rng::new(seed)), &mut counts);
-        if let Err(words) = alike_otherwise.and_then(|_| others_alike()).and_then(|_| read_alike()) {
+        let all_alike = alike_otherwise.and_then(|_| others_alike()).and_then(|_| judged_alike());
+        if let Err(words) = all_alike.and_then(|_| read_alike()) {
             println!("{words}\n{}again: compare selftest {seed} 1", text_of(&sheet));
             exit(1);
         }
@@ -209,14 +218,31 @@ fn selftest_rounds(sheet: &[u8]) -> Result<(), String> {
     if (run.count, &run.table) != (by_words.0, &by_words.1) || run.table != raised {
         return Err(format!("in arrays {run:?}\nby words {by_words:?}\nraised {raised:?}\n{}", text_of(sheet)));
     }
-    let most = (net.cells() - net.cases()) as i64 * net.horizon + 1;
+    let most = net.free_cells() as i64 * net.horizon + 1;
     if i64::from(run.count) > most { Err(format!("{} rounds, more than {most}\n{}", run.count, text_of(sheet))) } else { Ok(()) }
 }
 
-/// The model's reader, and that of `faults.rs` without a slip.
+/// The model's reader, and that of `sections.rs` without a slip.
 fn selftest_reader(sheet: &[u8]) -> Result<(), String> {
-    let (one, other) = (model::read(sheet), faults::read_again(sheet));
+    let (one, other) = (model::read(sheet), sections::read_again(sheet));
     if one == other { Ok(()) } else { Err(format!("read {one:?}\nagain {other:?}\n{}", text_of(sheet))) }
+}
+
+/// The model's judge, and that of `labels.rs` without a slip.
+fn selftest_judge(sheet: &[u8], seed: u64) -> Result<(), String> {
+    let Ok(net) = model::read(sheet) else { return Ok(()) };
+    let (mut rng, solved) = (Rng::new(seed), model::solve(&net));
+    for _ in 0..4 {
+        let table = minutes(&gen::table(&mut rng, &net, solved.as_deref()));
+        if table.len() != net.cells() {
+            continue;
+        }
+        let (one, other) = (model::judge(&net, &table), labels::judge(&net, &table, labels::Slip::None));
+        if one != other {
+            return Err(format!("judged {one:?}\nagain {other:?}\ntable {table:?}\n{}", text_of(sheet)));
+        }
+    }
+    Ok(())
 }
 
 /// The model's reader of listings, that of `readers.rs` without a slip, and printing, by which a listing is accepted
@@ -241,14 +267,16 @@ fn selftest_listings(files: &Files, counts: &mut Counts) -> Result<(), String> {
     if back.as_ref() == Ok(&wide) { Ok(()) } else { Err(format!("printed {wide:?}\nread {back:?}\n{}", scene())) }
 }
 
-/// "The form reads back to the same good tables, and a second pass changes no byte"; points 1 and 2, and the
-/// reactions, have all that may differ. A procedure that differs in one reaction has another form.
+/// "The form reads back to the same good tables, and a second pass changes no byte"; points 1 and 2, the reactions and
+/// the labels have all that may differ. A procedure that differs in one reaction or one label has another form.
 fn selftest_house(sheet: &[u8], net: &Net, seed: u64) -> Result<(), String> {
     let form = model::house(sheet).map_err(|refusal| format!("no form: {refusal:?}"))?;
     let back = model::read(&form).map_err(|refusal| format!("its form is not read: {refusal:?}"))?;
     let names = |sheet: &[u8], net: &Net| -> Vec<Vec<u8>> { net.events.iter().map(|event| sheet[event.clone()].to_vec()).collect() };
     let same_head = net.horizon == back.horizon && names(sheet, net) == names(&form, &back) && net.signals == back.signals;
-    if !same_head || !model::same_lawful_rows(net, &back) {
+    let set = |label: &model::Label| -> BTreeMap<usize, bool> { label.iter().copied().collect() };
+    let sets = |net: &Net| -> Vec<BTreeMap<usize, bool>> { net.labels.iter().map(set).collect() };
+    if !same_head || sets(net) != sets(&back) || !model::same_lawful_rows(net, &back) {
         return Err("its form has other good tables".to_string());
     }
     let retyped = gen::retyped(&mut Rng::new(seed), sheet, net);
@@ -258,8 +286,11 @@ fn selftest_house(sheet: &[u8], net: &Net, seed: u64) -> Result<(), String> {
     if model::read(&retyped).map(|net| model::solve(&net)) != Ok(model::solve(net)) {
         return Err("another typing has another table".to_string());
     }
-    if !net.signals.is_empty() && model::house(&gen::slowed(&mut Rng::new(seed), sheet, net)) == Ok(form) {
+    if !net.signals.is_empty() && model::house(&gen::slowed(&mut Rng::new(seed), sheet, net)).as_ref() == Ok(&form) {
         return Err("another reaction has the same form".to_string());
+    }
+    if gen::relabelled(&mut Rng::new(seed), sheet, net).is_some_and(|other| model::house(&other) == Ok(form)) {
+        return Err("another label has the same form".to_string());
     }
     Ok(())
 }

@@ -5,8 +5,8 @@
     make_small.py expected  prints the lines that `trials` is to print for it, behind those of the numbered sheets
 
 Which sheets have a good table is found here by trying every table, from document 01's three points, with the reactions
-of document 02, point 3, and nothing else. The same seed gives the same file: only random() is used, whose values do
-not change between versions.
+of document 02, point 3, and the events' labels of its point 6, and nothing else. The same seed gives the same file:
+only random() is used, whose values do not change between versions.
 """
 
 import itertools
@@ -20,6 +20,7 @@ SHEETS = 300
 MOST_TABLES = 70_000
 MANY_TABLES = 5_000
 LARGE_SHEETS = 12
+BLANK = 65_535
 
 rng = random.Random(20_261_115)
 
@@ -58,13 +59,46 @@ def rule(events, signals):
     return one_of(["min", "min", "fix"]), one_of([0, pick(0, events - 1)]), pick(0, events - 1), pick(1, 3), label(signals)
 
 
-def draw(slow):
-    """A network: horizon, count of events, the event of each signal, the rules, and the reaction of each signal: 1, or
-    others too."""
+def completed(letters, signals, labels):
+    """A label of these letters, with what the labels of the events ask whose signals it uses (02, refusal 21); a letter
+    that would contradict those before it is left out."""
+    whole = []
+    for letter in letters:
+        more, needed = list(whole), [letter]
+        while needed:
+            signal, value = needed.pop()
+            if (signal, value) not in more:
+                more.append((signal, value))
+                needed += labels[signals[signal]]
+        if len({signal for signal, _ in more}) == len(more):
+            whole = more
+    return whole
+
+
+def draw_labels(events, signals):
+    """Labels of some events but the start. A giver's has letters of signals before its own; one draw in ten may have
+    its own, too."""
+    labels = [[] for _ in range(events)]
+    own = 1 if rng.random() < 0.1 else 0
+    order = distinct(len(signals), lambda: pick(0, len(signals) - 1))
+    givers = [(signals[signal], order[: place + own]) for place, signal in enumerate(order)]
+    for event, known in givers + [(event, order) for event in range(1, events) if event not in signals]:
+        if event != 0 and known and rng.random() < 0.6:
+            letters = distinct(pick(1, len(known)), lambda: one_of(known))
+            labels[event] = completed([(signal, rng.random() < 0.5) for signal in letters], signals, labels)
+    return labels
+
+
+def draw(slow, labelled):
+    """A network: horizon, count of events, the event of each signal, the rules, the reaction of each signal: 1, or
+    others too; and the label of each event: none, or others too."""
     horizon, events = one_of([0, 1, 1, 2, 2, 3, 3, 4, 4]), one_of([1, 2, 2, 3, 3, 3, 4, 4])
     signals = distinct(min(events, one_of([0, 1, 1, 2, 2])), lambda: pick(0, events - 1))
     rules = [rule(events, len(signals)) for _ in range(pick(0, 6))]
-    return horizon, events, signals, rules, [one_of([1, 2, 2, 2, 3, 4, 60]) if slow else 1 for _ in signals]
+    reactions = [one_of([1, 2, 2, 2, 3, 4, 60]) if slow else 1 for _ in signals]
+    labels = draw_labels(events, signals) if labelled else [[] for _ in range(events)]
+    rules = [(*rest, completed(asked, signals, labels)) for *rest, asked in rules]
+    return horizon, events, signals, rules, reactions, labels
 
 
 def table_count(net):
@@ -76,6 +110,15 @@ def truth(case, signal):
     return case // 2**signal % 2 == 1
 
 
+def agrees(case, label):
+    return all(truth(case, signal) == value for signal, value in label)
+
+
+def happens(net, case, event):
+    """02, point 6: an event happens where its label holds."""
+    return agrees(case, net[5][event])
+
+
 def holds(rule, row):
     kind, start, end, limit, _ = rule
     difference = row[end] - row[start]
@@ -83,26 +126,36 @@ def holds(rule, row):
 
 
 def lawful(net, case, row):
-    """Point 2 in one case."""
-    asked = [rule for rule in net[3] if all(truth(case, signal) == value for signal, value in rule[4])]
-    return all(holds(rule, row) for rule in asked)
+    """Point 2 in one case, for the rules whose events both happen there; and that each event that happens comes no
+    sooner than the signals in its label, each with its reaction."""
+    here = [event for event in range(net[1]) if happens(net, case, event)]
+    asked = [rule for rule in net[3] if agrees(case, rule[4]) and rule[1] in here and rule[2] in here]
+    known = [row[event] + reaction for event, reaction in zip(net[2], net[4])]
+    waits = all(known[signal] <= row[event] for event in here for signal, _ in net[5][event])
+    return waits and all(holds(rule, row) for rule in asked)
 
 
 def told(net, table, s, r, u):
-    """Whether a signal on which s and r differ counts in s when u happens there."""
+    """Whether a signal that is given in s, and on which s and r differ, counts in s when u happens there."""
     known = [table[s][event] + reaction for event, reaction in zip(net[2], net[4])]
-    return any(truth(s, i) != truth(r, i) and minute <= table[s][u] for i, minute in enumerate(known))
+    given = [i for i, event in enumerate(net[2]) if happens(net, s, event)]
+    return any(truth(s, i) != truth(r, i) and known[i] <= table[s][u] for i in given)
 
 
 def keeps_point_3(net, table):
-    cases = range(len(table))
-    return all(table[s][u] == table[r][u] or told(net, table, s, r, u) for s in cases for r in cases for u in range(net[1]))
+    """For the events that happen in both cases."""
+    pairs = itertools.product(range(len(table)), repeat=2)
+    both = [(s, r, u) for s, r in pairs for u in range(net[1]) if happens(net, s, u) and happens(net, r, u)]
+    return all(table[s][u] == table[r][u] or told(net, table, s, r, u) for s, r, u in both)
 
 
 def lawful_rows(net):
-    """For each case every row whose start is at 0 and whose minutes are at most H, of which point 2 holds."""
-    rows = [(0, *rest) for rest in itertools.product(range(net[0] + 1), repeat=net[1] - 1)]
-    return [[row for row in rows if lawful(net, case, row)] for case in range(2 ** len(net[2]))]
+    """For each case every row whose start is at 0, whose minutes are at most H, and which is blank where an event does
+    not happen, of which point 2 holds."""
+    def rows(case):
+        cells = [range(net[0] + 1) if happens(net, case, event) else [BLANK] for event in range(1, net[1])]
+        return [(0, *rest) for rest in itertools.product(*cells)]
+    return [[row for row in rows(case) if lawful(net, case, row)] for case in range(2 ** len(net[2]))]
 
 
 def least(tables):
@@ -119,44 +172,52 @@ def outcome(net):
         good = [table for table in longer if keeps_point_3(net, table)]
     if not good:
         return ["none", "unheard"] if all(by_case) else ["none"]
-    rows = least(good)
+    columns = [{minute for minute in column if minute != BLANK} for column in zip(*least(good))]
     found = ["table"]
-    found += ["waits"] if any(map(any, rows)) else []
-    found += ["differs"] if any(row != rows[0] for row in rows) else []
+    found += ["waits"] if any(column - {0} for column in columns) else []
+    found += ["differs"] if any(len(column) > 1 for column in columns) else []
     return found
 
 
 def text(net):
-    horizon, events, signals, rules, reactions = net
+    horizon, events, signals, rules, reactions, labels = net
     names = distinct(events, name)
     letters = distinct(len(signals), lambda: one_of("abcdefghijklmnopqrstuvwxyz"))
     lines = [f"horizon,{horizon}", f"events,{events}", *names, f"signals,{len(signals)}"]
     lines += [f"{letter},{names[event]}" for letter, event in zip(letters, signals)]
     lines += [f"rules,{len(rules)}"]
+    literals = lambda label: "".join(("" if value else "!") + letters[signal] for signal, value in label) or "-"
     for kind, start, end, limit, asked in rules:
-        literals = "".join(("" if value else "!") + letters[signal] for signal, value in asked) or "-"
-        lines.append(f"{kind},{names[start]},{names[end]},{limit},{literals}")
+        lines.append(f"{kind},{names[start]},{names[end]},{limit},{literals(asked)}")
     order = distinct(len(signals), lambda: pick(0, len(signals) - 1))
     listed = [signal for signal in order if reactions[signal] > 1 or rng.random() < 0.2]
-    if listed or rng.random() < 0.1:
+    told_labels = []
+    if any(labels) or rng.random() < 0.1:
+        order = distinct(events, lambda: pick(0, events - 1))
+        named = [event for event in order if labels[event] or rng.random() < 0.2]
+        told_labels = [f"cases,{len(named)}"] + [f"{names[event]},{literals(labels[event])}" for event in named]
+    if listed or told_labels or rng.random() < 0.1:
         lines += [f"reactions,{len(listed)}"] + [f"{letters[signal]},{reactions[signal]}" for signal in listed]
+    lines += told_labels
     return "".join(line + "\n" for line in lines)
 
 
-# What a sheet is to show, by its place: half have a table. "waits": some minute is not 0; "differs": the cases' rows are not the same;
-# "unheard": every case by itself could be kept, and only point 3 forbids them together.
+# What a sheet is to show, by its place: half have a table. "waits": some minute is not 0; "differs": some event has
+# other minutes in other cases; "unheard": every case by itself could be kept, and only point 3 forbids them together.
 WANTED = ["differs", "unheard", "waits", "none", "table", "none"]
 
 
 def draw_sheet(place):
-    """Every 25th sheet is large. Of those that show one thing, every second has a reaction other than 1."""
+    """Every 25th sheet is large. Of those that show one thing, every second has a reaction other than 1, and half of
+    either kind have a labelled event."""
     wanted = WANTED[place % len(WANTED)]
-    slow = place // len(WANTED) % 2 == 1
+    slow, labelled = place // len(WANTED) % 2 == 1, place // len(WANTED) % 4 > 1
     large = place % (SHEETS // LARGE_SHEETS) == 0
     while True:
-        net = draw(slow)
+        net = draw(slow, labelled)
         in_range = MANY_TABLES < table_count(net) <= MOST_TABLES if large else table_count(net) <= MANY_TABLES
-        if in_range and any(reaction > 1 for reaction in net[4]) == slow and wanted in (shown := outcome(net)):
+        as_asked = any(reaction > 1 for reaction in net[4]) == slow and any(net[5]) == labelled
+        if in_range and as_asked and wanted in (shown := outcome(net)):
             return text(net), "table" in shown
 
 

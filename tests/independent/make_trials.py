@@ -1,6 +1,6 @@
 #!/usr/bin/env python3
-"""Writes the trial files of document 01 and of points 2, 3 and 4 of document 02: crates/trials/data/NNN.csv, NNN.tab,
-NNN.lst and titles.txt.
+"""Writes the trial files of document 01 and of points 2, 3, 4 and 6 of document 02: crates/trials/data/NNN.csv,
+NNN.tab, NNN.lst and titles.txt.
 
     make_trials.py          writes the files
     make_trials.py titled   copies standard input, the output of `compare expected crates/trials/data`, with each trial's title beside its
@@ -232,8 +232,9 @@ def late():
     free = sheet("start door", ["p,start"])
     trial("judged: all at the horizon exactly", free, "accepted 60 2 1 0\njudged pass\ncase,start,door\nF,0,60\nT,0,60", [0, 60, 0, 60])
     trial("judged: Late in case 1 comes before Rule in case 0", EXAMPLE, "accepted 60 3 1 3\njudged late 1 1\n...", [0, 4, 6, 0, 61, 20])
-    trial("judged: 65535 throughout", free, "accepted 60 2 1 0\njudged late 0 0\ncase,start,door\nF,65535,65535\nT,65535,65535", [65535] * 4)
-    trial("judged: 65535 in the last cell", free, "accepted 60 2 1 0\njudged late 1 1\ncase,start,door\nF,0,60\nT,0,65535", [0, 60, 0, 65535])
+    shown = "accepted 60 2 1 0\njudged {}\ncase,start,door\nF,{}\nT,{}"
+    trial("judged: 65535 throughout", free, shown.format("late 0 0", "-,-", "-,-"), [65535] * 4)
+    trial("judged: 65535 in the last cell", free, shown.format("late 1 1", "0,60", "0,-"), [0, 60, 0, 65535])
     week = sheet("start door", rules=["min,start,door,257,-"], horizon=10080)
     trial("judged: 10080 of 10080", week, "accepted 10080 2 0 1\njudged pass\ncase,start,door\n-,0,10080", [0, 10080])
     trial("judged: 10081 of 10080", week, "accepted 10080 2 0 1\njudged late 0 1\ncase,start,door\n-,0,10081", [0, 10081])
@@ -497,20 +498,21 @@ def around_their_end():
     trial("a reaction too few, and the sheet ends", slow(EXAMPLE, "p,2", count=2), "refused 2 line 14")
     trial("the last reaction has no line feed", slow(EXAMPLE, "p,2")[:-1], "refused 2 line 13")
     trial("the heading of the reactions has no line feed", slow(EXAMPLE)[:-1], "refused 2 line 12")
-    trial("a reaction too many", slow(EXAMPLE, "p,2", "p,2", count=1), "refused 10 line 14")
-    trial("a reaction where 0 are announced", slow(EXAMPLE, "p,2", count=0), "refused 10 line 13")
-    trial("the reactions twice", slow(slow(EXAMPLE, "p,2"), "p,2"), "refused 10 line 14")
-    trial("one lone line feed behind the reactions", slow(EXAMPLE, "p,2") + "\n", "refused 10 line 14")
-    trial("a byte without a line feed behind the reactions: never 2", slow(EXAMPLE) + "x", "refused 10 line 13")
+    trial("a reaction too many: not the heading of the labels", slow(EXAMPLE, "p,2", "p,2", count=1),
+          "refused 3 line 14")
+    trial("a reaction where 0 are announced", slow(EXAMPLE, "p,2", count=0), "refused 3 line 13")
+    trial("the reactions twice", slow(slow(EXAMPLE, "p,2"), "p,2"), "refused 3 line 14")
+    trial("one lone line feed behind the reactions", slow(EXAMPLE, "p,2") + "\n", "refused 3 line 14")
+    trial("a byte without a line feed behind the reactions", slow(EXAMPLE) + "x", "refused 2 line 13")
     padded = slow(EXAMPLE, "p,2")
-    trial("4,096 bytes, most of them behind the reactions", padded + "x" * (4096 - len(padded)), "refused 10 line 14")
+    trial("4,096 bytes, most of them behind the reactions", padded + "x" * (4096 - len(padded)), "refused 2 line 14")
     trial("4,097 bytes, most of them behind the reactions", padded + "x" * (4097 - len(padded)), "refused 1 line 0")
     ends = [f"max,e{i},e{j},{100 * i + j},-" for i in range(8) for j in range(8)]
     eight = " ".join(f"e{i}" for i in range(8)) + " x"
     over = slow(sheet(eight, rules=ends[:-1] + ["fix,e7,x,0,-"]))
     trial("65 rows would be left, no lines of reactions", over, "accepted 60 9 0 64" + zeros(eight),
           house="refused 17 line 0")
-    trial("65 rows would be left, and a byte follows the reactions: 10", over + "x", "refused 10 line 79")
+    trial("65 rows would be left, and a byte follows the reactions: 2", over + "x", "refused 2 line 79")
 
 
 def judged_reactions():
@@ -593,7 +595,7 @@ def listed_reactions():
     lines = [f"{letter},{minutes}" for letter, minutes in zip("wxyz", (60, 10, 59, 11))]
     form = slow(sheet(events, signals, rows, horizon=10080), *lines)
     assert len(form) == 2695
-    trial("the longest form there is, 2,695 bytes",
+    trial("the longest form without labels, 2,695 bytes",
           slow(sheet(events, signals, rows[::-1], horizon=10080), *lines[::-1]), "accepted 10080 16 4 64" + NO_TABLE,
           house=form)
 
@@ -635,8 +637,8 @@ def printed_back():
     reread("a minute over the horizon", rows("0,5,6", "0,5,61"), 6, "late 1 2")
     reread("a rule broken", rows("0,5,6", "0,5,19"), 6, "rule 1 1")
     reread("a signal not heard in its own minute", rows("0,5,5", "0,5,20"), 6, "unheard 0 1 2")
-    reread("65535, the last minute that is printed", rows("0,5,65535", "0,5,20"), 6, "late 0 2")
-    reread("65535 throughout", rows("65535,65535,65535", "65535,65535,65535"), 6, "late 0 0")
+    reread("a blank, which is 65535, where the event happens", rows("0,5,-", "0,5,20"), 6, "late 0 2")
+    reread("blanks throughout", rows("-,-,-", "-,-,-"), 6, "late 0 0")
     reread("one to four digits", rows("9,10,99", "100,999,1000"), 6, "late 0 0")
     reread("both bytes of a minute", rows("255,256,257", "9999,10000,65534"), 6, "late 0 0")
     retyped = sheet("start call door", ["p,call"], EXAMPLE_ROWS[::-1])
@@ -813,7 +815,10 @@ def misread_fields():
 
 def misread_minutes():
     of_call = lambda about, text: misread(about, line(2, f"F,0,{text},6", PRINTED), 19, 2)
-    for text in ["05", "00", "-0", "+5", "-5", "-1", " 5", "5 ", "-", "5-", "--5", "0x5", "5.0", "5e0", "five", "F"]:
+    for text in ["05", "00", "-0", "+5", "-5", "-1", " 5", "5 "]:
+        of_call(f"the minute {text!a}", text)
+    reread("the minute '-': a blank", line(2, "F,0,-,6", PRINTED), 6, "late 0 1")
+    for text in ["5-", "--5", "0x5", "5.0", "5e0", "five", "F"]:
         of_call(f"the minute {text!a}", text)
     for text in ["\xc8", "5\xc8", "\0", "5\0", "5\r", "\xb5"]:
         of_call(f"the minute {text!a}", text)
@@ -880,10 +885,368 @@ def refused_with_listings():
         line(2, "F,0,05,6", PRINTED))
     own("a refused sheet before 4,097 bytes of listing", EXAMPLE[:-1], "refused 2 line 11", "x" * 4097)
     own("4,097 bytes of sheet, and its listing", EXAMPLE + "x" * (4097 - len(EXAMPLE)), "refused 1 line 0", PRINTED)
-    own("bytes behind the reactions, and an empty listing: 10", slow(EXAMPLE, "p,2") + "x", "refused 10 line 14", "")
+    own("bytes behind the reactions, and an empty listing: 2", slow(EXAMPLE, "p,2") + "x", "refused 2 line 14", "")
     own("neither a sheet nor a listing", "", "refused 2 line 1", "")
     own("the listing in the sheet's place, and the sheet in its", PRINTED, "refused 3 line 1", EXAMPLE)
     misread("the sheet in the listing's place", EXAMPLE, 18, 1)
+
+
+def labelled():
+    """Events that only some cases have (02, point 6). The example has its labels from line 13 on."""
+    felt_labels()
+    covered_rules()
+    partly_given()
+    rings()
+    ill_told_labels()
+    label_lines()
+    around_the_labels()
+    twenty()
+    twenty_one()
+    judged_labels()
+    asked_labels()
+    reread_labels()
+    listed_labels()
+
+
+def only(of, *lines, count=None):
+    """A sheet with labels behind its reactions, and another count than that of their lines at times."""
+    return of + "".join(text + "\n" for text in [f"cases,{len(lines) if count is None else count}", *lines])
+
+
+# a key at 5 gives the duress signal p; it is turned again only where that is true
+KEY_EVENTS, KEY_SIGNALS = "start key again", ["p,key"]
+KEY_RULES = ["min,start,key,5,-", "min,key,again,3,-"]
+KEY = sheet(KEY_EVENTS, KEY_SIGNALS, KEY_RULES)
+KEY_FORM = sheet(KEY_EVENTS, KEY_SIGNALS, ["max,key,start,-5,-", "max,again,key,-3,-"])
+KEY_TABLE = "accepted 60 3 1 2\ncase,start,key,again\nF,0,5,{}\nT,0,5,{}"
+# the start gives p, and the call gives q where p is true only; q has weight 2
+GIVEN_RULES = ["min,start,call,4,-", "min,start,door,20,pq"]
+GIVEN = sheet("start call door", ["p,start", "q,call"], GIVEN_RULES)
+GIVEN_FORM = sheet("start call door", ["p,start", "q,call"], ["max,call,start,-4,-", "max,door,start,-20,pq"])
+BLANK = 65535
+
+
+def felt_labels():
+    trial("a second turn only after duress: the rule is felt, p counts from 6", only(slow(KEY), "again,p"),
+          KEY_TABLE.format("-", 8), house=only(slow(KEY_FORM), "again,p"))
+    for minutes, again in ((2, 8), (3, 8), (4, 9), (55, 60)):
+        trial(f"the same, and p counts after {minutes} minutes: the second turn at {again}",
+              only(slow(KEY, f"p,{minutes}"), "again,p"), KEY_TABLE.format("-", again),
+              house=only(slow(KEY_FORM, f"p,{minutes}"), "again,p"))
+    trial("the same, and p counts after 56 minutes: a minute past the horizon",
+          only(slow(KEY, "p,56"), "again,p"), "accepted 60 3 1 2" + NO_TABLE,
+          house=only(slow(KEY_FORM, "p,56"), "again,p"))
+    trial("a second turn only without duress", only(slow(KEY), "again,!p"), KEY_TABLE.format(8, "-"),
+          house=only(slow(KEY_FORM), "again,!p"))
+    trial("a second turn in every case: a line with -", only(slow(KEY), "again,-"), KEY_TABLE.format(8, 8),
+          house=KEY_FORM)
+    trial("no lines of labels", only(slow(KEY)), KEY_TABLE.format(8, 8), house="as before")
+    trial("a line with - for each event, the start too", only(slow(KEY), "again,-", "start,-", "key,-"),
+          KEY_TABLE.format(8, 8), house="as before")
+    bare = sheet("start key again", KEY_SIGNALS)
+    trial("no rules: the second turn waits for its label only", only(slow(bare, "p,7"), "again,p"),
+          "accepted 60 3 1 0\ncase,start,key,again\nF,0,0,-\nT,0,0,7", house=only(slow(bare, "p,7"), "again,p"))
+    both = sheet("start a b c", ["p,start", "q,a"])
+    # a waits for nothing, b for p from 1 on, c for p from 1 on and q from 3 on; p has weight 1
+    table = "accepted 60 4 2 0\ncase,start,a,b,c\nFF,0,0,-,-\nTF,0,0,1,3\nFT,0,0,-,-\nTT,0,0,1,-"
+    trial("a label of two letters waits for both", only(slow(both, "q,3"), "c,!qp", "b,p"), table,
+          house=only(slow(both, "q,3"), "b,p", "c,p!q"))
+
+
+def covered_rules():
+    apart = lambda *rules: sheet("start call door vault", ["p,call"], ["min,start,call,5,-", *rules])
+    two = lambda of: only(slow(of), "door,p", "vault,!p")
+    table = "accepted 60 4 1 {}\ncase,start,call,door,vault\nF,0,5,-,{}\nT,0,5,{},-"
+    trial("a rule between events of different cases covers nothing", two(apart("fix,door,vault,30,-")),
+          table.format(2, 6, 6), house=two(sheet("start call door vault", ["p,call"],
+          ["max,call,start,-5,-", "max,door,vault,30,-", "max,vault,door,-30,-"])))
+    trial("a rule covers where its event happens", two(apart("min,call,door,9,-", "max,vault,start,-20,-")),
+          table.format(3, 20, 14), house=two(sheet("start call door vault", ["p,call"],
+          ["max,call,start,-5,-", "max,door,call,-9,-", "max,vault,start,-20,-"])))
+    trial("a rule whose label contradicts its event's covers nothing", two(apart("min,start,door,50,!p")),
+          table.format(2, 6, 6), house=two(sheet("start call door vault", ["p,call"],
+          ["max,call,start,-5,-", "max,door,start,-50,!p"])))
+    trial("a blank is no minute: max from an event that is not there", two(apart("max,door,call,-1,-")),
+          table.format(2, 6, 6), house=two(sheet("start call door vault", ["p,call"],
+          ["max,call,start,-5,-", "max,door,call,-1,-"])))
+    trial("a rule from an event to itself, where it happens: no table", two(apart("max,door,door,-1,-")),
+          "accepted 60 4 1 2" + NO_TABLE, house=two(sheet("start call door vault", ["p,call"],
+          ["max,call,start,-5,-", "max,door,door,-1,-"])))
+    trial("the same labelled with what its event is not: covers nothing", two(apart("max,door,door,-1,!p")),
+          table.format(2, 6, 6), house=two(sheet("start call door vault", ["p,call"],
+          ["max,call,start,-5,-", "max,door,door,-1,!p"])))
+    trial("the door at 5 at the latest, and its label counts from 6: no table", two(apart("max,start,door,5,-")),
+          "accepted 60 4 1 2" + NO_TABLE, house=two(sheet("start call door vault", ["p,call"],
+          ["max,start,door,5,-", "max,call,start,-5,-"])))
+    trial("the door at 6 at the latest", two(apart("max,start,door,6,-")), table.format(2, 6, 6),
+          house=two(sheet("start call door vault", ["p,call"], ["max,start,door,6,-", "max,call,start,-5,-"])))
+
+
+def partly_given():
+    table = "accepted 60 3 2 2\ncase,start,call,door\nFF,0,-,1\nTF,0,4,{}\nFT,0,-,1\nTT,0,4,20"
+    trial("a signal given in some cases: where it is not, nothing tells its cases apart", only(slow(GIVEN), "call,p"),
+          table.format(5), house=only(slow(GIVEN_FORM), "call,p"))
+    trial("the same, and q counts after 10 minutes", only(slow(GIVEN, "q,10"), "call,p"), table.format(14),
+          house=only(slow(GIVEN_FORM, "q,10"), "call,p"))
+    # the call waits for p until 6; until then the door cannot know p either
+    trial("the same, and p counts after 6 minutes", only(slow(GIVEN, "p,6"), "call,p"),
+          "accepted 60 3 2 2\ncase,start,call,door\nFF,0,-,6\nTF,0,6,7\nFT,0,-,6\nTT,0,6,20",
+          house=only(slow(GIVEN_FORM, "p,6"), "call,p"))
+    trial("a door of one case of four", only(slow(GIVEN), "call,p", "door,qp"),
+          "accepted 60 3 2 2\ncase,start,call,door\nFF,0,-,-\nTF,0,4,-\nFT,0,-,-\nTT,0,4,20",
+          house=only(slow(GIVEN_FORM), "call,p", "door,pq"))
+    chain = sheet("start a b c", ["p,start", "q,a", "r,b"])
+    labels = ["a,p", "b,p!q", "c,p!qr"]
+    # a from 1 on, b from 1 + 2 on, c from 3 + 3 on; weights 1, 2 and 4
+    rows = ["FFF,0,-,-,-", "TFF,0,1,3,-", "FTF,0,-,-,-", "TTF,0,1,-,-"]
+    rows += ["FFT,0,-,-,-", "TFT,0,1,3,6", "FTT,0,-,-,-", "TTT,0,1,-,-"]
+    trial("each signal only after the one before", only(slow(chain, "q,2", "r,3"), *labels[::-1]),
+          "\n".join(["accepted 60 4 3 0", "case,start,a,b,c", *rows]), house=only(slow(chain, "q,2", "r,3"), *labels))
+
+
+def rings():
+    none = lambda of, form, about: trial(about, of, "accepted 60 3 1 2" + NO_TABLE, house=form)
+    none(only(slow(KEY), "key,p"), only(slow(KEY_FORM), "key,p"), "an event labelled with its own signal: no table")
+    none(only(slow(KEY), "key,!p"), only(slow(KEY_FORM), "key,!p"), "the same, false: no table")
+    none(only(slow(KEY), "key,p", "again,p"), only(slow(KEY_FORM), "key,p", "again,p"),
+         "an event that waits for one labelled with its own signal: no table")
+    pair = sheet("start a b", ["p,a", "q,b"], horizon=0)
+    ring = only(slow(pair), "a,pq", "b,qp")
+    trial("two events that wait for each other's signals: no table", ring, "accepted 0 3 2 0" + NO_TABLE,
+          house=only(slow(pair), "a,pq", "b,pq"))
+    long = sheet("start a b", ["p,a", "q,b"], horizon=10080)
+    trial("the same with the longest horizon and reactions of 60", only(slow(long, "p,60", "q,60"), "b,qp", "a,pq"),
+          "accepted 10080 3 2 0" + NO_TABLE, house=only(slow(long, "p,60", "q,60"), "a,pq", "b,pq"))
+    trial("two events labelled with the other's signal only: 21", only(slow(pair), "a,q", "b,p"), "refused 21 line 13")
+    ring = only(slow(pair), "a,p!q", "b,p!q")
+    trial("two events that wait for each other's signals, one of them false: no table", ring,
+          "accepted 0 3 2 0" + NO_TABLE, house=ring)
+
+
+def ill_told_labels():
+    def ill(text, number):
+        trial(f"the line {text!a} of labels", only(slow(EXAMPLE), text), f"refused {number} line 14")
+    for text in ("door", "door,p,", "", "door,p,p", ",,"):
+        ill(text, 3)
+    for text in ("Door,p", ",p", "door ,p", "doorsdoor,p", "1,p", "-,p"):
+        ill(text, 6)
+    for text in ("door,", "door,P", "door,p!", "door,!", "door,!!p", "door,--", "door,-p", "door,p-", "door,p\r"):
+        ill(text, 6)
+    for text in ("gate,p", "doo,p", "doors,p", "door,q", "door,pq", "door,!q", "gate,-"):
+        ill(text, 8)
+    for text in ("door,pp", "door,p!p", "door,!p!p"):
+        ill(text, 9)
+    second = lambda about, one, two, number: trial(about, only(slow(EXAMPLE), one, two), f"refused {number} line 15")
+    second("an event's second line", "door,p", "door,!p", 7)
+    second("an event's second line, the same", "door,p", "door,p", 7)
+    second("an event's second line, the first with -", "door,-", "door,p", 7)
+    second("an event's second line with -", "door,p", "door,-", 7)
+    second("two lines with - for one event", "door,-", "door,-", 7)
+    second("two lines with - for the start", "start,-", "start,-", 7)
+    second("one line, an event's second and an ill-formed label: 6", "door,p", "door,p!", 6)
+    second("one line, an event's second and an undefined letter: 7", "door,p", "door,q", 7)
+    second("one line, an event's second and a letter twice: 7", "door,p", "door,pp", 7)
+    second("one line, an undefined event and a letter twice: 8", "door,p", "gate,pp", 8)
+    second("one line, an undefined event and an ill-formed label: 6", "door,p", "gate,!", 6)
+    second("one line, an undefined letter twice: 8", "call,-", "door,qq", 8)
+    trial("a label where there is no signal", only(slow(sheet("start door")), "door,p"), "refused 8 line 9")
+
+
+def label_lines():
+    trial("4 labels for 3 events", only(slow(EXAMPLE), count=4), "refused 5 line 13")
+    trial("17 labels", only(slow(EXAMPLE), count=17), "refused 5 line 13")
+    trial("-1 labels", only(slow(EXAMPLE), count=-1), "refused 5 line 13")
+    trial("2^64 + 1 labels", only(slow(EXAMPLE), "door,p", count=18446744073709551617), "refused 5 line 13")
+    trial("the count of labels with a leading zero", only(slow(EXAMPLE), "door,p", count="01"), "refused 4 line 13")
+    trial("the count of labels -0", only(slow(EXAMPLE), count="-0"), "refused 4 line 13")
+    for text in ("cases", "cases,0,", "case,0", "Cases,0", "", "labels,0", " cases,0"):
+        trial(f"the heading {text!a} of labels", slow(EXAMPLE) + text + "\n", "refused 3 line 13")
+    trial("the labels straight behind the rules", only(EXAMPLE, "door,p"), "refused 3 line 12")
+    trial("the labels before the reactions", slow(only(EXAMPLE, "door,p"), "p,2"), "refused 3 line 12")
+    trial("the labels before the rules", line(8, "cases,0\nrules,3"), "refused 3 line 8")
+    most = sheet(" ".join(f"e{i}" for i in range(16)), ["p,e0"])
+    labels = [f"e{i},p" for i in range(1, 16)]
+    names = "\ncase," + ",".join(f"e{i}" for i in range(16))
+    trial("a line for each of 16 events", only(slow(most), "e0,-", *labels),
+          "accepted 60 16 1 0" + names + "\nF,0" + ",-" * 15 + "\nT,0" + ",1" * 15, house=only(slow(most), *labels))
+
+
+def around_the_labels():
+    trial("the heading of the labels has no line feed", only(slow(EXAMPLE))[:-1], "refused 2 line 13")
+    trial("the last label has no line feed", only(slow(EXAMPLE), "door,p")[:-1], "refused 2 line 14")
+    trial("a label too few, and the sheet ends", only(slow(EXAMPLE), "door,p", count=2), "refused 2 line 15")
+    trial("a label too many", only(slow(EXAMPLE), "door,p", "call,-", count=1), "refused 10 line 15")
+    trial("a label where 0 are announced", only(slow(EXAMPLE), "door,p", count=0), "refused 10 line 14")
+    trial("the labels twice", only(only(slow(EXAMPLE), "door,p"), "door,p"), "refused 10 line 15")
+    trial("one lone line feed behind the labels", only(slow(EXAMPLE), "door,p") + "\n", "refused 10 line 15")
+    trial("a byte without a line feed behind the labels: never 2", only(slow(EXAMPLE)) + "x", "refused 10 line 14")
+    padded = only(slow(EXAMPLE, "p,2"), "door,p")
+    trial("4,096 bytes, most of them behind the labels", padded + "x" * (4096 - len(padded)), "refused 10 line 16")
+    trial("4,097 bytes, most of them behind the labels", padded + "x" * (4097 - len(padded)), "refused 1 line 0")
+    ends = [f"max,e{i},e{j},{100 * i + j},-" for i in range(8) for j in range(8)]
+    eight = " ".join(f"e{i}" for i in range(8)) + " x"
+    over = only(slow(sheet(eight, rules=ends[:-1] + ["fix,e7,x,0,-"])))
+    trial("65 rows would be left, no lines of labels", over, "accepted 60 9 0 64" + zeros(eight),
+          house="refused 17 line 0")
+    trial("65 rows would be left, and a byte follows the labels: 10", over + "x", "refused 10 line 80")
+
+
+def twenty():
+    of = lambda *lines, **count: only(slow(EXAMPLE), *lines, **count)
+    trial("the start labelled: 20", of("start,p"), "refused 20 line 14")
+    trial("the start labelled, false: 20", of("start,!p"), "refused 20 line 14")
+    trial("20 is given with the last line", of("start,p", "door,-", "call,-"), "refused 20 line 16")
+    trial("the start labelled in the last line", of("call,-", "start,p"), "refused 20 line 15")
+    trial("20 comes behind a fault of a later line", of("start,p", "door,q"), "refused 8 line 15")
+    trial("20 comes behind a missing line", of("start,p", count=2), "refused 2 line 15")
+    trial("20 comes before bytes behind the section", of("start,p") + "x", "refused 20 line 14")
+    pair = lambda *lines: only(slow(PAIR), *lines)
+    trial("20 and 21, by an event: 20", pair("start,q", "call,p", "door,q"), "refused 20 line 17")
+    trial("20 and 21, by a rule: 20", pair("call,p", "start,p"), "refused 20 line 16")
+    trial("20 and 21, by the start's own label: 20", pair("start,q", "call,p"), "refused 20 line 16")
+
+
+def twenty_one():
+    bare = sheet("start call door", ["p,start", "q,call"])
+    of = lambda *lines: only(slow(bare), *lines)
+    trial("21 by an event: q is given where p is true", of("call,p", "door,q"), "refused 21 line 13")
+    trial("21 by an event whose line comes first", of("door,q", "call,p"), "refused 21 line 13")
+    trial("21 is given with the last line", of("door,q", "call,p", "start,-"), "refused 21 line 14")
+    trial("21: the letter is there with the other sign", of("call,p", "door,q!p"), "refused 21 line 13")
+    trial("21: the false letter is used too", of("call,p", "door,!q"), "refused 21 line 13")
+    rows = lambda *rows: "\n".join(["accepted 60 3 2 0", "case,start,call,door", *rows])
+    trial("the whole label of the giver: accepted", of("call,p", "door,!qp"),
+          rows("FF,0,-,-", "TF,0,1,2", "FT,0,-,-", "TT,0,1,-"), house=of("call,p", "door,p!q"))
+    rule = lambda label, *lines: only(slow(sheet("start call door", ["p,start", "q,call"],
+                                                 [f"min,start,door,9,{label}"])), *lines)
+    trial("21 by a rule", rule("q", "call,p"), "refused 21 line 13")
+    trial("21 by a rule with the other sign", rule("!pq", "call,p"), "refused 21 line 13")
+    trial("21 by a rule, and by no label of an event", rule("!q", "door,p", "call,p"), "refused 21 line 14")
+    table = "accepted 60 3 2 1\ncase,start,call,door\nFF,0,-,1\nTF,0,1,2\nFT,0,-,1\nTT,0,1,9"
+    form = only(slow(sheet("start call door", ["p,start", "q,call"], ["max,door,start,-9,pq"])), "call,p")
+    trial("a rule with the whole label: accepted", rule("qp", "call,p"), table, house=form)
+    chain = lambda label: only(slow(sheet("start a b c", ["p,start", "q,a", "r,b"])), "a,p", "b,pq", "c," + label)
+    for label in ("r", "rq", "rp", "!r!pq"):
+        trial(f"21 of a chain of three signals: the label {label}", chain(label), "refused 21 line 16")
+    trial("21 comes behind a fault of a later line", of("call,p", "door,q", "gate,p"), "refused 8 line 14")
+    trial("21 comes before bytes behind the section", of("call,p", "door,q") + "\n", "refused 21 line 13")
+
+
+def judged_labels():
+    of, form = [only(slow(text, "p,2"), "again,p") for text in (KEY, KEY_FORM)]
+
+    def one(about, verdict, table, house="as before"):
+        shown = ["-" if minute == BLANK else str(minute) for minute in table]
+        rows = ["case,start,key,again", ",".join(["F", *shown[:3]]), ",".join(["T", *shown[3:]])]
+        trial("judged: " + about, of, "\n".join(["accepted 60 3 1 2", "judged " + verdict, *rows]), table, house=house)
+
+    one("a second turn after duress", "pass", [0, 5, BLANK, 0, 5, 8], form)
+    one("a later second turn", "pass", [0, 5, BLANK, 0, 5, 60])
+    one("wrongly filled", "late 0 2", [0, 5, 8, 0, 5, 8])
+    one("wrongly filled with 0", "late 0 2", [0, 5, 0, 0, 5, 8])
+    one("wrongly filled with 65534", "late 0 2", [0, 5, 65534, 0, 5, 8])
+    one("wrongly blank", "late 1 2", [0, 5, BLANK, 0, 5, BLANK])
+    one("filled and blank exchanged", "late 0 2", [0, 5, 8, 0, 5, BLANK])
+    one("sooner than its label allows", "late 1 2", [0, 5, BLANK, 0, 5, 6])
+    one("just in time for its label, and a rule broken", "rule 1 1", [0, 5, BLANK, 0, 5, 7])
+    one("a giver wrongly blank", "late 0 1", [0, BLANK, BLANK, 0, 5, 8])
+    one("a giver wrongly blank where its signal is waited for", "late 1 1", [0, 5, BLANK, 0, BLANK, 8])
+    one("sooner than its label allows comes before a rule broken in case 0", "late 1 2", [0, 4, BLANK, 0, 4, 5])
+    one("blanks throughout", "late 0 0", [BLANK] * 6)
+    first = only(slow(sheet("start again key", ["p,key"])), "again,p")
+    late = lambda about, verdict, table, house="as before": trial(
+        "judged: " + about, first, f"accepted 60 3 1 0\njudged {verdict}\n...", table, house=house)
+    late("a waiting cell before the giver that is blank", "late 1 1", [0, BLANK, 5, 0, 8, BLANK], first)
+    late("a waiting cell before the giver that is late", "late 1 1", [0, BLANK, 5, 0, 60, 61])
+    late("the giver late in a case where nothing waits for it", "late 0 2", [0, BLANK, 61, 0, 8, 5])
+    two = only(slow(GIVEN), "call,p")
+    both = lambda about, verdict, doors, house="as before": trial(
+        "judged: " + about, two, f"accepted 60 3 2 2\njudged {verdict}\n...",
+        [0, BLANK, doors[0], 0, 4, doors[1], 0, BLANK, doors[2], 0, 4, doors[3]], house=house)
+    both("a signal given in some cases", "pass", [1, 5, 1, 20], only(slow(GIVEN_FORM), "call,p"))
+    both("a signal that is not given tells nothing apart", "unheard 0 2 2", [1, 5, 2, 20])
+    both("nor at any later minute", "unheard 0 2 2", [50, 5, 60, 20])
+    both("where it is given, it tells cases apart", "pass", [1, 6, 1, 20])
+    both("a minute too soon for it", "unheard 1 3 2", [1, 4, 1, 20])
+    door = only(slow(sheet("start call door", ["p,start"])), "door,p")
+    trial("judged: events of one case only are not compared", door, "accepted 60 3 1 0\njudged pass\n...",
+          [0, 0, BLANK, 0, 0, 1], house=door)
+    trial("judged: others still are", door, "accepted 60 3 1 0\njudged unheard 0 1 1\n...",
+          [0, 0, BLANK, 0, 1, 1], house="as before")
+
+
+def asked_labels():
+    of = lambda minutes: only(slow(KEY, f"p,{minutes}"), "again,p")
+    form = lambda minutes: only(slow(KEY_FORM, f"p,{minutes}"), "again,p")
+    trial("asked: a blank is never due", only(slow(KEY), "again,p"), KEY_TABLE.format("-", 8),
+          house=only(slow(KEY_FORM), "again,p"),
+          asked=["0 1 r16.0 r16.0", "6 r16.0 0 0", "60 r16.0 0 0", "65535 r16.0 0 0"])
+    trial("asked at 6: p counts after 2, not yet", of(2), KEY_TABLE.format("-", 8), house=form(2),
+          asked=["6 0 r16.0 r16.0"])
+    trial("asked at 60: the second turn is due where p was heard", of(55), KEY_TABLE.format("-", 60), house=form(55),
+          asked=["60 r16.0 4 0", "65535 r16.0 0 0"])
+    # q is given where p is true: lists are none, p, !p, then q and p true, false, and q true and p false
+    trial("asked: a signal that is not given is never heard", only(slow(GIVEN), "call,p"),
+          "accepted 60 3 2 2\ncase,start,call,door\nFF,0,-,1\nTF,0,4,5\nFT,0,-,1\nTT,0,4,20",
+          house=only(slow(GIVEN_FORM), "call,p"),
+          asked=["1 r16.0 0 4 r16.0 r16.0 r16.0", "6 r16.0 r16.0 0 0 r16.0 r16.0", "65535 r16.0 r16.0 0 0 r16.0 r16.0"])
+
+
+def reread_labels():
+    of = {"of": only(slow(KEY), "again,p"), "accepted": "60 3 1 2"}
+    listing = lambda false, true: f"case,start,key,again\nF,{false}\nT,{true}\n"
+    form = only(slow(KEY_FORM), "again,p")
+    reread("a second turn after duress", listing("0,5,-", "0,5,8"), 6, "pass", house=form, **of)
+    reread("a blank wrongly filled", listing("0,5,8", "0,5,8"), 6, "late 0 2", **of)
+    reread("65534, the last minute that is printed in digits", listing("0,5,65534", "0,5,8"), 6, "late 0 2", **of)
+    reread("a minute wrongly blank", listing("0,5,-", "0,5,-"), 6, "late 1 2", **of)
+    reread("a blank start", listing("-,5,-", "0,5,8"), 6, "late 0 0", **of)
+    for text in ("65535", "--", " -", "- ", "-0", "", "+", "065535", "-65535"):
+        misread(f"a blank written {text!a}", listing("0,5," + text, "0,5,8"), 19, 2, **of)
+    misread("65535 in the last row", listing("0,5,-", "0,65535,8"), 19, 3, **of)
+    misread("a blank and its comma left out", listing("0,5", "0,5,8"), 18, 2, **of)
+    marked = "case,start,key,again\nF,0,5,65535\nt,0,5,8\n"
+    misread("65535 for a blank, and a mark in the next row: 18", marked, 18, 3, **of)
+    misread("a CR behind a blank", listing("0,5,-\r", "0,5,8"), 19, 2, **of)
+    alone = sheet("start")
+    reread("start alone, blank", "case,start\n-,-\n", 1, "late 0 0", of=alone, accepted="60 1 0 0", house=alone)
+
+
+def listed_labels():
+    events, signals = "start call door vault", ["q,call", "p,start"]
+    typed, form = sheet(events, signals, ["min,start,call,2,-"]), sheet(events, signals, ["max,call,start,-2,-"])
+    # q has weight 1; p counts from 1 on and q from 3 on, the call is at 2 where p is true
+    table = "accepted 60 4 2 1\ncase,start,call,door,vault\nFF,0,-,-,0\nTF,0,-,-,0\nFT,0,2,-,0\nTT,0,2,3,0"
+    one = lambda about, text, house="as before": trial("labelled procedure, " + about, text, table, house=house)
+    one("lines in event order, letters in signal order", only(slow(typed), "door,pq", "call,p"),
+        only(slow(form), "call,p", "door,qp"))
+    one("in event order already", only(slow(typed), "call,p", "door,pq"))
+    one("letters in signal order already", only(slow(typed), "call,p", "door,qp"))
+    one("a line with -", only(slow(typed), "vault,-", "door,qp", "start,-", "call,p"))
+    one("lines of reactions of 1", only(slow(typed, "p,1", "q,1"), "door,qp", "call,p"))
+    one("its rule the other way round", only(slow(form), "door,qp", "call,p"))
+    one("as its house form", only(slow(form), "call,p", "door,qp"))
+    table = table.replace("TT,0,2,3", "TT,0,2,4")
+    one("a reaction of 2: no reactions,0", only(slow(typed, "q,2"), "door,pq", "call,p"),
+        only(slow(form, "q,2"), "call,p", "door,qp"))
+    table = table.replace("FT,0,2,-", "FT,0,2,4").replace("TT,0,2,4", "TT,0,2,-")
+    one("another sign: another form", only(slow(typed, "q,2"), "door,p!q", "call,p"),
+        only(slow(form, "q,2"), "call,p", "door,!qp"))
+    table = table.replace("FT,0,2,4", "FT,0,2,1").replace("TT,0,2,-", "TT,0,2,1")
+    one("a letter less: another form", only(slow(typed, "q,2"), "door,p", "call,p"),
+        only(slow(form, "q,2"), "call,p", "door,p"))
+    table = table.replace("FF,0,-,-", "FF,0,-,0").replace("TF,0,-,-", "TF,0,-,0").replace(",2,1", ",2,0")
+    one("no label: another form", only(slow(typed, "q,2"), "door,-", "call,p"), only(slow(form, "q,2"), "call,p"))
+    names = [f"event{i:03}" for i in range(16)]
+    signals = [f"{letter},event{i:03}" for i, letter in enumerate("wxyz")]
+    rows = [f"max,event{i:03},event{j:03},-10080,!w!x!y!z" for i in range(12, 16) for j in range(16)]
+    lines = [f"{letter},{minutes}" for letter, minutes in zip("wxyz", (60, 10, 59, 11))]
+    labels = [f"{name},!w!x!y!z" for name in names[1:]]
+    form = only(slow(sheet(" ".join(names), signals, rows, horizon=10080), *lines), *labels)
+    assert len(form) == 2974
+    trial("the longest form there is, 2,974 bytes",
+          only(slow(sheet(" ".join(names), signals, rows[::-1], horizon=10080), *lines[::-1]), *labels[::-1]),
+          "accepted 10080 16 4 64" + NO_TABLE, house=form)
 
 
 def write():
@@ -989,6 +1352,7 @@ tables()
 house_forms()
 reactions()
 returned()
+labelled()
 
 if sys.argv[1:] == ["check"]:
     check()

@@ -1,4 +1,4 @@
-//! Document 01, and points 1, 2, 3, 4 and 8 of document 02, in plain Rust, written from the papers alone.
+//! Document 01, and points 1, 2, 3, 4, 6 and 8 of document 02, in plain Rust, written from the papers alone.
 //!
 //! Nothing here is fast or clever on purpose: each function renders one rule of the paper, and its comment says which.
 //! Quoted words are those of the papers. "Readings" are those of docs/DECISIONS.md, 8, 16, 20, 44 and 48.
@@ -24,8 +24,10 @@ pub const REACTION_MOST: i64 = 60;
 pub const NAME_MOST: usize = 8;
 /// Refusal 18: "the listing is longer than 4,096 bytes".
 pub const LISTING_MOST: usize = 4096;
-/// In a listing "Minutes run to 65,535 as the writer allows."
-pub const MINUTE_MOST: i64 = 65_535;
+/// "A cell without its event holds 65,535", and "that number is printed `-`".
+pub const BLANK: u16 = 65_535;
+/// In a listing "the digits 65535 are refused with 19".
+pub const MINUTE_MOST: i64 = 65_534;
 
 /// "A refusal gives its number and a line, the first line being 1."
 #[derive(Clone, Copy, Debug, PartialEq, Eq)]
@@ -49,23 +51,28 @@ pub struct Signal {
     pub reaction: i64,
 }
 
-/// A rule line; the label is the list of its signals, each with the truth that it asks (none for `-`).
+/// A list of signals, each with the truth that is asked (none for `-`).
+pub type Label = Vec<(usize, bool)>;
+
+/// A rule line.
 #[derive(Clone, Debug, PartialEq, Eq)]
 pub struct Rule {
     pub kind: Kind,
     pub from: usize,
     pub to: usize,
     pub limit: i64,
-    pub label: Vec<(usize, bool)>,
+    pub label: Label,
 }
 
-/// What a sheet says. An event is the place of its name in the sheet.
+/// What a sheet says. An event is the place of its name in the sheet; each has a label, of no letters where the sheet
+/// gives it none.
 #[derive(Clone, Debug, PartialEq, Eq)]
 pub struct Net {
     pub horizon: i64,
     pub events: Vec<Range<usize>>,
     pub signals: Vec<Signal>,
     pub rules: Vec<Rule>,
+    pub labels: Vec<Label>,
 }
 
 /// "The verdict is either a pass or a breach, and the breach is itself one of three."
@@ -97,11 +104,42 @@ impl Net {
     pub fn is_slow(&self) -> bool {
         self.signals.iter().any(|signal| signal.reaction != 1)
     }
+
+    /// Whether some event has a label "other than `-`".
+    pub fn is_labelled(&self) -> bool {
+        self.labels.iter().any(|label| !label.is_empty())
+    }
+
+    /// "An event happens where its label holds."
+    pub fn happens(&self, case: usize, event: usize) -> bool {
+        holds_in(&self.labels[event], case)
+    }
+
+    /// Whether a signal is given in a case: whether its event happens there.
+    pub fn gives(&self, case: usize, signal: usize) -> bool {
+        self.happens(case, self.signals[signal].event)
+    }
+
+    /// "A rule covers a case only if both its events happen there", and where its label holds.
+    pub fn covers(&self, rule: &Rule, case: usize) -> bool {
+        holds_in(&rule.label, case) && self.happens(case, rule.from) && self.happens(case, rule.to)
+    }
+
+    /// The happening cells other than the start's.
+    pub fn free_cells(&self) -> usize {
+        let of_case = |case: usize| (1..self.events.len()).filter(|&event| self.happens(case, event)).count();
+        (0..self.cases()).map(of_case).sum()
+    }
 }
 
 /// "the signal is true where its weight is in the case number"; the first signal has weight 1, the next 2, and so on.
 pub fn truth(case: usize, signal: usize) -> bool {
     (case >> signal) & 1 == 1
+}
+
+/// A case agrees with a label when each letter has the truth that the label asks.
+pub fn holds_in(label: &[(usize, bool)], case: usize) -> bool {
+    label.iter().all(|&(signal, asked)| truth(case, signal) == asked)
 }
 
 // ---------------------------------------------------------------- The sheet
@@ -113,11 +151,12 @@ pub fn read(sheet: &[u8]) -> Result<Net, Refusal> {
     }
     let mut lines = Lines { sheet, at: 0, number: 0 };
     let horizon = lines.section(b"horizon", 0, MINUTES_MOST)?;
-    let mut net = Net { horizon, events: vec![], signals: vec![], rules: vec![] };
+    let mut net = Net { horizon, events: vec![], signals: vec![], rules: vec![], labels: vec![] };
     for _ in 0..lines.section(b"events", 1, EVENTS_MOST)? {
         let line = lines.take()?;
         let name = event_line(sheet, line, &net).map_err(|number| lines.refuse(number))?;
         net.events.push(name);
+        net.labels.push(vec![]);
     }
     for _ in 0..lines.section(b"signals", 0, SIGNALS_MOST)? {
         let line = lines.take()?;
@@ -131,6 +170,9 @@ pub fn read(sheet: &[u8]) -> Result<Net, Refusal> {
     }
     if !lines.at_end() {
         lines.reactions(&mut net)?;
+    }
+    if !lines.at_end() {
+        lines.labels(&mut net)?;
     }
     lines.end()?;
     Ok(net)
@@ -186,12 +228,32 @@ impl Lines<'_> {
         Ok(())
     }
 
+    /// "A section `cases,c` (c from 0 to n) may follow `reactions`, with lines `event,label`"; "any byte after
+    /// `reactions` begins this section". 20 and 21 are "judged on and given with the section's last line, 20 first".
+    /// Readings: "With `cases,0` neither 20 nor 21 arises."
+    fn labels(&mut self, net: &mut Net) -> Result<(), Refusal> {
+        let mut seen = vec![];
+        for _ in 0..self.section(b"cases", 0, net.events.len() as i64)? {
+            let line = self.take()?;
+            let read = label_line(self.sheet, line, net, &seen);
+            let (event, label) = read.map_err(|number| self.refuse(number))?;
+            net.labels[event] = label;
+            seen.push(event);
+        }
+        match seen.is_empty() {
+            false if !net.labels[0].is_empty() => Err(self.refuse(20)),
+            false if !all_complete(net) => Err(self.refuse(21)),
+            _ => Ok(()),
+        }
+    }
+
     fn at_end(&self) -> bool {
         self.at == self.sheet.len()
     }
 
-    /// "A sheet that ends after its rules is still good", and "refusal 10 now means bytes after" the reactions; its
-    /// line is the one that they begin. Readings: never 2, and one line feed is enough.
+    /// "A sheet that ends after its rules is still good", as is one that ends after its reactions; "Refusal 10 moves
+    /// to the end of" the section of labels, and its line is the one that bytes behind it begin. Readings: never 2,
+    /// and one line feed is enough.
     fn end(&mut self) -> Result<(), Refusal> {
         self.number += 1;
         if self.at_end() { Ok(()) } else { Err(self.refuse(10)) }
@@ -270,6 +332,37 @@ fn reaction_line(line: &[u8], net: &Net, seen: &[u8]) -> Result<(usize, i64), u8
 fn slow_letter(net: &Net, field: &[u8], seen: &[u8]) -> Result<usize, u8> {
     let letter = one_letter(field)?;
     if seen.contains(&letter) { Err(7) } else { find_signal(net, letter).ok_or(8) }
+}
+
+/// `event,label`, where these events have a line already: the event and its label. Refusals 3, 6, 7, 8 and 9.
+fn label_line(sheet: &[u8], line: Range<usize>, net: &Net, seen: &[usize]) -> Result<(usize, Label), u8> {
+    let fields = fields(&sheet[line]);
+    if fields.len() != 2 {
+        return Err(3);
+    }
+    let event = used_event(sheet, net, fields[0]).and_then(|event| first_line(event, seen));
+    let label = label(net, fields[1]);
+    match (event, label) {
+        (Ok(event), Ok(label)) => Ok((event, label)),
+        (event, label) => Err(lowest(&[event.err(), label.err()]).unwrap()),
+    }
+}
+
+/// "an event's second line is refused with 7".
+fn first_line(event: usize, seen: &[usize]) -> Result<usize, u8> {
+    if seen.contains(&event) { Err(7) } else { Ok(event) }
+}
+
+/// 21: "an event's or rule's label lacks part of the label of an event whose signal it uses". Its parts are its signed
+/// letters.
+fn all_complete(net: &Net) -> bool {
+    let labels = net.labels.iter().chain(net.rules.iter().map(|rule| &rule.label));
+    labels.into_iter().all(|label| is_complete(net, label))
+}
+
+fn is_complete(net: &Net, label: &[(usize, bool)]) -> bool {
+    let asked_by = |&(signal, _): &(usize, bool)| &net.labels[net.signals[signal].event];
+    label.iter().flat_map(asked_by).all(|part| label.contains(part))
 }
 
 /// "An event gives at most one signal" (7).
@@ -357,7 +450,7 @@ fn magnitude(digits: &[u8]) -> i64 {
 }
 
 /// "A label is `-` (every case) or one or more letters, each with an optional `!` before it" (6), each defined (8), none twice (9).
-fn label(net: &Net, field: &[u8]) -> Result<Vec<(usize, bool)>, u8> {
+fn label(net: &Net, field: &[u8]) -> Result<Label, u8> {
     let letters = letters(field).ok_or(6)?;
     if letters.iter().any(|&(letter, _)| find_signal(net, letter).is_none()) {
         return Err(8);
@@ -396,11 +489,6 @@ fn letters(field: &[u8]) -> Option<Vec<(u8, bool)>> {
 
 // ---------------------------------------------------------------- Good tables and the judge
 
-/// A case agrees with a label when each letter has the truth that the label asks.
-pub fn agrees(rule: &Rule, case: usize) -> bool {
-    rule.label.iter().all(|&(signal, asked)| truth(case, signal) == asked)
-}
-
 /// Whether minute(to) - minute(from) is as the rule's kind asks.
 pub fn holds(rule: &Rule, from: u16, to: u16) -> bool {
     let difference = i64::from(to) - i64::from(from);
@@ -411,31 +499,51 @@ pub fn holds(rule: &Rule, from: u16, to: u16) -> bool {
     }
 }
 
-/// Point 1 for one cell: "at most H, and the start is at minute 0".
-fn on_time(net: &Net, table: &[u16], case: usize, event: usize) -> bool {
-    let minute = i64::from(table[net.cell(case, event)]);
-    minute <= net.horizon && (event != 0 || minute == 0)
+/// The minutes of one case.
+fn row<'a>(net: &Net, table: &'a [u16], case: usize) -> &'a [u16] {
+    &table[net.cell(case, 0)..net.cell(case + 1, 0)]
 }
 
-/// Point 2 for one case and rule.
-fn rule_kept(net: &Net, table: &[u16], case: usize, rule: &Rule) -> bool {
-    !agrees(rule, case) || holds(rule, table[net.cell(case, rule.from)], table[net.cell(case, rule.to)])
+/// Point 1 for one cell of a case's row: "at most H, and the start is at minute 0"; and not "wrongly filled, wrongly
+/// blank or sooner than its label's signals allow".
+fn on_time(net: &Net, row: &[u16], case: usize, event: usize) -> bool {
+    let minute = i64::from(row[event]);
+    match net.happens(case, event) {
+        false => row[event] == BLANK,
+        true => minute <= net.horizon && (event != 0 || minute == 0) && waits_kept(net, row, event),
+    }
 }
 
-/// "a signal now counts once its minute plus its reaction is at most the minute in question".
-fn counts(net: &Net, table: &[u16], case: usize, signal: &Signal, minute: u16) -> bool {
-    i64::from(table[net.cell(case, signal.event)]) + signal.reaction <= i64::from(minute)
+/// "An event comes no sooner than each signal in its label plus that signal's reaction." Readings: this goes by number,
+/// so nothing may wait for a cell that is blank.
+fn waits_kept(net: &Net, row: &[u16], event: usize) -> bool {
+    let known = |signal: &Signal| i64::from(row[signal.event]) + signal.reaction;
+    net.labels[event].iter().all(|&(signal, _)| known(&net.signals[signal]) <= i64::from(row[event]))
+}
+
+/// Point 2 for one case, given by its row, and one rule.
+fn rule_kept(net: &Net, row: &[u16], case: usize, rule: &Rule) -> bool {
+    !net.covers(rule, case) || holds(rule, row[rule.from], row[rule.to])
+}
+
+/// "a signal now counts once its minute plus its reaction is at most the minute in question"; one that is not given in
+/// the case never does.
+fn counts(net: &Net, table: &[u16], case: usize, signal: usize, minute: u16) -> bool {
+    let Signal { event, reaction, .. } = net.signals[signal];
+    net.gives(case, signal) && i64::from(table[net.cell(case, event)]) + reaction <= i64::from(minute)
 }
 
 /// Point 3's condition: "no signal on which s and r differ" counts, in s, at the minute of u in s.
 fn cannot_tell(net: &Net, table: &[u16], s: usize, r: usize, u: usize) -> bool {
-    let heard = |signal: usize| counts(net, table, s, &net.signals[signal], table[net.cell(s, u)]);
+    let heard = |signal: usize| counts(net, table, s, signal, table[net.cell(s, u)]);
     !(0..net.signals.len()).any(|signal| truth(s, signal) != truth(r, signal) && heard(signal))
 }
 
-/// Point 3 for s, r and u: "then u has the same minute in s and in r".
+/// Point 3 for s, r and u: "then u has the same minute in s and in r". It "compares only events that happen in both
+/// cases".
 fn same_unless_told(net: &Net, table: &[u16], s: usize, r: usize, u: usize) -> bool {
-    !cannot_tell(net, table, s, r, u) || table[net.cell(s, u)] == table[net.cell(r, u)]
+    let in_both = net.happens(s, u) && net.happens(r, u);
+    !in_both || !cannot_tell(net, table, s, r, u) || table[net.cell(s, u)] == table[net.cell(r, u)]
 }
 
 /// The judge. "Points 1, 2, 3 are tried in that order, and the first breach ends the search." The table has n × 2^k numbers.
@@ -451,7 +559,7 @@ pub fn judge(net: &Net, table: &[u16]) -> Verdict {
 fn first_late(net: &Net, table: &[u16]) -> Option<Verdict> {
     for case in 0..net.cases() {
         for event in 0..net.events.len() {
-            if !on_time(net, table, case, event) {
+            if !on_time(net, row(net, table, case), case, event) {
                 return Some(Verdict::Late { case, event });
             }
         }
@@ -463,7 +571,7 @@ fn first_late(net: &Net, table: &[u16]) -> Option<Verdict> {
 fn first_rule(net: &Net, table: &[u16]) -> Option<Verdict> {
     for case in 0..net.cases() {
         for (rule, line) in net.rules.iter().enumerate() {
-            if !rule_kept(net, table, case, line) {
+            if !rule_kept(net, row(net, table, case), case, line) {
                 return Some(Verdict::Rule { case, rule });
             }
         }
@@ -491,20 +599,28 @@ fn first_unheard(net: &Net, table: &[u16]) -> Option<Verdict> {
 ///
 /// All cells start at 0, so at or below every good table. A cell is raised only as far as it stands in every good table, so this
 /// stays true, and a cell beyond its highest minute shows that there is no good table. Cells that rose wait in a queue until
-/// everything that they force has been looked at.
+/// everything that they force has been looked at. Cells without their event are never raised, and blank at the end.
 pub fn solve(net: &Net) -> Option<Vec<u16>> {
     let mut raising = Raising::new(net);
     while let Some((case, event)) = raising.next() {
         raising.force_by_rules(case, event);
         raising.force_in_other_cases(case, event);
         raising.force_by_signal(case, event);
+        raising.force_waits(case, event);
         if raising.too_late {
             return None;
         }
     }
-    let table: Vec<u16> = raising.minutes.iter().map(|&minute| minute as u16).collect();
+    let table = with_blanks(net, &raising.minutes);
     assert_eq!(judge(net, &table), Verdict::Pass, "the raised table is not good");
     Some(table)
+}
+
+/// A table of these minutes, in which "A cell without its event holds 65,535".
+pub fn with_blanks(net: &Net, minutes: &[i64]) -> Vec<u16> {
+    let events = net.events.len();
+    let number = |cell: usize| if net.happens(cell / events, cell % events) { minutes[cell] as u16 } else { BLANK };
+    (0..net.cells()).map(number).collect()
 }
 
 struct Raising<'a> {
@@ -517,8 +633,10 @@ struct Raising<'a> {
 
 impl<'a> Raising<'a> {
     fn new(net: &'a Net) -> Self {
-        let cells = net.cells();
-        Raising { net, minutes: vec![0; cells], queue: (0..cells).collect(), queued: vec![true; cells], too_late: false }
+        let (cells, events) = (net.cells(), net.events.len());
+        let happens = |cell: usize| net.happens(cell / events, cell % events);
+        let (queue, queued) = ((0..cells).filter(|&cell| happens(cell)).collect(), (0..cells).map(happens).collect());
+        Raising { net, minutes: vec![0; cells], queue, queued, too_late: false }
     }
 
     fn next(&mut self) -> Option<(usize, usize)> {
@@ -550,7 +668,7 @@ impl<'a> Raising<'a> {
     fn force_by_rules(&mut self, case: usize, event: usize) {
         let net = self.net;
         for rule in &net.rules {
-            if (rule.from == event || rule.to == event) && agrees(rule, case) {
+            if (rule.from == event || rule.to == event) && net.covers(rule, case) {
                 self.force_by_rule(case, rule);
             }
         }
@@ -563,6 +681,16 @@ impl<'a> Raising<'a> {
         }
         if rule.kind != Kind::Max {
             self.raise(case, rule.to, self.minute(case, rule.from) + rule.limit);
+        }
+    }
+
+    /// Point 1, where the event that rose gives a signal: the events of this case that have it in their labels.
+    fn force_waits(&mut self, case: usize, event: usize) {
+        let net = self.net;
+        let Some(signal) = net.signals.iter().position(|signal| signal.event == event) else { return };
+        let waits = |u: &usize| net.happens(case, *u) && net.labels[*u].iter().any(|letter| letter.0 == signal);
+        for u in (0..net.events.len()).filter(waits) {
+            self.raise(case, u, self.minute(case, event) + net.signals[signal].reaction);
         }
     }
 
@@ -583,16 +711,18 @@ impl<'a> Raising<'a> {
         }
     }
 
-    /// Point 3 in the form of the hyperarcs: a minute is at least the lesser of the other case's minute and the first
-    /// at which a differing signal counts in its own case. In any good table u in s either is at or after a minute at
-    /// which one counts, or has the same minute as in r.
+    /// Point 3 in the form of the hyperarcs, for an event that happens in both cases: a minute is at least the lesser
+    /// of the other case's minute and the first at which a differing signal that is given counts in its own case. In
+    /// any good table u in s either is at or after a minute at which one counts, or has the same minute as in r.
     fn force_by_case(&mut self, s: usize, r: usize, u: usize) {
-        let signals = &self.net.signals;
-        let differing = (0..signals.len()).filter(|&signal| truth(s, signal) != truth(r, signal));
-        let known = |signal: usize| self.minute(s, signals[signal].event) + signals[signal].reaction;
-        if let Some(earliest) = differing.map(known).min() {
-            self.raise(s, u, self.minute(r, u).min(earliest));
+        let net = self.net;
+        if s == r || !net.happens(s, u) || !net.happens(r, u) {
+            return;
         }
+        let differing = |signal: &usize| truth(s, *signal) != truth(r, *signal) && net.gives(s, *signal);
+        let known = |signal: usize| self.minute(s, net.signals[signal].event) + net.signals[signal].reaction;
+        let told = (0..net.signals.len()).filter(differing).map(known);
+        self.raise(s, u, told.fold(self.minute(r, u), i64::min));
     }
 }
 
@@ -611,25 +741,22 @@ pub fn solve_by_search(net: &Net) -> Option<Vec<u16>> {
     search.least
 }
 
-/// How many tables the search may have to look at: a row per case, a minute per event after the start.
+/// How many tables the search may have to look at: a row per case, a minute per happening event after the start.
 pub fn search_size(net: &Net) -> f64 {
-    let free_cells = (net.events.len() - 1) * net.cases();
-    ((net.horizon + 1) as f64).powi(free_cells as i32)
+    ((net.horizon + 1) as f64).powi(net.free_cells() as i32)
 }
 
-/// All rows of one case that keep points 1 and 2.
+/// All rows of one case that keep points 1 and 2: of those with each minute from 0 to H, or the blank, in each cell.
 fn lawful_rows(net: &Net, case: usize) -> Vec<Vec<u16>> {
-    let mut rows = vec![vec![0u16]];
-    for _ in 1..net.events.len() {
-        rows = rows.iter().flat_map(|row| one_more(row, net.horizon as u16)).collect();
+    let mut rows: Vec<Vec<u16>> = vec![vec![]];
+    for event in 0..net.events.len() {
+        let numbers = if net.happens(case, event) { 0..=net.horizon as u16 } else { BLANK..=BLANK };
+        let numbers = if event == 0 { 0..=0 } else { numbers };
+        rows = rows.iter().flat_map(|row| numbers.clone().map(|number| [&row[..], &[number]].concat())).collect();
     }
-    rows.retain(|row| net.rules.iter().all(|rule| !agrees(rule, case) || holds(rule, row[rule.from], row[rule.to])));
+    rows.retain(|row| (0..net.events.len()).all(|event| on_time(net, row, case, event)));
+    rows.retain(|row| net.rules.iter().all(|rule| rule_kept(net, row, case, rule)));
     rows
-}
-
-/// The row with each minute from 0 to H put behind it.
-fn one_more(row: &[u16], horizon: u16) -> Vec<Vec<u16>> {
-    (0..=horizon).map(|minute| [row, &[minute]].concat()).collect()
 }
 
 struct Search<'a> {
@@ -681,7 +808,7 @@ pub fn solve_by_rounds(net: &Net) -> (u32, Option<Vec<u16>>) {
             return (count, None);
         }
         if after == before {
-            return (count, Some(after.iter().map(|&minute| minute as u16).collect()));
+            return (count, Some(with_blanks(net, &after)));
         }
         before = after;
     }
@@ -689,16 +816,25 @@ pub fn solve_by_rounds(net: &Net) -> (u32, Option<Vec<u16>>) {
 }
 
 /// "each cell takes the greatest of its own value and each bound that rules, signals (by the hyperarcs, with
-/// reactions) .. set from the table before the round". There are no label waits yet.
+/// reactions) and label waits set from the table before the round". A cell without its event takes no part.
 fn round(net: &Net, before: &[i64]) -> Vec<i64> {
-    let bounds = |case: usize, event: usize| [by_rules(net, before, case, event), by_signals(net, before, case, event)].concat();
+    let bounds = |case: usize, event: usize| match net.happens(case, event) {
+        false => vec![],
+        true => [by_rules, by_signals, by_label].map(|bounds| bounds(net, before, case, event)).concat(),
+    };
     let raised = |cell: usize| bounds(cell / net.events.len(), cell % net.events.len()).into_iter().fold(before[cell], i64::max);
     (0..net.cells()).map(raised).collect()
 }
 
+/// The first minute at which each signal of the event's label counts.
+fn by_label(net: &Net, before: &[i64], case: usize, event: usize) -> Vec<i64> {
+    let known = |signal: &Signal| before[net.cell(case, signal.event)] + signal.reaction;
+    net.labels[event].iter().map(|&(signal, _)| known(&net.signals[signal])).collect()
+}
+
 fn by_rules(net: &Net, before: &[i64], case: usize, event: usize) -> Vec<i64> {
     let mut bounds = vec![];
-    for rule in net.rules.iter().filter(|rule| agrees(rule, case)) {
+    for rule in net.rules.iter().filter(|rule| net.covers(rule, case)) {
         if rule.kind != Kind::Min && rule.from == event {
             bounds.push(before[net.cell(case, rule.to)] - rule.limit);
         }
@@ -709,13 +845,14 @@ fn by_rules(net: &Net, before: &[i64], case: usize, event: usize) -> Vec<i64> {
     bounds
 }
 
-/// The lesser of the other case's minute and the first at which a differing signal counts in its own case, for each
-/// other case.
+/// The lesser of the other case's minute and the first at which a differing signal that is given counts in its own
+/// case, for each other case in which the event happens too.
 fn by_signals(net: &Net, before: &[i64], s: usize, u: usize) -> Vec<i64> {
     let known = |signal: usize| before[net.cell(s, net.signals[signal].event)] + net.signals[signal].reaction;
-    let differing = |r: usize| (0..net.signals.len()).filter(move |&signal| truth(s, signal) != truth(r, signal));
-    let bound = |r: usize| before[net.cell(r, u)].min(differing(r).map(known).min().unwrap());
-    (0..net.cases()).filter(|&r| r != s).map(bound).collect()
+    let differs = |signal: usize, r: usize| truth(s, signal) != truth(r, signal) && net.gives(s, signal);
+    let told = |r: usize| (0..net.signals.len()).filter(move |&signal| differs(signal, r)).map(known).min();
+    let bound = |r: usize| told(r).unwrap_or(i64::MAX).min(before[net.cell(r, u)]);
+    (0..net.cases()).filter(|&r| r != s && net.happens(r, u)).map(bound).collect()
 }
 
 // ---------------------------------------------------------------- The listing
@@ -752,11 +889,17 @@ fn mark(net: &Net, case: usize) -> String {
 /// The mark, "then a comma and a minute per event".
 fn case_line(net: &Net, table: &[u16], case: usize) -> String {
     let mut line = mark(net, case);
-    for event in 0..net.events.len() {
-        line.push_str(&format!(",{}", table[net.cell(case, event)]));
+    for &minute in row(net, table, case) {
+        line.push(',');
+        line.push_str(&minute_text(minute));
     }
     line.push('\n');
     line
+}
+
+/// 65,535 "is printed `-`". Readings: in every cell.
+fn minute_text(minute: u16) -> String {
+    if minute == BLANK { "-".to_string() } else { minute.to_string() }
 }
 
 /// What the program `table` prints of a sheet that is not refused: "the solver's listing".
@@ -773,18 +916,23 @@ pub fn within(text: Vec<u8>, room: usize) -> Result<Vec<u8>, Refusal> {
 
 // ---------------------------------------------------------------- Reading a printed table back
 
-/// Document 02, point 4, for an accepted sheet: the table that a listing has; or 18, which "is tried over the whole
-/// listing first"; or 19, "a minute is ill-formed, negative or over 65,535", with the first line that has one.
+/// Document 02, points 4 and 6, for an accepted sheet: the table that a listing has; or 18, which "is tried over the
+/// whole listing first"; or 19, "a minute is ill-formed, negative or over 65,535", or it is "the digits 65535", with
+/// the first line that has one.
 pub fn returned(sheet: &[u8], net: &Net, listing: &[u8]) -> Result<Vec<u16>, Refusal> {
     let rows = case_rows(sheet, net, listing).map_err(|line| Refusal { number: 18, line })?;
     let mut table = vec![];
     for (case, minutes) in rows.into_iter().enumerate() {
         for field in minutes {
-            let minute = number(field, 0, MINUTE_MOST).map_err(|_| Refusal { number: 19, line: line_of(case) })?;
-            table.push(minute as u16);
+            table.push(minute_of(field).ok_or(Refusal { number: 19, line: line_of(case) })?);
         }
     }
     Ok(table)
+}
+
+/// What `-` or digits stand for, in any cell; or nothing for another text.
+fn minute_of(field: &[u8]) -> Option<u16> {
+    if field == b"-" { Some(BLANK) } else { number(field, 0, MINUTE_MOST).ok().map(|minute| minute as u16) }
 }
 
 /// The listing's first line is the header, so case 0 has the second.
@@ -818,7 +966,8 @@ fn one_row<'a>(net: &Net, case: usize, rest: &'a [u8]) -> Option<(Vec<&'a [u8]>,
     if fits { Some((fields, &rest[length + 1..])) } else { None }
 }
 
-/// The call over a lent table of so many numbers: refusals 1 to 10, 18 and 19, then 12; or the minutes to be written.
+/// The call over a lent table of so many numbers: the sheet's own refusals, 18 and 19, then 12; or the minutes to be
+/// written.
 pub fn recover(sheet: &[u8], listing: &[u8], numbers: usize) -> Result<Vec<u16>, Refusal> {
     let net = read(sheet)?;
     fitting(returned(sheet, &net, listing)?, numbers)
@@ -868,9 +1017,9 @@ pub fn heard(text: &[u8]) -> Option<Vec<(u8, bool)>> {
     if text.is_empty() { Some(vec![]) } else { letters(text) }
 }
 
-/// Document 02, points 1 and 3, for a table that passes: the events due at a minute, bit u for event u, for those who
-/// have heard exactly this list; or 15 where a letter is undefined or stands twice, or 16 where no case has heard
-/// exactly this list.
+/// Document 02, points 1, 3 and 6, for a table that passes: the events due at a minute, bit u for event u, for those
+/// who have heard exactly this list; or 15 where a letter is undefined or stands twice, or 16 where no case has heard
+/// exactly this list. "A cell without its event .. is never due, its signal never heard".
 pub fn due(net: &Net, table: &[u16], minute: u16, heard: &[(u8, bool)]) -> Result<u16, u8> {
     let defined = |letter: u8| net.signals.iter().any(|signal| signal.letter == letter);
     let stands = |letter: u8| heard.iter().filter(|(l, _)| *l == letter).count();
@@ -882,13 +1031,14 @@ pub fn due(net: &Net, table: &[u16], minute: u16, heard: &[(u8, bool)]) -> Resul
     for case in 0..net.cases() {
         let mut history = vec![];
         for (p, signal) in net.signals.iter().enumerate() {
-            if counts(net, table, case, signal, minute) {
+            if counts(net, table, case, p, minute) {
                 history.push((signal.letter, truth(case, p)));
             }
         }
         history.sort();
         if history == list {
-            return Ok((0..net.events.len()).filter(|u| table[net.cell(case, *u)] == minute).map(|u| 1u16 << u).sum());
+            let due = |u: &usize| net.happens(case, *u) && table[net.cell(case, *u)] == minute;
+            return Ok((0..net.events.len()).filter(due).map(|u| 1u16 << u).sum());
         }
     }
     Err(16)
@@ -909,7 +1059,7 @@ pub struct Row {
 /// false ones'".
 pub type Key = (usize, usize, u32, u32);
 
-/// Document 02, points 2 and 3: the house form of a sheet, or its own refusal, or 17.
+/// Document 02, points 2, 3 and 6: the house form of a sheet, or its own refusal, or 17.
 pub fn house(sheet: &[u8]) -> Result<Vec<u8>, Refusal> {
     let net = read(sheet)?;
     let rows = rows_left(&net);
@@ -925,18 +1075,36 @@ pub fn house(sheet: &[u8]) -> Result<Vec<u8>, Refusal> {
         form.push(b'\n');
     }
     form.extend(reactions_text(&net).into_bytes());
+    form.extend(labels_text(sheet, &net));
     Ok(form)
 }
 
-/// "The house form lists only reactions other than 1, in signal order, with no section if there are none".
+/// "The house form lists only reactions other than 1, in signal order, with no section if there are none"; but it
+/// "writes `reactions,0`" where lines of labels follow.
 fn reactions_text(net: &Net) -> String {
     let slow: Vec<&Signal> = net.signals.iter().filter(|signal| signal.reaction != 1).collect();
-    if slow.is_empty() {
+    if slow.is_empty() && !net.is_labelled() {
         return String::new();
     }
     let line = |signal: &&Signal| format!("{},{}\n", char::from(signal.letter), signal.reaction);
     let lines: String = slow.iter().map(line).collect();
     format!("reactions,{}\n{lines}", slow.len())
+}
+
+/// It "lists the lines whose label is not `-`, in event order and with no section if there are none". Their letters
+/// stand in signal order too.
+fn labels_text(sheet: &[u8], net: &Net) -> Vec<u8> {
+    let labelled: Vec<usize> = (0..net.events.len()).filter(|&event| !net.labels[event].is_empty()).collect();
+    if labelled.is_empty() {
+        return vec![];
+    }
+    let mut text = format!("cases,{}\n", labelled.len()).into_bytes();
+    for event in labelled {
+        let label = label_text(net, &net.labels[event].iter().copied().collect());
+        text.extend([&sheet[net.events[event].clone()], &label[..]].join(&b","[..]));
+        text.push(b'\n');
+    }
+    text
 }
 
 /// "a `min` swaps its ends and negates its limit, and a `fix` becomes both".

@@ -1,7 +1,8 @@
-//! Wrong programs that print tables (01, The printed listing) or house forms (02, points 2 and 3), to see that the
+//! Wrong programs that print tables (01, The printed listing) or house forms (02, points 2, 3 and 6), to see that the
 //! comparison notices them.
 
 use crate::digits::{self, respelled};
+use crate::leaps::{self, Slip as Solved};
 use crate::model::{self, Kind, Net, Refusal, Rule};
 
 // ---------------------------------------------------------------- Wrong listings
@@ -9,7 +10,7 @@ use crate::model::{self, Kind, Net, Refusal, Rule};
 /// A program that prints something of a sheet, or its refusal.
 pub type Printer = fn(&[u8]) -> Result<Vec<u8>, Refusal>;
 
-pub const TABLE_FAULTS: [(&str, Printer); 29] = [
+pub const TABLE_FAULTS: [(&str, Printer); 43] = [
     ("line-before", |sheet| refused_with(sheet, |refusal| refusal.line = refusal.line.saturating_sub(1))),
     ("line-lost", |sheet| refused_with(sheet, |refusal| refusal.line = 0)),
     ("12-for-13", |sheet| refused_with(sheet, |refusal| if refusal.number == 13 { refusal.number = 12 })),
@@ -32,13 +33,30 @@ pub const TABLE_FAULTS: [(&str, Printer); 29] = [
     ("1700-bytes-at-most", |sheet| model::table(sheet).map(|text| text[..text.len().min(1700)].to_vec())),
     ("last-feed-lost", |sheet| model::table(sheet).map(|text| text[..text.len() - 1].to_vec())),
     ("reactions-refused", |sheet| match typed_reactions(sheet) {
-        Some(lines) => Err(Refusal { number: 10, line: sheet.split(|&byte| byte == b'\n').count() - 1 - lines.len() }),
+        Some(_) => Err(Refusal { number: 10, line: lines_before(sheet) + 1 }),
         None => model::table(sheet),
     }),
     ("reactions-ignored", |sheet| table_with(sheet, |_| 1)),
     ("reaction-a-minute-more", |sheet| table_with(sheet, |reaction| reaction + i64::from(reaction > 1))),
     ("reaction-a-minute-less", |sheet| table_with(sheet, |reaction| (reaction - 1).max(1))),
     ("reactions-of-one-digit", |sheet| table_with(sheet, |minutes| if minutes > 9 { minutes / 10 } else { minutes })),
+    ("labels-refused", |sheet| match typed_labels(sheet) {
+        Some(_) => Err(Refusal { number: 10, line: label_heading(sheet) }),
+        None => model::table(sheet),
+    }),
+    ("labels-ignored", |sheet| solved_by(sheet, labels_ignored)),
+    ("label-waits-ignored", |sheet| solved_by(sheet, |net| leaps::table_with(net, Solved::NoWaits))),
+    ("label-waits-of-one", |sheet| solved_by(sheet, |net| leaps::table_with(net, Solved::WaitsOfOne))),
+    ("rule-of-an-absent-event", |sheet| solved_by(sheet, |net| leaps::table_with(net, Solved::RulesOfLabelOnly))),
+    ("blank-cells-are-0", |sheet| solved_by(sheet, |net| leaps::table_with(net, Solved::BlanksZero))),
+    ("blank-in-digits", |sheet| listed_with(sheet, |rows| reword(rows, "65535"))),
+    ("blank-is-empty", |sheet| listed_with(sheet, |rows| reword(rows, ""))),
+    ("blank-is-a-space", |sheet| listed_with(sheet, |rows| reword(rows, " "))),
+    ("blank-columns-left-out", |sheet| listed_with(sheet, |rows| rows.iter_mut().skip(1).for_each(without_dashes))),
+    ("20-is-21", |sheet| refused_with(sheet, |refusal| if refusal.number == 20 { refusal.number = 21 })),
+    ("21-is-20", |sheet| refused_with(sheet, |refusal| if refusal.number == 21 { refusal.number = 20 })),
+    ("20-without-line", |sheet| refused_with(sheet, |refusal| if refusal.number == 20 { refusal.line = 0 })),
+    ("21-without-line", |sheet| refused_with(sheet, |refusal| if refusal.number == 21 { refusal.line = 0 })),
     ("digits-place-skipped", |sheet| model::table(sheet).map(|text| respelled(&text, digits::Slip::PlaceSkipped))),
     ("digits-leading-zero", |sheet| model::table(sheet).map(|text| respelled(&text, digits::Slip::LeadingZero))),
     ("digits-ten-ones", |sheet| model::table(sheet).map(|text| respelled(&text, digits::Slip::TenOnes))),
@@ -73,19 +91,70 @@ fn refused_with(sheet: &[u8], change: fn(&mut Refusal)) -> Result<Vec<u8>, Refus
 
 /// The listing for other reactions than the sheet's.
 fn table_with(sheet: &[u8], change: fn(i64) -> i64) -> Result<Vec<u8>, Refusal> {
+    let changed = |net: &mut Net| net.signals.iter_mut().for_each(|signal| signal.reaction = change(signal.reaction));
+    solved_net(sheet, changed, model::solve)
+}
+
+/// The listing by another solver.
+fn solved_by(sheet: &[u8], solve: Solver) -> Result<Vec<u8>, Refusal> {
+    solved_net(sheet, |_| {}, solve)
+}
+
+/// Minutes for a network, or none.
+type Solver = fn(&Net) -> Option<Vec<u16>>;
+
+fn labels_ignored(net: &Net) -> Option<Vec<u16>> {
+    model::solve(&Net { labels: vec![vec![]; net.events.len()], ..net.clone() })
+}
+
+fn solved_net(sheet: &[u8], change: impl Fn(&mut Net), solve: Solver) -> Result<Vec<u8>, Refusal> {
     let mut net = model::read(sheet)?;
-    net.signals.iter_mut().for_each(|signal| signal.reaction = change(signal.reaction));
-    let least = model::solve(&net).ok_or(Refusal { number: 13, line: 0 })?;
-    Ok(model::listing(sheet, &net, &least))
+    change(&mut net);
+    let table = solve(&net).ok_or(Refusal { number: 13, line: 0 })?;
+    Ok(model::listing(sheet, &net, &table))
+}
+
+/// Another word for a blank.
+fn reword(rows: &mut Rows, word: &str) {
+    let fields = rows[1..].iter_mut().flat_map(|row| &mut row[1..]);
+    fields.filter(|field| *field == "-").for_each(|field| *field = word.to_string());
+}
+
+/// A row without its blanks.
+fn without_dashes(row: &mut Vec<String>) {
+    let mark = row.remove(0);
+    row.retain(|field| field != "-");
+    row.insert(0, mark);
 }
 
 /// The lines of reactions of an accepted sheet as they are typed, each without its line feed; nothing if there is no
 /// section.
 fn typed_reactions(sheet: &[u8]) -> Option<Vec<String>> {
+    typed_section(sheet, 0)
+}
+
+/// The same for the labels.
+fn typed_labels(sheet: &[u8]) -> Option<Vec<String>> {
+    typed_section(sheet, 1 + typed_reactions(sheet)?.len())
+}
+
+/// The lines of a section that begins so many lines behind the rules, as many as its heading says.
+fn typed_section(sheet: &[u8], behind: usize) -> Option<Vec<String>> {
     let net = model::read(sheet).ok()?;
     let text = String::from_utf8_lossy(sheet);
-    let mut lines = text.lines().skip(4 + net.events.len() + net.signals.len() + net.rules.len());
-    lines.next().map(|_| lines.map(String::from).collect())
+    let mut lines = text.lines().skip(4 + net.events.len() + net.signals.len() + net.rules.len() + behind);
+    let count = lines.next()?.split(',').nth(1)?.parse().ok()?;
+    Some(lines.take(count).map(String::from).collect())
+}
+
+/// The line of the heading of an accepted sheet's labels.
+fn label_heading(sheet: &[u8]) -> usize {
+    lines_before(sheet) + 2 + typed_reactions(sheet).map_or(0, |lines| lines.len())
+}
+
+/// How many lines an accepted sheet has as far as its rules.
+fn lines_before(sheet: &[u8]) -> usize {
+    model::read(sheet).map_or(0, |net| 4 + net.events.len() + net.signals.len() + net.rules.len())
 }
 
 fn without_feed(refusal: Refusal) -> Vec<u8> {
@@ -114,7 +183,7 @@ fn truths_exchanged(label: &str) -> String {
 
 fn last_minute_later(rows: &mut Rows) {
     let last = rows.last_mut().and_then(|row| row.last_mut()).expect("a minute");
-    *last = (last.parse::<u32>().expect("a minute") + 1).to_string();
+    *last = last.parse::<u32>().map_or("0".to_string(), |minute| (minute + 1).to_string());
 }
 
 fn two_digits_at_least(rows: &mut Rows) {
@@ -123,7 +192,7 @@ fn two_digits_at_least(rows: &mut Rows) {
 
 // ---------------------------------------------------------------- Wrong house forms
 
-pub const HOUSE_FAULTS: [(&str, Printer); 52] = [
+pub const HOUSE_FAULTS: [(&str, Printer); 71] = [
     ("greatest-limit-kept", |sheet| house_with(sheet, Slip::GreatestLimit)),
     ("first-limit-kept", |sheet| house_with(sheet, Slip::FirstLimit)),
     ("last-limit-kept", |sheet| house_with(sheet, Slip::LastLimit)),
@@ -170,6 +239,25 @@ pub const HOUSE_FAULTS: [(&str, Printer); 52] = [
     ("reactions-count-of-signals", |sheet| house_with(sheet, Slip::ReactionsCountOfSignals)),
     ("reactions-count-as-typed", |sheet| house_with(sheet, Slip::ReactionsCountAsTyped)),
     ("reactions-of-the-first-only", |sheet| house_with(sheet, Slip::ReactionsOfTheFirst)),
+    ("labels-dropped", |sheet| house_with(sheet, Slip::LabelsDropped)),
+    ("labels-copied", |sheet| house_with(sheet, Slip::LabelsCopied)),
+    ("labels-with-dashes", |sheet| house_with(sheet, Slip::LabelsWithDashes)),
+    ("labels-in-typed-order", |sheet| house_with(sheet, Slip::LabelsInTypedOrder)),
+    ("labels-in-alphabet", |sheet| house_with(sheet, Slip::LabelsInAlphabet)),
+    ("label-letters-as-typed", |sheet| house_with(sheet, Slip::LabelLettersAsTyped)),
+    ("label-letters-in-alphabet", |sheet| house_with(sheet, Slip::LabelLettersInAlphabet)),
+    ("label-true-letters-first", |sheet| house_with(sheet, Slip::LabelTrueFirst)),
+    ("label-signs-lost", |sheet| house_with(sheet, Slip::LabelSignsLost)),
+    ("labels-count-of-events", |sheet| house_with(sheet, Slip::LabelsCountOfEvents)),
+    ("labels-count-as-typed", |sheet| house_with(sheet, Slip::LabelsCountAsTyped)),
+    ("labels-of-the-first-only", |sheet| house_with(sheet, Slip::LabelsOfTheFirst)),
+    ("labels-before-reactions", |sheet| house_with(sheet, Slip::LabelsBeforeReactions)),
+    ("labels-0-written", |sheet| house_with(sheet, Slip::Labels0Written)),
+    ("labels-without-reactions-0", |sheet| house_with(sheet, Slip::LabelsWithoutReactions0)),
+    ("reactions-0-if-cases-were-typed", |sheet| house_with(sheet, Slip::Reactions0IfTyped)),
+    ("labels-only-if-slow", |sheet| house_with(sheet, Slip::LabelsOnlyIfSlow)),
+    ("labels-joined-to-rules", |sheet| house_with(sheet, Slip::LabelsJoinedToRules)),
+    ("label-of-givers-dropped", |sheet| house_with(sheet, Slip::LabelsOfGiversDropped)),
     ("digits-place-skipped", |sheet| model::house(sheet).map(|form| respelled(&form, digits::Slip::PlaceSkipped))),
     ("digits-leading-zero", |sheet| model::house(sheet).map(|form| respelled(&form, digits::Slip::LeadingZero))),
     ("digits-ten-ones", |sheet| model::house(sheet).map(|form| respelled(&form, digits::Slip::TenOnes))),
@@ -227,6 +315,25 @@ enum Slip {
     ReactionsCountOfSignals,
     ReactionsCountAsTyped,
     ReactionsOfTheFirst,
+    LabelsDropped,
+    LabelsCopied,
+    LabelsWithDashes,
+    LabelsInTypedOrder,
+    LabelsInAlphabet,
+    LabelLettersAsTyped,
+    LabelLettersInAlphabet,
+    LabelTrueFirst,
+    LabelSignsLost,
+    LabelsCountOfEvents,
+    LabelsCountAsTyped,
+    LabelsOfTheFirst,
+    LabelsBeforeReactions,
+    Labels0Written,
+    LabelsWithoutReactions0,
+    Reactions0IfTyped,
+    LabelsOnlyIfSlow,
+    LabelsJoinedToRules,
+    LabelsOfGiversDropped,
 }
 
 /// A row with its label as it was typed, its place among the rows, and whether its limit was negated.
@@ -265,7 +372,11 @@ fn house_with(sheet: &[u8], slip: Slip) -> Result<Vec<u8>, Refusal> {
     (0..net.events.len()).for_each(|event| form += &format!("{}\n", name(event)));
     form += &format!("signals,{}\n", net.signals.len());
     net.signals.iter().for_each(|signal| form += &format!("{},{}\n", char::from(signal.letter), name(signal.event)));
-    let section = reaction_section(sheet, &net, slip);
+    let labels = label_section(sheet, &net, slip);
+    let section = match reaction_section(sheet, &net, slip) {
+        section if slip == Slip::LabelsBeforeReactions => labels + &section,
+        section => section + &labels,
+    };
     if slip == Slip::ReactionsBeforeRules {
         form += &section;
     }
@@ -305,7 +416,64 @@ fn reaction_section(sheet: &[u8], net: &Net, slip: Slip) -> String {
         _ => lines.len(),
     };
     let text: String = lines.iter().map(|line| format!("{line}\n")).collect();
-    if lines.is_empty() && slip != Slip::Reactions0Written { text } else { format!("reactions,{count}\n{text}") }
+    let needed = match slip {
+        Slip::LabelsDropped | Slip::LabelsWithoutReactions0 | Slip::LabelsOnlyIfSlow => false,
+        Slip::Reactions0Written => true,
+        Slip::Reactions0IfTyped => net.is_labelled() || typed_labels(sheet).is_some(),
+        Slip::LabelsCopied | Slip::Labels0Written => typed_labels(sheet).is_some(),
+        _ => net.is_labelled(),
+    };
+    if lines.is_empty() && !needed { text } else { format!("reactions,{count}\n{text}") }
+}
+
+/// The section of labels with its heading, or nothing.
+fn label_section(sheet: &[u8], net: &Net, slip: Slip) -> String {
+    let typed = typed_labels(sheet).unwrap_or_default();
+    let name = |event: usize| String::from_utf8_lossy(&sheet[net.events[event].clone()]).into_owned();
+    let line = |event: usize| format!("{},{}", name(event), label_letters(net, event, slip));
+    let place = |line: &String| (0..net.events.len()).find(|&event| line.split(',').next() == Some(&name(event)));
+    let with_dashes = slip == Slip::LabelsWithDashes && net.is_labelled();
+    let labelled = |event: &usize| with_dashes || !net.labels[*event].is_empty();
+    let gives = |event: usize| net.signals.iter().any(|signal| signal.event == event);
+    let mut events: Vec<usize> = match slip {
+        Slip::LabelsDropped => vec![],
+        Slip::LabelsInTypedOrder => typed.iter().filter_map(place).filter(labelled).collect(),
+        Slip::LabelsOnlyIfSlow if !net.is_slow() => vec![],
+        _ => (0..net.events.len()).filter(labelled).collect(),
+    };
+    match slip {
+        Slip::LabelsInAlphabet => events.sort_by_key(|&event| name(event)),
+        Slip::LabelsOfTheFirst => events.truncate(1),
+        Slip::LabelsOfGiversDropped => events.retain(|&event| !gives(event)),
+        _ => {}
+    }
+    let own: Vec<String> = events.into_iter().map(line).collect();
+    let lines = if slip == Slip::LabelsCopied { typed.clone() } else { own };
+    let count = match slip {
+        Slip::LabelsCountOfEvents => net.events.len(),
+        Slip::LabelsCountAsTyped => typed.len(),
+        _ => lines.len(),
+    };
+    let empty = match slip {
+        Slip::Labels0Written | Slip::LabelsCopied => typed_labels(sheet).is_none() && lines.is_empty(),
+        _ => lines.is_empty(),
+    };
+    let text: String = lines.iter().map(|line| format!("{line}\n")).collect();
+    if empty { text } else { format!("cases,{count}\n{text}") }
+}
+
+/// The letters of an event's label.
+fn label_letters(net: &Net, event: usize, slip: Slip) -> String {
+    let mut label = net.labels[event].clone();
+    match slip {
+        Slip::LabelLettersAsTyped => {}
+        Slip::LabelLettersInAlphabet => label.sort_by_key(|letter| net.signals[letter.0].letter),
+        Slip::LabelTrueFirst => label.sort_by_key(|letter| (!letter.1, letter.0)),
+        _ => label.sort(),
+    }
+    let sign = |truth: bool| if truth || slip == Slip::LabelSignsLost { "" } else { "!" };
+    let one = |letter: &(usize, bool)| format!("{}{}", sign(letter.1), char::from(net.signals[letter.0].letter));
+    if label.is_empty() { "-".to_string() } else { label.iter().map(one).collect() }
 }
 
 /// A sheet refused with 10 that would be refused with 17 without the bytes behind its reactions.
@@ -319,6 +487,13 @@ fn typed_rows(net: &Net, slip: Slip) -> Vec<Typed> {
     let mut rows = vec![];
     for rule in &net.rules {
         let Rule { kind, from, to, limit, ref label } = *rule;
+        let joined = || {
+            let mut whole = label.clone();
+            let more = net.labels[from].iter().chain(&net.labels[to]);
+            more.for_each(|letter| if whole.iter().all(|own| own.0 != letter.0) { whole.push(*letter) });
+            whole
+        };
+        let label = if slip == Slip::LabelsJoinedToRules { &joined() } else { label };
         let max = Typed { from, to, limit, label: label.clone(), place: rows.len(), negated: false };
         let mut min = Typed { from: to, to: from, limit: -limit, label: label.clone(), place: rows.len() + 1, negated: true };
         match slip {

@@ -1,6 +1,6 @@
-//! Two other ways to read a listing back (02, point 4) than the model's. One finds every fault and then says which one
-//! counts; with a slip it is a wrong reader, for the libraries of `faults.rs` and the programs of `verdicts.rs`. The
-//! other says only whether a listing is accepted, by printing.
+//! Two other ways to read a listing back (02, points 4 and 6) than the model's. One finds every fault and then says
+//! which one counts; with a slip it is a wrong reader, for the libraries of `faults.rs` and the programs of
+//! `verdicts.rs`. The other says only whether a listing is accepted, by printing.
 
 use crate::model::{self, Net, Refusal};
 
@@ -63,7 +63,18 @@ pub enum Slip {
     MissingFieldIsZero,
     FieldsAreNineteen,
     // minutes
-    Refused65535,
+    Accepted65535,
+    Refused65534,
+    DashRefused,
+    DashIsZero,
+    DashIs65534,
+    DashIsEighteen,
+    DashWithSpaces,
+    DashOfTwo,
+    DashOnlyOnce,
+    DashNotAtTheStart,
+    DashOnlyInLabelled,
+    DashOnlyWhereAbsent,
     Accepted65536,
     WrapsAt16Bits,
     WrapsAt32Bits,
@@ -237,6 +248,7 @@ fn read_row(net: &Net, case: usize, lines: &[&[u8]], slip: Slip) -> (Vec<u8>, Ve
     for (event, field) in fields[1..].iter().enumerate() {
         match minute(net, field, slip) {
             Err(number) => numbers.push(number),
+            Ok(model::BLANK) if dash_refused(net, case, event, &minutes, slip) => numbers.push(19),
             Ok(_) if slip == Slip::StartIsZero && event == 0 => minutes.push(0),
             Ok(minute) => minutes.push(minute),
         }
@@ -245,6 +257,17 @@ fn read_row(net: &Net, case: usize, lines: &[&[u8]], slip: Slip) -> (Vec<u8>, Ve
         minutes.last_mut().into_iter().for_each(|last| *last = 0);
     }
     (numbers, minutes)
+}
+
+/// A reader that takes a `-` in some cells only; these minutes stand before it in its row.
+fn dash_refused(net: &Net, case: usize, event: usize, minutes: &[u16], slip: Slip) -> bool {
+    match slip {
+        Slip::DashOnlyOnce => minutes.contains(&model::BLANK),
+        Slip::DashNotAtTheStart => event == 0,
+        Slip::DashOnlyInLabelled => net.labels.get(event).is_some_and(|label| label.is_empty()),
+        Slip::DashOnlyWhereAbsent => event < net.events.len() && net.happens(case, event),
+        _ => false,
+    }
 }
 
 /// A reader that doesn't mind some other counts of fields.
@@ -265,6 +288,9 @@ fn minute(net: &Net, field: &[u8], slip: Slip) -> Result<u16, u8> {
         Some(digits) => ("-", digits),
         None => ("", &field[..]),
     };
+    if field == "-" {
+        return dash(slip);
+    }
     let well_formed = !digits.is_empty() && digits.bytes().all(|byte| byte.is_ascii_digit());
     let leading = digits.starts_with('0') && (digits.len() > 1 || minus == "-");
     match slip {
@@ -274,6 +300,17 @@ fn minute(net: &Net, field: &[u8], slip: Slip) -> Result<u16, u8> {
         Slip::NegativeIsEighteen if minus == "-" => Err(18),
         _ if minus == "-" => Err(19),
         _ => in_range(net, digits, slip),
+    }
+}
+
+/// 65,535, which is printed so; or what a wrong reader makes of it.
+fn dash(slip: Slip) -> Result<u16, u8> {
+    match slip {
+        Slip::DashRefused => Err(19),
+        Slip::DashIsEighteen => Err(18),
+        Slip::DashIsZero => Ok(0),
+        Slip::DashIs65534 => Ok(65_534),
+        _ => Ok(65_535),
     }
 }
 
@@ -290,6 +327,8 @@ fn mended(field: &str, slip: Slip) -> String {
         Slip::Plus => field.strip_prefix('+').unwrap_or(field).to_string(),
         Slip::MinusIgnored => field.strip_prefix('-').unwrap_or(field).to_string(),
         Slip::Spaces => field.trim_matches(' ').to_string(),
+        Slip::DashWithSpaces if field.trim_matches([' ', '\t', '\r']) == "-" => "-".to_string(),
+        Slip::DashOfTwo if field.bytes().all(|byte| byte == b'-') && !field.is_empty() => "-".to_string(),
         Slip::EmptyIsZero if field.is_empty() => "0".to_string(),
         Slip::DigitsThenAnything if digits > 0 => field[..digits].to_string(),
         Slip::ColonIsDigit => field.replace(':', "9"),
@@ -307,14 +346,16 @@ fn in_range(net: &Net, digits: &str, slip: Slip) -> Result<u16, u8> {
         _ => digits.parse().unwrap_or(u128::MAX),
     };
     let most = match slip {
-        Slip::Refused65535 => 65_534,
+        Slip::Accepted65535 => 65_535,
+        Slip::Refused65534 => 65_533,
         Slip::Accepted65536 => 65_536,
         Slip::AsFarAs10080 => 10_080,
         Slip::AsFarAsHorizon => net.horizon as u128,
-        _ => 65_535,
+        _ => 65_534,
     };
     match value > most {
-        true if slip == Slip::Capped => Ok(65_535),
+        false if slip == Slip::Accepted65536 && value == 65_535 => Err(19),
+        true if slip == Slip::Capped => Ok(65_534),
         true => Err(if slip == Slip::OverIsEighteen { 18 } else { 19 }),
         false => Ok(value as u16),
     }
@@ -353,13 +394,14 @@ fn chosen(faults: Vec<Fault>, slip: Slip) -> Option<Fault> {
 // ---------------------------------------------------------------- By printing
 
 /// The table of a listing that is accepted: "Any table of the right length that was printed is recovered number for
-/// number, and a listing that is accepted prints back to its own bytes". So it is looked for by its digits alone, and
-/// accepted if it prints to this listing.
+/// number, and a listing that is accepted prints back to its own bytes". So it is looked for by its digits and its lone
+/// dashes alone, and accepted if it prints to this listing.
 pub fn accepted_by_printing(sheet: &[u8], net: &Net, listing: &[u8]) -> Option<Vec<u16>> {
     let text = String::from_utf8_lossy(listing);
     let behind_header = text.split_once('\n').map_or("", |halves| halves.1);
-    let digits = behind_header.split(|letter: char| !letter.is_ascii_digit()).filter(|digits| !digits.is_empty());
-    let table: Vec<u16> = digits.map_while(|digits| digits.parse().ok()).collect();
+    let fields = behind_header.lines().flat_map(|line| line.split(',').skip(1));
+    let number = |field: &str| if field == "-" { Some(65_535) } else { field.parse().ok().filter(|&n| n < 65_535) };
+    let table: Vec<u16> = fields.map_while(number).collect();
     let fits = table.len() == net.events.len() << net.signals.len();
     if fits && print_again(sheet, net, &table) == text && text.is_ascii() { Some(table) } else { None }
 }
@@ -377,7 +419,8 @@ fn print_again(sheet: &[u8], net: &Net, table: &[u16]) -> String {
             left /= 2;
         }
         let mark = if marks.is_empty() { "-".to_string() } else { marks };
-        rows.push([mark].into_iter().chain(minutes.iter().map(u16::to_string)).collect());
+        let text = |&minute: &u16| minute.checked_add(1).map_or("-".to_string(), |_| minute.to_string());
+        rows.push([mark].into_iter().chain(minutes.iter().map(text)).collect());
     }
     rows.iter().map(|row| row.join(",") + "\n").collect()
 }

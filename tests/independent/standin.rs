@@ -7,11 +7,13 @@
 #![allow(dead_code)]
 
 mod faults;
+mod labels;
 mod leaps;
 mod library;
 mod model;
 mod readers;
 mod rounds;
+mod sections;
 
 use std::slice::{from_raw_parts, from_raw_parts_mut};
 

@@ -23,6 +23,8 @@ pub struct Seen {
     refused: u64,
     slow_tables: u64,
     slow_without: u64,
+    labelled_tables: u64,
+    labelled_without: u64,
 }
 
 /// What all three say of a sheet that is not refused.
@@ -32,6 +34,8 @@ struct Counted {
     has_table: bool,
     /// Whether some signal has a reaction other than 1.
     slow: bool,
+    /// Whether some event has a label other than `-`.
+    labelled: bool,
 }
 
 /// Compares on request 8's rings and on generated sheets.
@@ -95,6 +99,9 @@ pub fn compare_sheets(tally: &Tally, seed: u64, sheets: u64) -> Result<Seen, (u6
     if sheets >= ENOUGH && seen.slow_tables.min(seen.slow_without) == 0 {
         return Err((sheets, format!("{}: no table, or no refusal 13, with reactions other than 1", seen.words())));
     }
+    if sheets >= ENOUGH && seen.labelled_tables.min(seen.labelled_without) == 0 {
+        return Err((sheets, format!("{}: no table, or no refusal 13, with labelled events", seen.words())));
+    }
     Ok(seen)
 }
 
@@ -107,12 +114,16 @@ impl Seen {
         self.without += u64::from(!counted.has_table);
         self.slow_tables += u64::from(counted.slow && counted.has_table);
         self.slow_without += u64::from(counted.slow && !counted.has_table);
+        self.labelled_tables += u64::from(counted.labelled && counted.has_table);
+        self.labelled_without += u64::from(counted.labelled && !counted.has_table);
     }
 
     pub fn words(&self) -> String {
         let leapt = format!("{} leapt (at most half of the rounds made one by one), {} of them to a table", self.leapt, self.leapt_to_tables);
         let slow = format!("with reactions {} tables, {} without", self.slow_tables, self.slow_without);
-        let ends = format!("{} tables, {} without; {slow}; {} refused", self.tables, self.without, self.refused);
+        let labelled = format!("with labels {} tables, {} without", self.labelled_tables, self.labelled_without);
+        let all = format!("{} tables, {} without", self.tables, self.without);
+        let ends = format!("{all}; {slow}; {labelled}; {} refused", self.refused);
         format!("{} sheets, {leapt}; {ends}", self.sheets)
     }
 }
@@ -132,7 +143,9 @@ fn check(tally: &Tally, sheet: &[u8]) -> Result<Result<Counted, Refusal>, String
         _ if lent.is(&kept).is_err() => "the sheet was altered".to_string(),
         _ => {
             let has_table = (right >> 32) as u32 != NO_TABLE;
-            return Ok(reading.map(|net| Counted { count, turns, has_table, slow: net.is_slow() }));
+            let counted = |net: model::Net| (net.is_slow(), net.is_labelled());
+            let found = |(slow, labelled)| Counted { count, turns, has_table, slow, labelled };
+            return Ok(reading.map(|net| found(counted(net))));
         }
     };
     Err(format!("{fault}\nsheet of {} bytes\n{}", sheet.len(), text_of(sheet)))

@@ -1,13 +1,14 @@
-//! Wrong programs that judge a listing's table (02, point 4), to see that the comparison notices them: with wrong
-//! readers of `readers.rs`, wrong words, or wrong judges.
+//! Wrong programs that judge a listing's table (02, points 4 and 6), to see that the comparison notices them: with
+//! wrong readers of `readers.rs`, wrong words, or wrong judges, of `labels.rs` too.
 
+use crate::labels::{self, Slip as Absent};
 use crate::model::{self, Files, Net, Refusal, Verdict};
 use crate::readers::{self, Slip};
 
 /// What a program prints for its two files.
 pub type Judging = fn(&Files) -> String;
 
-pub const JUDGE_FAULTS: [(&str, Judging); 120] = [
+pub const JUDGE_FAULTS: [(&str, Judging); 142] = [
     ("18-and-19-exchanged", |files| read_by(files, Slip::NumbersExchanged)),
     ("lines-in-turn", |files| read_by(files, Slip::LinesInTurn)),
     ("19-before-18-on-a-line", |files| read_by(files, Slip::NineteenOnTheLine)),
@@ -57,12 +58,23 @@ pub const JUDGE_FAULTS: [(&str, Judging); 120] = [
     ("last-comma-ignored", |files| read_by(files, Slip::LastCommaIgnored)),
     ("missing-field-is-0", |files| read_by(files, Slip::MissingFieldIsZero)),
     ("fields-are-19", |files| read_by(files, Slip::FieldsAreNineteen)),
-    ("65535-refused", |files| read_by(files, Slip::Refused65535)),
+    ("65535-accepted", |files| read_by(files, Slip::Accepted65535)),
+    ("65534-refused", |files| read_by(files, Slip::Refused65534)),
+    ("dash-refused", |files| read_by(files, Slip::DashRefused)),
+    ("dash-is-0", |files| read_by(files, Slip::DashIsZero)),
+    ("dash-is-65534", |files| read_by(files, Slip::DashIs65534)),
+    ("dash-is-18", |files| read_by(files, Slip::DashIsEighteen)),
+    ("dash-with-spaces", |files| read_by(files, Slip::DashWithSpaces)),
+    ("dash-of-two", |files| read_by(files, Slip::DashOfTwo)),
+    ("dash-only-once-a-row", |files| read_by(files, Slip::DashOnlyOnce)),
+    ("dash-not-at-the-start", |files| read_by(files, Slip::DashNotAtTheStart)),
+    ("dash-only-in-labelled", |files| read_by(files, Slip::DashOnlyInLabelled)),
+    ("dash-only-where-absent", |files| read_by(files, Slip::DashOnlyWhereAbsent)),
     ("65536-is-0", |files| read_by(files, Slip::Accepted65536)),
     ("wraps-at-2-16", |files| read_by(files, Slip::WrapsAt16Bits)),
     ("wraps-at-2-32", |files| read_by(files, Slip::WrapsAt32Bits)),
     ("wraps-at-2-64", |files| read_by(files, Slip::WrapsAt64Bits)),
-    ("capped-at-65535", |files| read_by(files, Slip::Capped)),
+    ("capped-at-65534", |files| read_by(files, Slip::Capped)),
     ("10080-at-most", |files| read_by(files, Slip::AsFarAs10080)),
     ("horizon-at-most", |files| read_by(files, Slip::AsFarAsHorizon)),
     ("leading-0-accepted", |files| read_by(files, Slip::LeadingZero)),
@@ -112,6 +124,17 @@ pub const JUDGE_FAULTS: [(&str, Judging); 120] = [
     ("point-3-not-asked", |files| judged_by(files, point_3_not_asked)),
     ("first-case-only", |files| judged_by(files, first_case_only)),
     ("reactions-ignored", |files| judged_by(files, |net, table| model::judge(&hasty(net), table))),
+    ("filled-not-asked", |files| judged_by(files, |net, table| labels::judge(net, table, Absent::FilledNotAsked))),
+    ("blank-not-asked", |files| judged_by(files, |net, table| labels::judge(net, table, Absent::BlankNotAsked))),
+    ("labels-ignored", |files| judged_by(files, |net, table| labels::judge(net, table, Absent::LabelsIgnored))),
+    ("wait-not-asked", |files| judged_by(files, |net, table| labels::judge(net, table, Absent::WaitNotAsked))),
+    ("wait-of-one", |files| judged_by(files, |net, table| labels::judge(net, table, Absent::WaitOfOne))),
+    ("wait-not-for-blanks", |files| judged_by(files, |net, table| labels::judge(net, table, Absent::WaitNotForBlanks))),
+    ("waits-behind-the-rest", |files| judged_by(files, |net, table| labels::judge(net, table, Absent::WaitsLast))),
+    ("rule-by-label-only", |files| judged_by(files, |net, table| labels::judge(net, table, Absent::RuleByLabel))),
+    ("blank-is-0-in-a-rule", |files| judged_by(files, |net, table| labels::judge(net, table, Absent::BlankIsZero))),
+    ("not-given-counts", |files| judged_by(files, |net, table| labels::judge(net, table, Absent::NotGivenCounts))),
+    ("one-case-is-unheard", |files| judged_by(files, |net, table| labels::judge(net, table, Absent::OneCaseUnheard))),
     ("only-the-least-passes", |files| judged_by(files, only_the_least_passes)),
     ("13-where-none-is-good", |files| refused_where(files, 13, |net, _| model::solve(net).is_none())),
     ("14-for-a-breach", |files| refused_where(files, 14, |net, table| model::judge(net, table) != Verdict::Pass)),
@@ -206,7 +229,7 @@ fn hasty(net: &Net) -> Net {
     hasty
 }
 
-/// The horizon put off; a start that isn't 0 is still late.
+/// The horizon put off; a start that isn't 0 is still late, and so is what labels forbid but for a blank.
 fn point_1_not_asked(net: &Net, table: &[u16]) -> Verdict {
     model::judge(&Net { horizon: 65_535, ..net.clone() }, table)
 }

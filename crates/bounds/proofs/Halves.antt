@@ -3,8 +3,7 @@
 use mathlib.Core.List.{List}
 use Prim.Native.Nat.{ℕ, _≤_, _<_}
 use native.Mathlib.Omega.{arith}
-use Rattle.network.specs.Build.{constraint}
-use Rattle.network.specs.WellFormed.{WellFormed}
+use Rattle.network.specs.WellFormed.{Proper, WellFormed}
 use Rattle.network.specs.declared.Constraint.{Constraint}
 use Rattle.network.specs.declared.Network.{Network}
 use Rattle.rows.specs.declared.Frame.{Frame}
@@ -14,14 +13,13 @@ use Rattle.bounds.specs.Listed.{upperWeight, lowerWeight, Lists, Bound}
 use Rattle.bounds.specs.Halves.{Listable, UpperAdded, LowerAdded}
 use Rattle.bounds.proofs.Weights.{upper-few, lower-few}
 
--- a constraint of a network
+-- a constraint of a network, also one that is not on its sheet
 module _ (Γ : Network) (frame : Frame) (W : WellFormed Γ) (F : Framed Γ frame) where
   pub scenarios-few : frame .scenarios ≤ 16
   scenarios-few = rw (F .scenarios-are) (sixteen (Γ .signals) (W .signals))
 
-  pub listable : (i : ℕ) → i < Γ .rules → Listable frame (constraint Γ i)
-  listable i l =
-      let p = W .proper i l in
+  pub listable : (c : Constraint) → Proper Γ c → Listable frame c
+  listable c p =
       let few = sixteen (Γ .signals) (W .signals) in
       record {
         scenarios-few = scenarios-few;
@@ -29,12 +27,12 @@ module _ (Γ : Network) (frame : Frame) (W : WellFormed Γ) (F : Framed Γ frame
         from = omega (arith, F .events, p .from);
         to = omega (arith, F .events, p .to);
         bound = p .bound;
-        label = record { positive = omega (arith, p .positive); negative = omega (arith, p .negative) };
+        label = record { positive = omega (arith, p .label .positive); negative = omega (arith, p .label .negative) };
       }
 
 -- what may be listed for a constraint, and that it leaves lists
 module _ (frame : Frame) (c : Constraint) (ok : Listable frame c) where
-  pub upper-bound : Bound frame c (c .from) (c .to) (upperWeight (c .bound))
+  pub upper-bound : Bound frame (c .label) (c .from) (c .to) (upperWeight (c .bound))
   upper-bound = record {
     scenarios = ok .scenarios-few;
     events = ok .events-few;
@@ -44,7 +42,7 @@ module _ (frame : Frame) (c : Constraint) (ok : Listable frame c) where
     weight-in = upper-few (c .bound) (ok .bound);
   }
 
-  pub lower-bound : Bound frame c (c .to) (c .from) (lowerWeight (c .bound))
+  pub lower-bound : Bound frame (c .label) (c .to) (c .from) (lowerWeight (c .bound))
   lower-bound = record {
     scenarios = ok .scenarios-few;
     events = ok .events-few;

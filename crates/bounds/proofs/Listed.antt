@@ -10,9 +10,8 @@ use lib.ListN.{length, getD, set, length-set}
 use lib.Seq.{getD-set-same, getD-set-other}
 use Rattle.prelude.specs.Bounded.{maxBelow}
 use Rattle.prelude.proofs.Tests.{eq-or-ne}
-use Rattle.network.specs.Constraint.{covers}
-use Rattle.network.specs.declared.Constraint.{Constraint}
-use Rattle.network.specs.declared.Network.{Network}
+use Rattle.network.specs.Scenario.{satisfies}
+use Rattle.network.specs.declared.Label.{Label}
 use Rattle.bounds.specs.Listed.{asking, target, source, weight, listAsks, countAfter, listAfter, Lists, NoLonger}
 use Rattle.bounds.specs.Listed.{Added}
 
@@ -84,9 +83,9 @@ module _ (counts : List ℕ) (s : ℕ) where
 
 -- one bound more for scenario s
 module _ (n : ℕ) (counts lists : List ℕ) (s x y z : ℕ) (L : Lists n counts lists) (h : s < 16)
-    (few : getD counts s 0 < 128) where
+    (few : getD counts s 0 < 192) where
   abbrev b : ℕ
-  b = s * 128 + getD counts s 0
+  b = s * 192 + getD counts s 0
 
   here : Three (listAfter lists b x y z) b x y z
   here = listAfter-here lists b x y z (omega (arith, L .lists-sized))
@@ -122,50 +121,50 @@ module _ (n : ℕ) (counts lists : List ℕ) (s x y z : ℕ) (L : Lists n counts
     append-here : listAsks (countAfter counts s) (listAfter lists b x y z) s row u ≡ max (listAsks counts lists s row u)
         (asking x y z row u)
     append-here =
-        let rest = maxBelow-ext _ _ (getD counts s 0) (λ j l. same (s * 128 + j) (λ e. omega arith)) in
+        let rest = maxBelow-ext _ _ (getD counts s 0) (λ j l. same (s * 192 + j) (λ e. omega arith)) in
         rw (countAfter-here counts s (omega (arith, L .counts-sized)), add-one)
         (omega (arith, rest, asks-three (listAfter lists b x y z) b x y z row u here))
 
-    append-other : (r : ℕ) → (r ≡ s → ⊥) → getD counts r 0 ≤ 128
+    append-other : (r : ℕ) → (r ≡ s → ⊥) → getD counts r 0 ≤ 192
         → listAsks (countAfter counts s) (listAfter lists b x y z) r row u ≡ listAsks counts lists r row u
     append-other r e l =
         rw (countAfter-other counts s r e)
-        (maxBelow-ext _ _ (getD counts r 0) (λ j m. same (r * 128 + j) (λ q. e (omega arith))))
+        (maxBelow-ext _ _ (getD counts r 0) (λ j m. same (r * 192 + j) (λ q. e (omega arith))))
 
 -- the first scenarios
-module _ (c : Constraint) (x y z : ℕ) (counts lists : List ℕ) where
-  pub added-none : Added c x y z counts lists counts lists 0
+module _ (ℓ : Label) (x y z : ℕ) (counts lists : List ℕ) where
+  pub added-none : Added ℓ x y z counts lists counts lists 0
   added-none = record {
     keeps = λ n p q r L. L;
     grows = λ s. omega arith;
-    adds = λ Γ s l. absurd (omega arith);
+    adds = λ s l. absurd (omega arith);
     count-later = λ s l. refl;
     later = λ s l row u. refl;
   }
 
-  module _ {counts′ lists′ : List ℕ} {s : ℕ} (A : Added c x y z counts lists counts′ lists′ s) where
-    pub added-skip : ((Γ : Network) → covers Γ c s ≡ false) → Added c x y z counts lists counts′ lists′ (s + 1)
+  module _ {counts′ lists′ : List ℕ} {s : ℕ} (A : Added ℓ x y z counts lists counts′ lists′ s) where
+    pub added-skip : satisfies s ℓ ≡ false → Added ℓ x y z counts lists counts′ lists′ (s + 1)
     added-skip e = record {
       keeps = A .keeps;
       grows = A .grows;
       adds =
-          λ Γ r l row u. elim (eq-or-ne r s) [
-            | inl q ↦ rw (q, e Γ) (omega (arith, A .later s (omega arith) row u))
-            | inr q ↦ A .adds Γ r (omega arith) row u
+          λ r l row u. elim (eq-or-ne r s) [
+            | inl q ↦ rw (q, e) (omega (arith, A .later s (omega arith) row u))
+            | inr q ↦ A .adds r (omega arith) row u
           ];
       count-later = λ r l. A .count-later r (omega arith);
       later = λ r l. A .later r (omega arith);
     }
 
-    module _ (n : ℕ) (L : Lists n counts′ lists′) (short : NoLonger 127 counts) (h : s < 16) where
-      pub room : getD counts′ s 0 < 128
+    module _ (n : ℕ) (L : Lists n counts′ lists′) (short : NoLonger 191 counts) (h : s < 16) where
+      pub room : getD counts′ s 0 < 192
       room = omega (arith, A .count-later s (omega arith), short s)
 
-      below : (r : ℕ) → getD counts′ r 0 ≤ 128
+      below : (r : ℕ) → getD counts′ r 0 ≤ 192
       below r = omega (arith, A .grows r, short r)
 
-      pub added-one : ((Γ : Network) → covers Γ c s ≡ true)
-          → Added c x y z counts lists (countAfter counts′ s) (listAfter lists′ (s * 128 + getD counts′ s 0) x y z)
+      pub added-one : satisfies s ℓ ≡ true
+          → Added ℓ x y z counts lists (countAfter counts′ s) (listAfter lists′ (s * 192 + getD counts′ s 0) x y z)
           (s + 1)
       added-one e = record {
         keeps = λ m p q r M. append-lists m counts′ lists′ s x y z (A .keeps m p q r M) h room p q r;
@@ -176,11 +175,11 @@ module _ (c : Constraint) (x y z : ℕ) (counts lists : List ℕ) where
               | inr q ↦ omega (arith, countAfter-other counts′ s r q, A .grows r)
             ];
         adds =
-            λ Γ r l row u. elim (eq-or-ne r s) [
-              | inl q ↦ rw (q, e Γ) (omega
+            λ r l row u. elim (eq-or-ne r s) [
+              | inl q ↦ rw (q, e) (omega
                   (arith, append-here n counts′ lists′ s x y z L h room row u, A .later s (omega arith) row u))
               | inr q ↦ append-other n counts′ lists′ s x y z L h room row u r q (below r)
-                  ∙ A .adds Γ r (omega arith) row u
+                  ∙ A .adds r (omega arith) row u
             ];
         count-later = λ r l. countAfter-other counts′ s r (λ q. omega arith) ∙ A .count-later r (omega arith);
         later =

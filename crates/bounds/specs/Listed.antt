@@ -1,6 +1,6 @@
 -- Constraints as lists of difference bounds. Bound b has three numbers from place 3 b on: its target, its source and
 -- its weight. It asks that the target's time is at least the source's and the weight, less 10,080: so no number is
--- signed. The bounds of scenario s are those from 128 s on, and counts says how many.
+-- signed. The bounds of scenario s are those from 192 s on, and counts says how many.
 use mathlib.Core.Path.{_≡_}
 use mathlib.Core.Bool.{cond}
 use mathlib.Core.List.{List}
@@ -10,10 +10,9 @@ use lib.IntN.{ℤ, pos, negsuc, negℤ}
 use lib.ListN.{length, getD, set}
 use Rattle.prelude.specs.Bounded.{maxBelow}
 use Rattle.network.specs.Limits as L
-use Rattle.network.specs.Constraint.{covers}
+use Rattle.network.specs.Scenario.{satisfies}
+use Rattle.network.specs.WellFormed.{FewLetters}
 use Rattle.network.specs.declared.Label.{Label}
-use Rattle.network.specs.declared.Constraint.{Constraint}
-use Rattle.network.specs.declared.Network.{Network}
 use Rattle.rows.specs.declared.Frame.{Frame}
 
 -- the weight of b - a ≤ w, for the least time of a: 10,080 less w
@@ -27,7 +26,7 @@ lowerWeight w = upperWeight (negℤ w)
 
 -- three numbers for each bound of each scenario; and the greatest weight
 abbrev pub room : ℕ
-room = L.cases * L.bounds * 3
+room = L.cases * L.listed * 3
 
 abbrev pub heaviest : ℕ
 heaviest = 2 * L.horizon
@@ -50,7 +49,7 @@ module _ (lists : List ℕ) where
 abbrev pub listAsks : List ℕ → List ℕ → ℕ → List ℕ → ℕ → ℕ
 listAsks counts lists s row u =
     maxBelow (getD counts s 0)
-    (λ j. let b = s * L.bounds + j in asking (target lists b) (source lists b) (weight lists b) row u)
+    (λ j. let b = s * L.listed + j in asking (target lists b) (source lists b) (weight lists b) row u)
 
 -- one bound more for scenario s
 unfoldable pub countAfter : List ℕ → ℕ → List ℕ
@@ -71,27 +70,22 @@ pub record Lists (n : ℕ) (counts lists : List ℕ) : Type 0 where
 abbrev pub NoLonger : ℕ → List ℕ → Type 0
 NoLonger m counts = (s : ℕ) → getD counts s 0 ≤ m
 
--- a label's letters are among four
-pub record SmallSums (ℓ : Label) : Type 0 where
-  pub positive : ℓ .positive < L.cases
-  pub negative : ℓ .negative < L.cases
-
--- what may be listed of a constraint
-pub record Bound (frame : Frame) (c : Constraint) (target source weight : ℕ) : Type 0 where
+-- what may be listed under a label
+pub record Bound (frame : Frame) (ℓ : Label) (target source weight : ℕ) : Type 0 where
   pub scenarios : frame .scenarios ≤ L.cases
   pub events : frame .events ≤ L.events
-  pub label : SmallSums (c .label)
+  pub label : FewLetters ℓ
   pub target-in : target < frame .events
   pub source-in : source < frame .events
   pub weight-in : weight ≤ heaviest
 
--- the bound is listed for those of the first k scenarios in which the constraint counts
-pub record Added (c : Constraint) (target source weight : ℕ) (counts lists counts′ lists′ : List ℕ) (k : ℕ)
+-- the bound is listed for those of the first k scenarios in which the label holds
+pub record Added (ℓ : Label) (target source weight : ℕ) (counts lists counts′ lists′ : List ℕ) (k : ℕ)
     : Type 0 where
   pub keeps : (n : ℕ) → target < n → source < n → weight ≤ heaviest → Lists n counts lists → Lists n counts′ lists′
   pub grows : (s : ℕ) → getD counts′ s 0 ≤ getD counts s 0 + 1
-  pub adds : (Γ : Network) (s : ℕ) → s < k → (row : List ℕ) (u : ℕ)
+  pub adds : (s : ℕ) → s < k → (row : List ℕ) (u : ℕ)
       → listAsks counts′ lists′ s row u ≡ max (listAsks counts lists s row u)
-      (cond (covers Γ c s) (asking target source weight row u) 0)
+      (cond (satisfies s ℓ) (asking target source weight row u) 0)
   pub count-later : (s : ℕ) → k ≤ s → getD counts′ s 0 ≡ getD counts s 0
   pub later : (s : ℕ) → k ≤ s → (row : List ℕ) (u : ℕ) → listAsks counts′ lists′ s row u ≡ listAsks counts lists s row u

@@ -6,7 +6,7 @@ use native.Mathlib.Omega.{arith}
 use lib.ListN.{length, drop, length-append}
 use Rattle.network.specs.declared.Network.{Network}
 use Rattle.sheet.specs.Reading.{read}
-use Rattle.solver.specs.Solve.{solve}
+use Rattle.solver.specs.Solve.{solve, found}
 use Rattle.listing.specs.Listing.{listing}
 use Rattle.canonical.specs.House.{houseText}
 use Rattle.calls.specs.Call.{Tests, call, Left, Leaves}
@@ -39,7 +39,7 @@ module _ (sheet m : List ℕ) (tests : Network → Tests) (text : Network → Li
 
 module _ {w : Written} {m′ : List ℕ} (sheet m : List ℕ) where
   pub solving-counted : Leaves (solving sheet m) w m′ → Within m′ w
-  solving-counted = counted sheet m (solvingTests (inPlace m)) (λ Γ. solve Γ .reached)
+  solving-counted = counted sheet m (solvingTests (inPlace m)) (λ Γ. found Γ)
 
   pub listed-counted : (t : List ℕ) → Leaves (listed sheet t m) w m′ → Within m′ w
   listed-counted t = counted sheet m (listingTests sheet (asMinutes t) (inPlace m)) (λ Γ. listing sheet Γ t)

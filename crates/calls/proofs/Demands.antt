@@ -2,10 +2,11 @@
 use mathlib.Core.Path.{sym}
 use Rattle.sheet.specs.Reading.{read}
 use Rattle.sheet.proofs.Fault.{refused-iff, fault-lowest}
+use Rattle.line.proofs.WholeFails.{start-fails, complete-fails}
 use Rattle.layout.proofs.Accepted.{accepted-iff, network-contains}
 use Rattle.checker.proofs.Judged.{judged}
 use Rattle.checker.proofs.First.{breach-iff}
-use Rattle.solver.specs.Solve.{solve}
+use Rattle.solver.specs.Solve.{solve, found}
 use Rattle.rounds.proofs.Hyperarcs.{hyperarcs-agree}
 use Rattle.solver.proofs.Least.{solve-least, solve-none}
 use Rattle.calls.specs.Demands.{Demands}
@@ -18,6 +19,7 @@ use Rattle.calls.proofs.Solving.{refuses-13, solves-least}
 use Rattle.calls.proofs.Writing.{wrote, listing-wrote}
 use Rattle.calls.proofs.Numbers.{numbers}
 use Rattle.calls.proofs.Benched.{benched}
+use Rattle.calls.proofs.Former.{plain-contents, former-iff}
 
 pub demands : Demands
 demands = record {
@@ -26,14 +28,19 @@ demands = record {
   accepted = accepted-iff;
   contains = λ sheet Γ r l. rw (← r .network) (network-contains sheet l);
   at-fault = refused-iff;
+  start-labelled = λ Γ _. start-fails Γ;
+  incomplete = complete-fails;
+  labelled = λ sheet Γ r. reads-well-formed r .labels;
   lowest = fault-lowest;
   judged = λ sheet σ Γ r l. judged Γ σ l;
   breach-first = λ sheet σ Γ b r. breach-iff Γ σ b;
-  agree = λ sheet σ Γ r. hyperarcs-agree Γ σ (reads-well-formed r .observed);
+  agree = λ sheet σ Γ r. hyperarcs-agree Γ σ (reads-well-formed r);
+  plain = λ sheet σ Γ r p u. former-iff Γ σ p u (reads-well-formed r .some-event);
+  plain-sheet = λ sheet Γ r l. plain-contents (rw (r .network) at (network-contains sheet l)) (l .keeps);
   least = λ sheet Γ r e. solve-least Γ (reads-well-formed r) e;
   none = λ sheet Γ r. (
     λ n. solve-none Γ (reads-well-formed r) n,
-    λ i e. i .none (solve Γ .reached) (solve-least Γ (reads-well-formed r) e .solves),
+    λ i e. i .none (found Γ) (solve-least Γ (reads-well-formed r) e .solves),
   );
   passes = λ sheet t Γ r. rw (← r .network)
       (let p = judge-passes sheet (asMinutes t) (minutes t) (r .accepted) (minutes-rightly t (read sheet .network)) in

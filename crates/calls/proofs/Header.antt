@@ -20,7 +20,7 @@ use Rattle.calls.specs.Play.{dueValues}
 use Rattle.calls.specs.Bench.{benchJudgement, benchSolving, benchListed, benchDue, benchRecovering}
 use Rattle.calls.specs.Bench.{Finding, noFinding}
 use Rattle.calls.specs.Bench.{judgementValues, refused, packed, Small, packedCount}
-use Rattle.calls.specs.Answers.{Own, OneOf, Answers}
+use Rattle.calls.specs.Answers.{OfSheet, Own, OneOf, Answers}
 use Rattle.calls.specs.Numbers.{bytes, judges, solves, lists, houses, recovers, plays, misnamedIn, unheardBy}
 use Rattle.calls.specs.Header.{JudgeHolds, CountHolds}
 use Rattle.calls.specs.declared.Judgement.{Judgement}
@@ -45,8 +45,9 @@ module _ {A : Type 0} {nothing : A} (sheet : List ℕ) (own : List Own) (v : Val
   number-few : v .number < 256
   number-few = by-number (a .numbers)
     where
-      by-number : (v .number ≤ 10) ⊎ OneOf own (v .number) → v .number < 256
-      by-number (inl l) = omega arith
+      by-number : OfSheet (v .number) ⊎ OneOf own (v .number) → v .number < 256
+      by-number (inl (inl l)) = omega arith
+      by-number (inl (inr l)) = omega (arith, l .1)
       by-number (inr m) = one-few own (v .number) few m
 
   line-few : v .line < 65536

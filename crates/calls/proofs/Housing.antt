@@ -10,11 +10,12 @@ use Rattle.network.proofs.Least.{same-least, same-inconsistent}
 use Rattle.sheet.specs.Reading.{read}
 use Rattle.sheet.specs.declared.Outcome.the-variants.{Accepted}
 use Rattle.tighten.specs.Tightest.{remainingOf}
+use Rattle.tighten.proofs.Agree.{same-events}
 use Rattle.tighten.proofs.Regular.{uppers-regular}
 use Rattle.tighten.proofs.Remains.{remaining-is, remaining-unique}
 use Rattle.canonical.specs.House.{houseText}
 use Rattle.canonical.specs.Same.{Same}
-use Rattle.canonical.proofs.Again.{form-accepted, form-again, form-few, form-tables}
+use Rattle.canonical.proofs.Again.{form-accepted, form-agrees, form-again, form-few, form-tables}
 use Rattle.canonical.proofs.Forms.{forms-equal}
 use Rattle.calls.specs.Calls.{housed}
 use Rattle.calls.specs.Answers.{Reads, WroteText}
@@ -57,7 +58,8 @@ tables sheet f Γ Δ form reads =
     by-sheet (λ sheet Γ f. (Δ : Network) → read f .network ≡ Δ → SameTables Γ Δ)
     (λ sheet a few Δ n. rw (← n)
     (let good = form-tables sheet a few in
-    record { good = good; least = same-least good; none = same-inconsistent good }))
+    let events = same-events (form-agrees sheet a few) in
+    record { good = good; least = same-least events good; none = same-inconsistent events good }))
     sheet f Γ form Δ (reads .network)
 
 equal : (sheet other f g : List ℕ) (Γ Δ : Network) → Form sheet Γ f → Form other Δ g → (f ≡ g) ↔ Same sheet Γ other Δ

@@ -3,22 +3,24 @@ use mathlib.Core.Path.{_≡_, refl, _∙_, ap, ap₂}
 use mathlib.Core.Bool.{Bool, true, false, _&&_, Bool·beq, cond}
 use mathlib.Core.Option.{Option, none, some}
 use mathlib.Core.List.{List, [], _∷_}
-use Prim.Native.Nat.{ℕ, zero, suc, _+_}
+use Prim.Native.Nat.{ℕ, zero, suc, _+_, _^_}
 use native.Mathlib.Omega.{arith}
 use lib.Dec.{eqb}
 use Rattle.prelude.specs.Bytes.{distinct}
 use Rattle.prelude.specs.Search.{when, answers}
+use Rattle.prelude.specs.Bounded.{sumBelow}
+use Rattle.prelude.proofs.Bounded.{sumBelow-same}
 use Rattle.network.specs.Build.{letter}
 use Rattle.network.specs.Scenario.{truth}
 use Rattle.network.specs.declared.Network.{Network}
 use Rattle.names.specs.Defined.{placeOf, allDefined}
 use Rattle.dispatch.specs.Heard.{lettersOf, isWellNamed, says, recordsFrom}
-use Rattle.dispatch.specs.Due.{asHeard, hasHeard, hearer, dueIn, dueFor, dueBy, due}
+use Rattle.dispatch.specs.Due.{isDue, asHeard, hasHeard, hearer, dueFor, dueBy, due}
 use Rattle.dispatch.specs.Said.{saidOn, standsOn, saidFrom, wellNamedOn, dueOn}
 use Rattle.dispatch.specs.declared.Heard.{Heard}
 use Rattle.dispatch.specs.declared.Dispatched.{Dispatched}
 use Rattle.dispatch.specs.declared.Dispatched.the-variants.{Events, Misnamed}
-use Rattle.tighten.proofs.Tables.{scenarios-agree}
+use Rattle.tighten.proofs.Agree.{scenarios-agree, happens-agree, time-agree}
 use Rattle.calls.proofs.Likewise.{Likewise}
 use Rattle.calls.proofs.LikeVerdicts.{first-same, all-same, known-same}
 
@@ -66,7 +68,12 @@ module _ {Γ Δ : Network} (w : Likewise Γ Δ) where
 
     for-same : (o : Option ℕ) → dueFor Γ σ m o ≡ dueFor Δ σ m o
     for-same none = refl
-    for-same (some s) = ap (λ (n : ℕ). Events (dueIn n σ m s)) (w .agrees .events)
+    for-same (some s) = ap Events
+        (sumBelow-same (λ u. cond (isDue Γ σ m s u) (2 ^ u) 0) (λ u. cond (isDue Δ σ m s u) (2 ^ u) 0) (Γ .events)
+        (λ u _.
+        ap (λ (b : Bool). cond b (2 ^ u) 0)
+        (ap₂ (λ (b : Bool) (t : ℕ). b && eqb t m) (happens-agree (w .agrees) s u) (time-agree (w .agrees) σ s u)))
+        ∙ ap (λ (n : ℕ). sumBelow n (λ u. cond (isDue Δ σ m s u) (2 ^ u) 0)) (w .agrees .events))
 
     by-same : (b : Bool) (said : ℕ → Bool → Bool) → dueBy Γ σ m b said ≡ dueBy Δ σ m b said
     by-same b said =

@@ -1,6 +1,6 @@
 -- Networks that say the same judge every table alike. Assumes nothing.
 use mathlib.Core.Path.{_≡_, sym, _∙_, ap, ap₂}
-use mathlib.Core.Bool.{Bool, _&&_, _||_, not}
+use mathlib.Core.Bool.{Bool, _&&_, _||_, not, cond}
 use mathlib.Core.Option.{Option}
 use mathlib.Core.List.{List}
 use Prim.Native.Nat.{ℕ, _<_}
@@ -9,17 +9,20 @@ use Rattle.prelude.specs.Search.{firstBelow, unless, orElse}
 use Rattle.prelude.specs.Bounded.{allBelow}
 use Rattle.prelude.proofs.Bounded.{allBelow-same}
 use Rattle.prelude.proofs.Search.{firstBelow-same}
-use Rattle.network.specs.Build.{constraint}
-use Rattle.network.specs.Scenario.{agree}
+use Rattle.network.specs.Limits as L
+use Rattle.network.specs.Build.{eventLabel, constraint}
+use Rattle.network.specs.Scenario.{agree, satisfies}
+use Rattle.network.specs.Happens.{mentions, happens}
 use Rattle.network.specs.Constraint.{covers, admits}
-use Rattle.network.specs.Strategy.{time, known}
+use Rattle.network.specs.Strategy.{time, knownFrom, known}
+use Rattle.network.specs.declared.Label.{Label}
 use Rattle.network.specs.declared.Constraint.{Constraint}
 use Rattle.network.specs.declared.Network.{Network}
-use Rattle.network.proofs.Masks.{covers-satisfies}
-use Rattle.checker.specs.Verdict.{isOnTime, doesHold, isIndistinct, isAlike, lateIn, firstLate, brokenIn, firstBroken}
+use Rattle.checker.specs.Verdict.{doesWait, isPlaced, isOnTime, doesHold, isIndistinct, isAlike, lateIn, firstLate}
+use Rattle.checker.specs.Verdict.{brokenIn, firstBroken}
 use Rattle.checker.specs.Verdict.{unheardIn, unheardFrom, firstUnheard, verdictOf, verdict}
 use Rattle.checker.specs.declared.Breach.the-variants.{Late, Rule, Unheard}
-use Rattle.tighten.proofs.Tables.{scenarios-agree, time-agree, knownFrom-agree}
+use Rattle.tighten.proofs.Agree.{scenarios-agree, happens-agree, time-agree, knownFrom-agree, known-agree}
 use Rattle.calls.proofs.Likewise.{Likewise}
 
 -- a search whose answers are the same, over as many numbers
@@ -32,12 +35,30 @@ all-same f g {n} e h = allBelow-same f g n h ∙ ap (λ (k : ℕ). allBelow k g)
 
 module _ {Γ Δ : Network} (w : Likewise Γ Δ) (σ : List ℕ) where
   pub known-same : (s p m : ℕ) → p < Γ .signals → known Γ σ s p m ≡ known Δ σ s p m
-  known-same s p m l = ap (λ (t : ℕ). leb t m) (knownFrom-agree (w .agrees) σ s p l)
+  known-same s p m l = known-agree (w .agrees) σ s p m l
+
+  happens-same : (s u : ℕ) → happens Γ s u ≡ happens Δ s u
+  happens-same = happens-agree (w .agrees)
 
   -- point 1
+  waits-same : (s u : ℕ) → doesWait Γ σ s u ≡ doesWait Δ σ s u
+  waits-same s u =
+      all-same (λ p. not (mentions (eventLabel Γ u) p) || leb (knownFrom Γ σ s p) (time (Γ .events) σ s u))
+      (λ p. not (mentions (eventLabel Δ u) p) || leb (knownFrom Δ σ s p) (time (Δ .events) σ s u)) (w .agrees .signals)
+      (λ p l.
+      ap₂ (λ (ℓ : Label) (b : Bool). not (mentions ℓ p) || b) (w .agrees .labels u)
+      (ap₂ leb (knownFrom-agree (w .agrees) σ s p l) (time-agree (w .agrees) σ s u)))
+
+  placed-same : (s u : ℕ) → isPlaced Γ σ s u ≡ isPlaced Δ σ s u
+  placed-same s u =
+      ap₂ _&&_
+      (ap₂ (λ (t h : ℕ). leb t h && (not (eqb u 0) || eqb t 0)) (time-agree (w .agrees) σ s u) (w .agrees .horizon))
+      (waits-same s u)
+
   on-time-same : (s u : ℕ) → isOnTime Γ σ s u ≡ isOnTime Δ σ s u
   on-time-same s u =
-      ap₂ (λ (t h : ℕ). leb t h && (not (eqb u 0) || eqb t 0)) (time-agree (w .agrees) σ s u) (w .agrees .horizon)
+      ap₂ (λ (h p : Bool). cond h p (eqb (time (Γ .events) σ s u) L.blank)) (happens-same s u) (placed-same s u)
+      ∙ ap (λ (t : ℕ). cond (happens Δ s u) (isPlaced Δ σ s u) (eqb t L.blank)) (time-agree (w .agrees) σ s u)
 
   late-same : firstLate Γ σ ≡ firstLate Δ σ
   late-same =
@@ -47,7 +68,9 @@ module _ {Γ Δ : Network} (w : Likewise Γ Δ) (σ : List ℕ) where
 
   -- point 2
   covers-same : (c : Constraint) (s : ℕ) → covers Γ c s ≡ covers Δ c s
-  covers-same c s = covers-satisfies Γ c s ∙ sym (covers-satisfies Δ c s)
+  unfolding covers
+  covers-same c s =
+      ap₂ (λ (a b : Bool). satisfies s (c .label) && (a && b)) (happens-same s (c .from)) (happens-same s (c .to))
 
   holds-same : (s : ℕ) (c : Constraint) → doesHold Γ σ s c ≡ doesHold Δ σ s c
   holds-same s c =
@@ -73,8 +96,9 @@ module _ {Γ Δ : Network} (w : Likewise Γ Δ) (σ : List ℕ) where
 
   alike-same : (s r u : ℕ) → isAlike Γ σ s r u ≡ isAlike Δ σ s r u
   alike-same s r u =
-      ap₂ (λ (b d : Bool). not b || d) (indistinct-same s r u)
-      (ap₂ eqb (time-agree (w .agrees) σ s u) (time-agree (w .agrees) σ r u))
+      ap₂ (λ (b d : Bool). not b || d) (ap₂ _&&_ (happens-same s u) (happens-same r u))
+      (ap₂ (λ (b d : Bool). not b || d) (indistinct-same s r u)
+      (ap₂ eqb (time-agree (w .agrees) σ s u) (time-agree (w .agrees) σ r u)))
 
   unheard-same : firstUnheard Γ σ ≡ firstUnheard Δ σ
   unheard-same =

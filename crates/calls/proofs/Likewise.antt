@@ -2,20 +2,29 @@
 -- Two sheets with the same contents besides reactions, and with the same reactions, have such networks. Assumes
 -- nothing.
 use mathlib.Core.Path.{_≡_, refl, sym, _∙_, ap, ap₂}
+use mathlib.Core.Logic.{inl, inr}
+use mathlib.Core.Bool.{Bool, true, false, not}
 use mathlib.Core.List.{List, [], _++_}
 use Prim.Native.Nat.{ℕ, zero, suc, _<_}
 use native.Mathlib.Omega.{arith}
-use lib.ListN.{length, getD}
-use Rattle.prelude.specs.Lists.{Distinct}
-use Rattle.network.specs.Build.{letter, observation, constraint}
+use borrow.Author.Tests.{not-false}
+use lib.ListN.{length, getD, length-map}
+use Rattle.prelude.specs.Lists.{In, Distinct}
+use Rattle.prelude.specs.Bounded.{allBelow}
+use Rattle.prelude.specs.Bytes as bytes
+use Rattle.prelude.proofs.Tests.{either, clash}
+use Rattle.prelude.proofs.Bounded.{true-of-allBelow, allBelow-false}
+use Rattle.prelude.proofs.Bytes.{same-true, same-of-eq}
+use Rattle.prelude.proofs.Mapped.{getD-map}
+use Rattle.network.specs.Build.{letter, observation, eventLabel, constraint}
 use Rattle.network.specs.Strategy.{reaction}
 use Rattle.network.specs.declared.Constraint.{Constraint}
 use Rattle.network.specs.declared.Network.{Network}
-use Rattle.layout.specs.Contents.{Signal, Contents, noSignal, noRule}
+use Rattle.layout.specs.Contents.{Signal, Contents, noSignal, noRule, noCase, caseEvents, listedCases}
 use Rattle.layout.specs.Contains.{Bears, Means, Contains}
 use Rattle.tighten.specs.Upper.{uppers, uppersBelow}
 use Rattle.tighten.specs.Tightest.{remaining, remainingOf}
-use Rattle.tighten.proofs.Tables.{Agree}
+use Rattle.tighten.proofs.Agree.{Agree}
 use Rattle.canonical.specs.Same.{Same}
 use Rattle.canonical.proofs.Faithful.{names-held, signals-held}
 use Rattle.calls.specs.Reacting.{Besides}
@@ -62,6 +71,38 @@ module _ {sheet other : List ℕ} {Γ Δ : Network} {c d : Contents} (h : Contai
       means-same (constraint Γ i) (constraint Δ i) i (h .means i (omega (arith, h .rules)))
       (rw (b .names, b .signals, b .rules) theirs)
 
+  -- an event has a line, or it has none
+  abbrev isOther : ℕ → ℕ → Bool
+  isOther u i = not (bytes.same (getD (c .names) u []) (getD (listedCases c) i noCase .event))
+
+  no-line : (u : ℕ) → allBelow (length (listedCases c)) (isOther u) ≡ true
+      → In (getD (c .names) u []) (caseEvents (listedCases c)) [] → ⊥
+  no-line u e i =
+      let ks = listedCases c in
+      let at : i .place < length ks = omega (arith, i .place-lt, length-map ks (λ k. k .event)) in
+      let named = sym (i .is) ∙ getD-map (λ k. k .event) noCase [] ks (i .place) at in
+      clash (isOther u (i .place)) (true-of-allBelow (isOther u) (length ks) e (i .place) at)
+      (rw (same-of-eq (getD (c .names) u []) (getD ks (i .place) noCase .event) named))
+
+  -- the line of an event says the same of both
+  by-line : (u i : ℕ) → i < length (listedCases c) → getD (c .names) u [] ≡ getD (listedCases c) i noCase .event
+      → eventLabel Γ u ≡ eventLabel Δ u
+  by-line u i l named =
+      let theirs = g .labelled u i (omega (arith, ap length (b .cases))) (rw (b .names, b .cases) at named) in
+      h .labelled u i l named ∙ sym (rw (b .signals, b .cases) theirs)
+
+  labels-same : (u : ℕ) → eventLabel Γ u ≡ eventLabel Δ u
+  labels-same u =
+      elim (either (allBelow (length (listedCases c)) (isOther u))) [
+        | inl e ↦
+            let none = no-line u e in
+            h .unlabelled u none ∙ sym (g .unlabelled u (rw (b .names, b .cases) at none))
+        | inr e ↦
+            let w = allBelow-false (isOther u) (length (listedCases c)) e in
+            by-line u (w .0) (w .1)
+            (same-true (getD (c .names) u []) (getD (listedCases c) (w .0) noCase .event) (not-false _ (w .2)))
+      ]
+
   pub likewise : Likewise Γ Δ
   likewise = record {
     agrees = record {
@@ -70,6 +111,7 @@ module _ {sheet other : List ℕ} {Γ Δ : Network} {c d : Contents} (h : Contai
       signals = h .signals ∙ ap length (b .signals) ∙ sym (g .signals);
       observations = observed-same;
       reactions = reacts;
+      labels = labels-same;
     };
     letters = λ p l.
         h .lettered p (omega (arith, h .signals)) ∙ ap (λ (x : Signal). x .letter) (signal-same p)
@@ -95,4 +137,5 @@ module _ {sheet other : List ℕ} {Γ Δ : Network} {c d : Contents} (h : Contai
     signals = signals-held h ∙ b .signals ∙ sym (signals-held g);
     remaining = remaining-same;
     reactions = reacts;
+    labels = λ u _. labels-same u;
   }

@@ -6,15 +6,12 @@ use mathlib.Core.Bool.{true}
 use mathlib.Core.List.{List}
 use Prim.Native.Nat.{ℕ, _+_, _≤_, _<_}
 use native.Mathlib.Omega.{arith}
-use borrow.Author.Tests.{eqb-true, eq-eqb}
-use lib.Dec.{eqb}
 use lib.ListN.{length}
 use Rattle.network.specs.Build.{observation, scenarios, cells}
 use Rattle.network.specs.Scenario.{truth}
-use Rattle.network.specs.Strategy.{time, reaction, known}
+use Rattle.network.specs.Strategy.{reaction, known}
 use Rattle.network.specs.Solution.{Solution}
 use Rattle.network.specs.WellFormed.{WellFormed}
-use Rattle.network.proofs.Strategy.{from-known, is-known}
 use Rattle.network.specs.declared.Network.{Network}
 use Rattle.sheet.specs.Reading.{read}
 use Rattle.checker.specs.Verdict.{verdict}
@@ -22,12 +19,13 @@ use Rattle.checker.specs.declared.Verdict.the-variants.{Pass}
 use Rattle.checker.proofs.Judged.{judged}
 use Rattle.dispatch.specs.Heard.{Lettered}
 use Rattle.dispatch.specs.History.{History, historyOf}
-use Rattle.dispatch.specs.Due.{dueIn, due}
+use Rattle.dispatch.specs.Due.{isDue, dueIn, due}
 use Rattle.dispatch.specs.declared.Heard.{Heard}
 use Rattle.dispatch.specs.declared.Dispatched.{Dispatched}
 use Rattle.dispatch.specs.declared.Dispatched.the-variants as P
 use Rattle.dispatch.proofs.Bits.{mask-small, truth-mask}
 use Rattle.dispatch.proofs.Alike.{indistinct-comm, indistinct-history, indistinct-due}
+use Rattle.dispatch.proofs.WasDue.{known-was-due}
 use Rattle.dispatch.proofs.Answers.{due-history}
 use Rattle.dispatch.proofs.HistoryOf.{history-of}
 use Rattle.calls.specs.Answers.{Reads}
@@ -58,17 +56,14 @@ module _ (sheet t : List ℕ) (Γ : Network) (reads : Reads sheet Γ) where
   letters = rw (← reads .network) (lettered sheet (reads .accepted))
 
   module _ (good : Solution Γ t) where
-    abbrev at : ℕ → ℕ → ℕ
-    at s u = time (Γ .events) t s u
-
     -- whoever has heard the list has the events that are answered
     events-are : (m : ℕ) (hs : List Heard) (s : ℕ) → s < scenarios Γ → History Γ t m hs s
-        → eventsDue sheet t m hs ≡ D.Events (dueIn (Γ .events) t m s)
-    events-are m hs s h l = events-of sheet t Γ reads m hs (dueIn (Γ .events) t m s)
+        → eventsDue sheet t m hs ≡ D.Events (dueIn Γ t m s)
+    events-are m hs s h l = events-of sheet t Γ reads m hs (dueIn Γ t m s)
         (judged Γ t (good .sized) .1 good) (good .sized) (due-history Γ t m letters hs good wf s h l)
 
-    due-at : (m s u : ℕ) → u < Γ .events → truth (dueIn (Γ .events) t m s) u ≡ eqb (at s u) m
-    due-at m s u k = truth-mask (λ v. eqb (at s v) m) (Γ .events) u k (omega (arith, wf .events))
+    due-at : (m s u : ℕ) → u < Γ .events → truth (dueIn Γ t m s) u ≡ isDue Γ t m s u
+    due-at m s u k = truth-mask (isDue Γ t m s) (Γ .events) u k (omega (arith, wf .events))
 
     row-at : (m : ℕ) (hs : List Heard) (s : ℕ) → s < scenarios Γ → History Γ t m hs s
         → RowAt Γ t m s (answer sheet t m hs)
@@ -76,7 +71,7 @@ module _ (sheet t : List ℕ) (Γ : Network) (reads : Reads sheet Γ) where
       number = refl;
       line = refl;
       each = due-at m s;
-      no-more = mask-small (λ v. eqb (at s v) m) (Γ .events);
+      no-more = mask-small (isDue Γ t m s) (Γ .events);
     })
 
     own : (m s : ℕ) → History Γ t m (historyOf Γ t m s) s
@@ -88,22 +83,16 @@ module _ (sheet t : List ℕ) (Γ : Network) (reads : Reads sheet Γ) where
         (truth (answer sheet t i (historyOf Γ t i s) .value) (observation Γ p) ≡ true))
     heard m s p h l =
         let o = observation Γ p in
-        let told : (i : ℕ) → truth (answer sheet t i (historyOf Γ t i s) .value) o ≡ eqb (at s o) i =
-        λ i. row-at i (historyOf Γ t i s) s h (own i s) .each o (wf .observed p l) in (
-          λ k. (at s o, from-known Γ t s p m k, told (at s o) ∙ eq-eqb (at s o) (at s o) refl),
-          λ w.
-              let i = w .0 in
-              let then = eqb-true (at s o) i (sym (told i) ∙ w .2) in
-              is-known Γ t s p m (omega (arith, w .1)),
+        let told : (i : ℕ) → truth (answer sheet t i (historyOf Γ t i s) .value) o ≡ isDue Γ t i s o =
+        λ i. row-at i (historyOf Γ t i s) s h (own i s) .each o (wf .observed p l) in
+        let was = known-was-due Γ t m s p in (
+          λ k. let w = was .0 k in (w .0, w .1, told (w .0) ∙ w .2),
+          λ w. was .1 (w .0, w .1, sym (told (w .0)) ∙ w .2),
         )
 
     same : (m : ℕ) (hs : List Heard) (s r u : ℕ) → s < scenarios Γ → r < scenarios Γ → u < Γ .events
-        → History Γ t m hs s → History Γ t m hs r → (at s u ≡ m) ↔ (at r u ≡ m)
-    same m hs s r u h k l a b =
-        let tests = sym (row-at m hs s h a .each u l) ∙ row-at m hs r k b .each u l in (
-          λ e. eqb-true (at r u) m (sym tests ∙ eq-eqb (at s u) m e),
-          λ e. eqb-true (at s u) m (tests ∙ eq-eqb (at r u) m e),
-        )
+        → History Γ t m hs s → History Γ t m hs r → isDue Γ t m s u ≡ isDue Γ t m r u
+    same m hs s r u h k l a b = sym (row-at m hs s h a .each u l) ∙ row-at m hs r k b .each u l
 
     plays : Plays sheet t Γ
     plays = record {

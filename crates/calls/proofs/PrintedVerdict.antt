@@ -21,6 +21,7 @@ use Rattle.sheet.specs.Reading.{read}
 use Rattle.sheet.specs.declared.Outcome.the-variants.{Accepted}
 use Rattle.sheet.proofs.WellFormed.{accepted-well-formed}
 use Rattle.listing.specs.Listing.{header, listing}
+use Rattle.listing.proofs.Short.{good-times}
 use Rattle.readback.specs.Form.{Misfit, Unread}
 use Rattle.readback.proofs.Misfits.{misfit-iff}
 use Rattle.readback.proofs.Unread.{unread-iff}
@@ -82,8 +83,7 @@ module _ (sheet : List ℕ) (a : read sheet .outcome ≡ Accepted) where
       short i =
           elim (lt-or-ge i (cells net)) [
             | inl h ↦
-                by-cell (net .events) (scenarios net) (λ j. getD σ j 0 ≤ 65535)
-                (λ s u l k. omega (arith, good .on-time s u l k .in-horizon, wf .horizon)) i h
+                by-cell (net .events) (scenarios net) (λ j. getD σ j 0 ≤ L.blank) (good-times net σ wf good) i h
             | inr h ↦ omega (arith, List·getD-eq-default σ 0 {n = i} (omega (arith, good .sized)))
           ]
 

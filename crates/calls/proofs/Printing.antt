@@ -6,8 +6,7 @@ use Prim.Native.Nat.{ℕ, _≤_, _<_}
 use native.Mathlib.Omega.{arith}
 use lib.ListN.{length, replicate, length-replicate}
 use Rattle.network.specs.Limits as L
-use Rattle.network.specs.Build.{scenarios, cells}
-use Rattle.network.specs.Strategy.{time}
+use Rattle.network.specs.Build.{cells}
 use Rattle.network.specs.Least.{Least, Inconsistent}
 use Rattle.network.specs.WellFormed.{WellFormed, Named}
 use Rattle.network.specs.declared.Network.{Network}
@@ -18,7 +17,7 @@ use Rattle.sheet.proofs.Fault.{refused-iff}
 use Rattle.sheet.proofs.WellFormed.{accepted-well-formed}
 use Rattle.listing.specs.Listing.{listing}
 use Rattle.listing.specs.Most.{mostListing}
-use Rattle.listing.proofs.Short.{listing-short}
+use Rattle.listing.proofs.Short.{listing-short, good-times}
 use Rattle.tighten.specs.Tightest.{remainingOf}
 use Rattle.canonical.specs.House.{houseText}
 use Rattle.canonical.proofs.Again.{form-short}
@@ -48,9 +47,7 @@ module _ (sheet : List ℕ) (a : read sheet .outcome ≡ Accepted) where
   listed-on : (σ page : List ℕ) → Least net σ → mostListing ≤ length page → listingOn page sheet σ ≡ listing sheet net σ
   listed-on σ page least h =
       let good = least .solves in
-      let times : (s u : ℕ) → s < scenarios net → u < net .events → time (net .events) σ s u ≤ 65535 =
-      λ s u l k. omega (arith, good .on-time s u l k .in-horizon, formed .0 .horizon) in
-      let short = listing-short sheet net σ (formed .0) (formed .1) times in
+      let short = listing-short sheet net σ (formed .0) (formed .1) (good-times net σ (formed .0) good) in
       wrote-on (listed sheet σ page) (listing sheet net σ) page (λ t. t)
       (listing-wrote sheet (asMinutes σ) (minutes σ) page a (minutes-rightly σ net) (good .sized)
       (omega (arith, short)))

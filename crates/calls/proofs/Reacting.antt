@@ -6,14 +6,14 @@ use Prim.Native.Nat.{ℕ, _<_}
 use native.Mathlib.Omega.{arith}
 use lib.ListN.{length}
 use Rattle.network.specs.Strategy.{reaction}
-use Rattle.network.proofs.Strategy.{reaction-some, from-known, is-known}
+use Rattle.network.proofs.Strategy.{reaction-some, given-known, from-known, is-known}
 use Rattle.sheet.specs.Reading.{read}
 use Rattle.layout.specs.Layout.{Layout}
 use Rattle.layout.proofs.Accepted.{accepted-iff, network-contains}
 use Rattle.calls.specs.Reacting.{AllOne, Besides, SameAnswers, Reacting}
 use Rattle.calls.proofs.Call.{reads-well-formed}
 use Rattle.calls.proofs.Likewise.{likewise, same}
-use Rattle.calls.proofs.Former.{prompt-by-ones, heard-before, former-iff}
+use Rattle.calls.proofs.Former.{prompt-by-ones, heard-before}
 use Rattle.calls.proofs.SameAnswers.{same-answers}
 
 -- sheets whose reactions are the same
@@ -37,11 +37,13 @@ unchanged sheet other l k b ones also =
 
 pub reacting : Reacting
 reacting = record {
-  counts = λ Γ σ s p m. (from-known Γ σ s p m, is-known Γ σ s p m);
+  counts = λ Γ σ s p m. (
+    λ e. (given-known Γ σ s p m e, from-known Γ σ s p m e),
+    λ h. is-known Γ σ s p m (h .0) (h .1),
+  );
   range = λ sheet Γ p reads. (reaction-some Γ p, reads-well-formed reads .in-range p);
   prompt = λ sheet Γ reads l ones. prompt-by-ones (rw (reads .network) at (network-contains sheet l)) ones;
   before = λ Γ prompt σ. heard-before Γ σ prompt;
-  former = λ Γ prompt σ. former-iff Γ σ prompt;
   alike = λ sheet other Γ Δ reads reads′ l k b same.
       alike sheet other l k b (rw (← reads .network, ← reads′ .network) at same);
   unchanged = unchanged;

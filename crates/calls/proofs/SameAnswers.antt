@@ -23,7 +23,7 @@ use Rattle.sheet.specs.declared.Outcome.the-variants.{Accepted}
 use Rattle.sheet.proofs.WellFormed.{accepted-well-formed}
 use Rattle.checker.specs.Verdict.{verdict}
 use Rattle.checker.specs.declared.Verdict.{Verdict}
-use Rattle.solver.specs.Solve.{solve}
+use Rattle.solver.specs.Solve.{solve, found}
 use Rattle.dispatch.specs.Due.{due}
 use Rattle.dispatch.specs.Said.{dueOn}
 use Rattle.dispatch.specs.HeardText.{isHeard, heardIn, dueText}
@@ -32,7 +32,8 @@ use Rattle.dispatch.specs.declared.Dispatched.the-variants.{Misnamed}
 use Rattle.listing.specs.Listing.{header, listing}
 use Rattle.listing.proofs.Same.{header-same, listing-same}
 use Rattle.readback.specs.Rows.{recovered}
-use Rattle.tighten.proofs.Tables.{cells-agree, solutions-by-remaining}
+use Rattle.tighten.proofs.Agree.{cells-agree, same-events}
+use Rattle.tighten.proofs.Tables.{solutions-by-remaining}
 use Rattle.canonical.specs.House.{houseText}
 use Rattle.canonical.specs.Same.{Same}
 use Rattle.canonical.proofs.Faithful.{faithful}
@@ -90,7 +91,7 @@ module _ (sheet other : List ℕ) (a : read sheet .outcome ≡ Accepted) (b : re
   rests-same m = by-both (rests (solve Γ .end)) (rests (solve Δ .end)) refl refl
     where
       none : L.Inconsistent Γ ↔ L.Inconsistent Δ
-      none = same-inconsistent tables-same
+      none = same-inconsistent (same-events (w .agrees)) tables-same
 
       by-both : (x y : Bool) → rests (solve Γ .end) ≡ x → rests (solve Δ .end) ≡ y → x ≡ y
       by-both true true p q = refl
@@ -102,10 +103,11 @@ module _ (sheet other : List ℕ) (a : read sheet .outcome ≡ Accepted) (b : re
 
   tables : (m : Lent) → solvingInto sheet m ≡ solvingInto other m
   tables m =
-      calls-alike (refusing m) sheet other (solvingTests m) (solvingTests m) (λ Γ. writing m (solve Γ .reached))
-      (λ Γ. writing m (solve Γ .reached)) a b
+      calls-alike (refusing m) sheet other (solvingTests m) (solvingTests m) (λ Γ. writing m (found Γ))
+      (λ Γ. writing m (found Γ)) a b
       (ap₂ (λ (n : ℕ) (r : Bool). firstFailing (enough m n ∷ (r, withoutLine C.Inconsistent) ∷ [])) size (rests-same m))
-      (λ h. ap (writing m) (least-unique (same-least tables-same (solve Γ .reached) .0 (rested sheet m a (h .1 .0)))
+      (λ h. ap (writing m) (least-unique
+      (same-least (same-events (w .agrees)) tables-same (found Γ) .0 (rested sheet m a (h .1 .0)))
       (rested other m b (sym (rests-same m) ∙ h .1 .0))))
 
   -- playing, by what the player says of a network

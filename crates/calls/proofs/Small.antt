@@ -6,14 +6,12 @@ use mathlib.Core.Option.{Option, none, some}
 use mathlib.Core.List.{List}
 use Prim.Native.Nat.{ℕ, _+_, _*_, _^_, _≤_, _<_}
 use native.Mathlib.Omega.{arith}
-use lib.Dec.{eqb}
 use lib.Pow.{pow-mono}
 use Rattle.prelude.specs.Checks.{Hold}
 use Rattle.prelude.proofs.Tests.{zero-is-one}
 use Rattle.pairs.specs.Pairs.{Short}
 use Rattle.refusal.specs.declared.Refusal.{Refusal}
 use Rattle.network.specs.Build.{scenarios, cells}
-use Rattle.network.specs.Strategy.{time}
 use Rattle.network.specs.WellFormed.{WellFormed}
 use Rattle.network.specs.declared.Network.{Network}
 use Rattle.sheet.specs.Reading.{read}
@@ -26,10 +24,10 @@ use Rattle.checker.specs.declared.Breach.the-variants.{Late, Rule, Unheard}
 use Rattle.checker.specs.declared.Verdict.{Verdict}
 use Rattle.checker.specs.declared.Verdict.the-variants.{Pass, Breach as Breached}
 use Rattle.checker.proofs.Judged.{breach-first}
-use Rattle.solver.specs.Solve.{solve}
+use Rattle.solver.specs.Solve.{solve, found}
 use Rattle.solver.proofs.Least.{solve-least}
 use Rattle.dispatch.specs.Heard.{isWellNamed, says}
-use Rattle.dispatch.specs.Due.{hearer, dueFor, due}
+use Rattle.dispatch.specs.Due.{isDue, hearer, dueFor, due}
 use Rattle.dispatch.specs.HeardText.{isHeard, heardIn, dueText}
 use Rattle.dispatch.specs.declared.Dispatched.{Dispatched}
 use Rattle.dispatch.specs.declared.Dispatched.the-variants.{Misnamed}
@@ -114,7 +112,7 @@ module _ (sheet : List ℕ) where
   pub solving-small : (m : Lent) → count (solvingInto sheet m) .value < 65536
   solving-small m =
       value-small count (refusing m) (λ r. refl) sheet
-      (solvingTests m) (λ Γ. writing m (solve Γ .reached))
+      (solvingTests m) (λ Γ. writing m (found Γ))
       (λ a h.
       let w = accepted-well-formed sheet a .0 in
       let least = solve-least net w (rests-true (solve net .end) .0 (h .1 .0)) in
@@ -169,7 +167,7 @@ text-small Γ w σ m text =
     of-case none = omega arith
     of-case (some s) =
         let few : 2 ^ Γ .events ≤ 65536 = pow-mono {i = Γ .events} {j = 16} (w .events) in
-        omega (arith, mask-small (λ u. eqb (time (Γ .events) σ s u) m) (Γ .events))
+        omega (arith, mask-small (isDue Γ σ m s) (Γ .events))
 
     by-form : (formed well : Bool) (o : Option ℕ)
         → eventsOf (cond formed (cond well (dueFor Γ σ m o) Misnamed) Misnamed) < 65536

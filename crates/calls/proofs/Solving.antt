@@ -18,7 +18,7 @@ use Rattle.network.specs.declared.Network.{Network}
 use Rattle.sheet.specs.Reading.{read}
 use Rattle.sheet.specs.declared.Outcome.the-variants.{Accepted}
 use Rattle.sheet.proofs.WellFormed.{accepted-well-formed}
-use Rattle.solver.specs.Solve.{solve}
+use Rattle.solver.specs.Solve.{solve, found}
 use Rattle.solver.proofs.Least.{solve-least, solve-none}
 use Rattle.calls.specs.Values.{refusedAs}
 use Rattle.calls.specs.Call.{withoutLine, Left}
@@ -47,7 +47,7 @@ module _ (sheet : List ℕ) (m : Lent) where
   net = read sheet .network
 
   abbrev work : Network → Left Written
-  work Γ = writing m (solve Γ .reached)
+  work Γ = writing m (found Γ)
 
   module _ (a : read sheet .outcome ≡ Accepted) where
     wf : WellFormed net
@@ -57,10 +57,10 @@ module _ (sheet : List ℕ) (m : Lent) where
     pub unrested : (rests (solve net .end) ≡ false) ↔ L.Inconsistent net
     unrested = (
       λ e. solve-none net wf (rests-false (solve net .end) .0 e),
-      λ i. rests-false (solve net .end) .1 (λ r. i .none (solve net .reached) (solve-least net wf r .solves)),
+      λ i. rests-false (solve net .end) .1 (λ r. i .none (found net) (solve-least net wf r .solves)),
     )
 
-    pub rested : rests (solve net .end) ≡ true → Least net (solve net .reached)
+    pub rested : rests (solve net .end) ≡ true → Least net (found net)
     rested e = solve-least net wf (rests-true (solve net .end) .0 e)
 
     module _ (room : cells net ≤ m .room) where
@@ -73,8 +73,8 @@ module _ (sheet : List ℕ) (m : Lent) where
           sym (call-fails (refusing m) sheet (solvingTests m) work (read sheet) refl a (withoutLine Inconsistent)
           (inr (has-room, inl (unrested .1 i, refl))))
 
-      reached : rests (solve net .end) ≡ true → Least net (solve net .reached)
-          × (solvingInto sheet m ≡ writing m (solve net .reached))
+      reached : rests (solve net .end) ≡ true → Least net (found net)
+          × (solvingInto sheet m ≡ writing m (found net))
       reached e = (
         rested e,
         sym (call-works (refusing m) sheet (solvingTests m) work (read sheet) refl a (has-room, (e, tt))),
@@ -86,7 +86,7 @@ module _ (sheet : List ℕ) (m : Lent) where
         where
           by-rest : (b : Bool) → rests (solve net .end) ≡ b
               → (σ : List ℕ) × Least net σ × (solvingInto sheet m ≡ writing m σ)
-          by-rest true e = let s = reached e in (solve net .reached, s .0, s .1)
+          by-rest true e = let s = reached e in (found net, s .0, s .1)
           by-rest false e = absurd (n (unrested .0 e))
 
       -- 13 comes exactly where no good table exists

@@ -12,12 +12,14 @@ use Rattle.prelude.specs.Bytes.{ascii, same}
 use Rattle.text.specs.Lines.{lineFeed}
 use Rattle.text.specs.Number.{isNumber, inRange}
 use Rattle.network.specs.Scenario.{satisfies}
+use Rattle.network.specs.Happens.{happens}
 use Rattle.network.specs.Constraint.{covers}
 use Rattle.network.specs.Strategy.{reactionOf}
 use Rattle.line.specs.Tests.{sectionTests, eventTests, signalTests, endsTests, ruleTests}
 use Rattle.sheet.specs.Reading.{progress}
 use Rattle.checker.specs.Verdict.{verdict}
 use Rattle.rounds.specs.Propagate.{propagate}
+use Rattle.solver.specs.Masked.{masked}
 use Rattle.solver.specs.Solve.{solve}
 use Rattle.dispatch.specs.Due.{due}
 use Rattle.dispatch.specs.declared.Heard.{Heard}
@@ -92,8 +94,8 @@ allAgree [] = true
 allAgree (t ∷ ts) = same (tableText (lines (t .sheet))) (lines (t .prints)) && allAgree ts
 
 pub trials-agree : allAgree trials ≡ true
-unfolding isNumber inRange satisfies covers reactionOf sectionTests eventTests signalTests endsTests ruleTests progress
-    propagate solve listing
+unfolding isNumber inRange satisfies happens covers reactionOf sectionTests eventTests signalTests endsTests ruleTests
+    progress propagate masked solve listing
 trials-agree = refl
 
 -- of the first trial: a table, a minute, a list, and the number and the events that are answered
@@ -139,6 +141,6 @@ allAnswered (q ∷ qs) =
     (eqb (v .number) (q .number) && (eqb (v .line) 0 && eqb (v .value) (q .events))) && allAnswered qs
 
 pub questions-answered : allAnswered questions ≡ true
-unfolding isNumber inRange satisfies covers reactionOf sectionTests eventTests signalTests endsTests ruleTests progress
-    verdict due eventsDue
+unfolding isNumber inRange satisfies happens covers reactionOf sectionTests eventTests signalTests endsTests ruleTests
+    progress verdict due eventsDue
 questions-answered = refl

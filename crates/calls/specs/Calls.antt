@@ -13,7 +13,7 @@ use Rattle.network.specs.Build.{cells}
 use Rattle.network.specs.declared.Constraint.{Constraint}
 use Rattle.network.specs.declared.Network.{Network}
 use Rattle.checker.specs.Verdict.{verdict}
-use Rattle.solver.specs.Solve.{solve}
+use Rattle.solver.specs.Solve.{solve, found}
 use Rattle.listing.specs.Listing.{listing}
 use Rattle.tighten.specs.Tightest.{remainingOf}
 use Rattle.canonical.specs.House.{houseText}
@@ -86,7 +86,7 @@ abbrev pub solvingTests : Lent → Network → Tests
 solvingTests m Γ = enough m (cells Γ) ∷ (rests (solve Γ .end), withoutLine Inconsistent) ∷ []
 
 abbrev pub solvingInto : List ℕ → Lent → Left Written
-solvingInto sheet m = call (refusing m) sheet (solvingTests m) (λ Γ. writing m (solve Γ .reached))
+solvingInto sheet m = call (refusing m) sheet (solvingTests m) (λ Γ. writing m (found Γ))
 
 abbrev pub solving : List ℕ → List ℕ → Left Written
 solving sheet m = solvingInto sheet (inPlace m)

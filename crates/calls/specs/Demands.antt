@@ -3,18 +3,23 @@
 -- `Benched` those of all calls, and of their answers in the papers' numbers.
 use mathlib.Core.Path.{_≡_}
 use mathlib.Core.Logic.{_↔_}
+use mathlib.Core.Option.{none}
 use mathlib.Core.List.{List}
 use Prim.Native.Nat.{ℕ, _≤_}
 use lib.ListN.{length}
 use Rattle.refusal.specs.Refusal.{numberOf}
+use Rattle.prelude.specs.Checks.{FirstFails}
 use Rattle.refusal.specs.declared.Cause.{Cause}
+use Rattle.refusal.specs.declared.Cause.the-variants.{StartLabelled, IncompleteLabel}
 use Rattle.refusal.specs.declared.Refusal.{Refusal}
 use Rattle.fixpoint.specs.Run.{Rests}
-use Rattle.network.specs.Build.{cells}
+use Rattle.network.specs.Build.{noLabel, eventLabel, cells}
+use Rattle.network.specs.Complete.{AllComplete, WellLabelled}
 use Rattle.network.specs.Solution.{Solution}
 use Rattle.network.specs.Least.{Least}
 use Rattle.network.specs.Least as L
 use Rattle.network.specs.declared.Network.{Network}
+use Rattle.line.specs.Labelling.{Read, wholeTests}
 use Rattle.sheet.specs.Reading.{read}
 use Rattle.sheet.specs.Place.{tests}
 use Rattle.sheet.specs.Fault.{FirstFault, Fails, Fault}
@@ -25,13 +30,14 @@ use Rattle.checker.specs.Verdict.{verdict}
 use Rattle.checker.specs.First.{First}
 use Rattle.checker.specs.declared.Breach.{Breach}
 use Rattle.checker.specs.declared.Verdict.the-variants.{Pass, Breach as Breached}
-use Rattle.rounds.specs.Hyperarcs.{Dynamic, Hyperarcs}
-use Rattle.solver.specs.Solve.{solve}
+use Rattle.rounds.specs.Hyperarcs.{Dynamic, Waiting, Hyperarcs}
+use Rattle.solver.specs.Solve.{solve, found}
 use Rattle.listing.specs.Listing.{listing}
 use Rattle.calls.specs.Values.{done, refusedAs}
 use Rattle.calls.specs.Calls.{countsOf, summary, summaryValues, judgement, writtenValues, solving, listed}
 use Rattle.calls.specs.Bench.{passed, breachValues, judgementValues}
 use Rattle.calls.specs.Answers.{Reads, WroteText}
+use Rattle.calls.specs.Former.{Prompt, Unlabelled, Former}
 use Rattle.calls.specs.Numbers.{Numbers}
 use Rattle.calls.specs.Benched.{Benched}
 
@@ -43,10 +49,20 @@ pub record Demands : Type 0 where
   pub counted : (sheet : List ℕ) (Γ : Network) → Reads sheet Γ → summaryValues (summary sheet) ≡ done (countsOf Γ)
   -- demand 2: "A sheet is accepted when it keeps every rule of its layout, otherwise refused"
   pub accepted : (sheet : List ℕ) → (read sheet .outcome ≡ Accepted) ↔ Layout sheet
-  -- its network holds what it contains: ends, limits and labels of the rules as they are written, and the reactions
+  -- its network holds what it contains: ends, limits and labels of the rules as they are written, the reactions and the
+  -- labels of events
   pub contains : (sheet : List ℕ) (Γ : Network) → Reads sheet Γ → (l : Layout sheet) → Contains sheet Γ (l .contents)
   -- and it is refused with its first line at fault, on which the first test that fails decides
   pub at-fault : (sheet : List ℕ) (r : Refusal) → (read sheet .outcome ≡ Refused r) ↔ Fault sheet r
+  -- of the last line of the section `cases`, behind its own tests: "20, the start is given a label other than `-`;
+  -- 21, an event's or rule's label lacks part of the label of an event whose signal it uses", "20 first" (02, point
+  -- 6). `Γ` has what all lines define
+  pub start-labelled : (Γ : Network) → Read Γ
+      → FirstFails (wholeTests Γ) StartLabelled ↔ (eventLabel Γ 0 ≡ noLabel → ⊥)
+  pub incomplete : (Γ : Network) → Read Γ
+      → FirstFails (wholeTests Γ) IncompleteLabel ↔ ((eventLabel Γ 0 ≡ noLabel) × (AllComplete Γ → ⊥))
+  -- so no sheet that is accepted has such a label
+  pub labelled : (sheet : List ℕ) (Γ : Network) → Reads sheet Γ → WellLabelled Γ
   -- "on one line the lowest number does"
   pub lowest : (sheet : List ℕ) (r : Refusal) (f : FirstFault sheet r) (c : Cause) → Fails (tests sheet (f .above)) c
       → numberOf (r .cause) ≤ numberOf c
@@ -56,11 +72,16 @@ pub record Demands : Type 0 where
   -- and it names a breach exactly where that is the first in document 01's order
   pub breach-first : (sheet σ : List ℕ) (Γ : Network) (b : Breach) → Reads sheet Γ
       → (verdict Γ σ ≡ Breached b) ↔ First Γ σ b
-  -- point 3 and the hyperarcs agree
-  pub agree : (sheet σ : List ℕ) (Γ : Network) → Reads sheet Γ → Dynamic Γ σ ↔ Hyperarcs Γ σ
+  -- point 3 and the hyperarcs agree, where events wait for the signals of their labels
+  pub agree : (sheet σ : List ℕ) (Γ : Network) → Reads sheet Γ → Waiting Γ σ → Dynamic Γ σ ↔ Hyperarcs Γ σ
+  -- without labels of events and with reactions of 1 the good tables are document 01's: so a sheet without the
+  -- sections of requests 3 and 6 has the good tables that it had before them
+  pub plain : (sheet σ : List ℕ) (Γ : Network) → Reads sheet Γ → Prompt Γ → Unlabelled Γ → Solution Γ σ ↔ Former Γ σ
+  pub plain-sheet : (sheet : List ℕ) (Γ : Network) → Reads sheet Γ → (l : Layout sheet)
+      → l .contents .reactions ≡ none → Prompt Γ × Unlabelled Γ
   -- demand 3: the run ends in "a good table in which each event, in each case, is no later than in any other good
   -- table"
-  pub least : (sheet : List ℕ) (Γ : Network) → Reads sheet Γ → solve Γ .end ≡ Rests → Least Γ (solve Γ .reached)
+  pub least : (sheet : List ℕ) (Γ : Network) → Reads sheet Γ → solve Γ .end ≡ Rests → Least Γ (found Γ)
   -- or at none, "exactly when the sheet has no good table"
   pub none : (sheet : List ℕ) (Γ : Network) → Reads sheet Γ → (solve Γ .end ≡ Rests → ⊥) ↔ L.Inconsistent Γ
   -- of the judge's call: it passes a table for an accepted sheet exactly when it is a good table

@@ -1,4 +1,5 @@
--- What holds of the call that writes a sheet in its house form (02, points 2 and 3), for every sheet and lent buffer.
+-- What holds of the call that writes a sheet in its house form (02, points 2, 3 and 6), for every sheet and lent
+-- buffer.
 use mathlib.Core.Path.{_≡_}
 use mathlib.Core.Logic.{_↔_}
 use mathlib.Core.List.{List}
@@ -46,6 +47,6 @@ pub record Housing : Type 0 where
   -- "The form reads back to the same good tables"
   pub tables : (sheet f : List ℕ) (Γ Δ : Network) → Form sheet Γ f → Reads f Δ → SameTables Γ Δ
   -- "Two sheets give equal bytes if and only if their horizons, event lists, signal lists and remaining rows are
-  -- equal", and "equal bytes now also means equal reactions"
+  -- equal", and "equal bytes now also means equal reactions", and "equal event labels"
   pub equal : (sheet other f g : List ℕ) (Γ Δ : Network) → Form sheet Γ f → Form other Δ g
       → (f ≡ g) ↔ Same sheet Γ other Δ

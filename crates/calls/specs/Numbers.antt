@@ -64,7 +64,7 @@ houses sheet m =
     ∷ []
 
 -- 18: the listing is "longer than 4,096 bytes", or for no texts in the places of its minutes the lines of this sheet;
--- 19: it is, and "a minute is ill-formed, negative or over 65,535"
+-- 19: it is, and "a minute is ill-formed, negative or over 65,535", or has "the digits 65535"
 abbrev pub otherForm : List ℕ → List ℕ → Network → Type 0
 otherForm sheet printed Γ = Formed (header sheet Γ) (Γ .signals) (Γ .events) printed → ⊥
 

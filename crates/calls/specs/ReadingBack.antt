@@ -1,5 +1,5 @@
--- What holds of the call that reads a listing back (02, point 4), for every sheet, listing and lent table. Where it
--- refuses stands in `Numbers`; here is with which line.
+-- What holds of the call that reads a listing back (02, points 4 and 6), for every sheet, listing and lent table. Where
+-- it refuses stands in `Numbers`; here is with which line.
 use mathlib.Core.Path.{_≡_}
 use mathlib.Core.Logic.{_↔_}
 use mathlib.Core.List.{List}
@@ -20,7 +20,7 @@ use Rattle.calls.specs.Recover.{recoveringInto}
 use Rattle.calls.specs.Answers.{Reads, WroteInto, WroteText}
 use Rattle.calls.specs.declared.Written.{Written}
 
--- a table "of the right length", whose minutes "run to 65,535 as the writer allows"
+-- a table "of the right length", whose minutes "run to 65,535 as the writer allows"; that number is printed `-`
 pub record Printable (Γ : Network) (σ : List ℕ) : Type 0 where
   pub sized : length σ ≡ cells Γ
   pub short : Short σ

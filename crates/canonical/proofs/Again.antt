@@ -1,6 +1,6 @@
 -- The form of an accepted sheet, where no more upper bounds remain than a sheet may have (02, point 2): it is accepted,
--- and its network has the horizon, the events, the signals and their reactions, and for rules those that remain. So
--- "the form reads back to the same good tables, and a second pass changes no byte". Assumes nothing.
+-- and its network has the horizon, the events and their labels, the signals and their reactions, and for rules those
+-- that remain. So "the form reads back to the same good tables, and a second pass changes no byte". Assumes nothing.
 use mathlib.Core.Path.{_≡_, refl, sym, _∙_, ap}
 use mathlib.Core.Logic.{_↔_}
 use mathlib.Core.List.{List}
@@ -19,12 +19,15 @@ use Rattle.tighten.specs.Upper.{uppersOf}
 use Rattle.tighten.specs.Tightest.{remaining, remainingOf}
 use Rattle.tighten.proofs.Regular.{uppers-regular}
 use Rattle.tighten.proofs.Remains.{remaining-again}
-use Rattle.tighten.proofs.Tables.{Agree, solutions-by-remaining}
+use Rattle.tighten.proofs.Agree.{Agree}
+use Rattle.tighten.proofs.Tables.{solutions-by-remaining}
 use Rattle.canonical.specs.House.{houseOf, houseText}
 use Rattle.canonical.specs.Same.{Same}
 use Rattle.canonical.specs.Most.{mostForm}
 use Rattle.canonical.proofs.Faithful.{faithful, names-held, signals-held}
+use Rattle.canonical.proofs.Cases.{cases, case-labels-few}
 use Rattle.canonical.proofs.Keeping.{labels-few, house-keeps}
+use Rattle.canonical.proofs.Listed.{listed-section}
 use Rattle.canonical.proofs.Short.{length-text}
 use Rattle.canonical.proofs.Back.{uppers-back, agrees-back}
 use Rattle.canonical.proofs.Likeness.{text-same}
@@ -45,11 +48,12 @@ module _ (sheet : List ℕ) (a : read sheet .outcome ≡ Accepted)
   abbrev Δ : Network
   Δ = read form .network
 
-  -- at most 2,721 bytes
+  -- at most 3,021 bytes
   pub form-short : length form ≤ mostForm
   form-short =
       let t = faithful sheet a in
-      rw (text-is sheet Γ) (length-text (houseOf sheet Γ) (house-keeps t few) (labels-few t))
+      rw (text-is sheet Γ) (length-text (houseOf sheet Γ) (house-keeps t few) (labels-few t)
+      (rw (listed-section (cases t)) (case-labels-few t)))
 
   abbrev form-layout : Layout form
   form-layout = record {
@@ -82,6 +86,7 @@ module _ (sheet : List ℕ) (a : read sheet .outcome ≡ Accepted)
     signals = signals-held form-contains;
     remaining = form-remaining;
     reactions = λ p l. sym (form-agrees .reactions p (omega (arith, form-agrees .signals)));
+    labels = λ u l. sym (form-agrees .labels u);
   }
 
   pub form-again : houseText form Δ ≡ form

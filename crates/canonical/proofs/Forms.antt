@@ -1,6 +1,7 @@
 -- "Two sheets give equal bytes if and only if their horizons, event lists, signal lists and remaining rows are equal"
--- (02, point 2), and their reactions (point 3). Equal bytes are read to one network, which has the horizon, the lists,
--- the reactions and what remains of each sheet; and the bytes are written from these alone. Assumes nothing.
+-- (02, point 2), and their reactions (point 3) and event labels (point 6). Equal bytes are read to one network, which
+-- has the horizon, the lists, the reactions, the labels and what remains of each sheet; and the bytes are written from
+-- these alone. Assumes nothing.
 use mathlib.Core.Path.{_≡_, sym, _∙_, ap}
 use mathlib.Core.Logic.{_↔_}
 use mathlib.Core.List.{List}
@@ -8,6 +9,7 @@ use Prim.Native.Nat.{ℕ, _≤_, _<_}
 use native.Mathlib.Omega.{arith}
 use lib.ListN.{length}
 use Rattle.network.specs.Limits as L
+use Rattle.network.specs.Build.{eventLabel}
 use Rattle.network.specs.Strategy.{reaction}
 use Rattle.network.specs.declared.Network.{Network}
 use Rattle.sheet.specs.Reading.{read}
@@ -40,6 +42,8 @@ module _ (sheet : List ℕ) (a : read sheet .outcome ≡ Accepted)
       let back = form-agrees sheet a few in
       let inside : (p : ℕ) → p < Γ .signals → p < from (houseText sheet Γ) .signals =
       λ p l. omega (arith, back .signals) in
+      let event : (u : ℕ) → u < Γ .events → u < from (houseText sheet Γ) .events =
+      λ u l. omega (arith, back .events) in
       record {
         horizons = sym (one .horizons) ∙ ap (λ (f : List ℕ). from f .horizon) e ∙ two .horizons;
         events = sym (one .events) ∙ ap (λ (f : List ℕ). namesOf f (from f)) e ∙ two .events;
@@ -48,6 +52,8 @@ module _ (sheet : List ℕ) (a : read sheet .outcome ≡ Accepted)
         reactions = λ p l.
             back .reactions p l ∙ ap (λ (f : List ℕ). reaction (from f) p) e
             ∙ two .reactions p (rw e at (inside p l));
+        labels = λ u l.
+            back .labels u ∙ ap (λ (f : List ℕ). eventLabel (from f) u) e ∙ two .labels u (rw e at (event u l));
       }
 
   pub equal-of-same : Same sheet Γ other Δ → houseText sheet Γ ≡ houseText other Δ

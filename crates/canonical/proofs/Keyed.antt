@@ -23,6 +23,14 @@ pub record LettersAre (Γ : Network) (k : ℕ) (bs : List ℕ) : Type 0 where
   pub are : (p : ℕ) → p < k → letter Γ p ≡ getD bs p 0
   pub once : Distinct bs 0
 
+-- a letter is that of one signal
+pub letter-tells : {Γ : Network} {k : ℕ} {bs : List ℕ} → LettersAre Γ k bs → (p q : ℕ) → p < Γ .signals
+    → q < Γ .signals → letter Γ p ≡ letter Γ q → p ≡ q
+letter-tells w p q h l e =
+    let count = w .count in
+    let size = w .sized in
+    w .once .once p q (omega arith) (omega arith) (sym (w .are p (omega arith)) ∙ e ∙ w .are q (omega arith))
+
 module _ {Γ : Network} {k : ℕ} {bs : List ℕ} (w : LettersAre Γ k bs) {A : Type 0} (f : ℕ → Option A) (d : A)
     (key : A → ℕ) (keyed : (p : ℕ) (x : A) → f p ≡ some x → key x ≡ letter Γ p) where
   abbrev xs : List A

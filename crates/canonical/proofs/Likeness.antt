@@ -1,25 +1,30 @@
--- Sheets with equal horizons, event lists, signal lists, reactions and remaining upper bounds have forms that contain
--- the same: each says its ends by names and its label by letters, which stand in those lists. Assumes nothing.
+-- Sheets with equal horizons, event lists, signal lists, reactions, event labels and remaining upper bounds have forms
+-- that contain the same: each says its ends by names and its label by letters, which stand in those lists. Assumes
+-- nothing.
 use mathlib.Core.Path.{_≡_, _∙_, ap, ap₂}
 use mathlib.Core.List.{List, map}
 use Prim.Native.Nat.{ℕ, _<_}
 use native.Mathlib.Omega.{arith}
+use lib.ListN.{length}
+use Rattle.prelude.specs.Search.{unless}
 use Rattle.prelude.specs.Gather.{gather}
 use Rattle.prelude.proofs.Lists.{each-mono}
 use Rattle.prelude.proofs.Gather.{gather-same}
 use Rattle.prelude.proofs.Mapped.{map-same, tabulate-count, tabulate-value}
-use Rattle.network.specs.Build.{nameOf, letter, noConstraint}
+use Rattle.network.specs.Build.{nameOf, letter, eventLabel, noConstraint}
 use Rattle.network.specs.Scenario.{truth}
 use Rattle.network.specs.declared.Kind.the-variants.{Max}
 use Rattle.network.specs.declared.Label.{Label}
 use Rattle.network.specs.declared.Constraint.{Constraint}
 use Rattle.network.specs.declared.Network.{Network}
-use Rattle.layout.specs.Contents.{Signal}
+use Rattle.line.specs.Labelling.{isNone}
+use Rattle.layout.specs.Contents.{Signal, Case}
 use Rattle.layout.specs.Layout.{textOf}
 use Rattle.tighten.specs.Tightest.{remainingOf}
-use Rattle.canonical.specs.House.{literalBy, literalAt, literalsOf, signalAt, asRule, slowBy, slowAt, slowOf}
-use Rattle.canonical.specs.House.{sectionOf, houseOf, houseText}
+use Rattle.canonical.specs.Listed.{slowBy, slowAt, slowOf, labelledAt, labelledOf, sectionOf, beforeLabels}
+use Rattle.canonical.specs.House.{literalBy, literalAt, literalsOf, signalAt, asRule, asCase, houseOf, houseText}
 use Rattle.canonical.specs.Same.{Same}
+use Rattle.canonical.proofs.Labelled.{IsLabelled, each-labelled}
 use Rattle.canonical.proofs.Faithful.{Faithful}
 use Rattle.canonical.proofs.Keeping.{Remains, each-remains}
 
@@ -55,18 +60,40 @@ module _ {sheet : List ℕ} {Γ : Network} {other : List ℕ} {Δ : Network} (s 
       ap₂ slowBy (letter-same p (omega arith)) (s .reactions p (omega arith)))
       ∙ ap (λ (k : ℕ). gather k (slowAt Δ)) count-same
 
+  events-same : Γ .events ≡ Δ .events
+  events-same = tabulate-count (nameOf Γ sheet) (nameOf Δ other) (Γ .events) (Δ .events) (s .events)
+
+  labelled-same : labelledOf Γ ≡ labelledOf Δ
+  labelled-same =
+      gather-same (labelledAt Γ) (labelledAt Δ) 0 (Γ .events) (λ u l h.
+      ap (λ (ℓ : Label). unless (isNone ℓ) u) (s .labels u (omega arith)))
+      ∙ ap (λ (n : ℕ). gather n (labelledAt Δ)) events-same
+
+  case-same : (u : ℕ) → IsLabelled Γ u → asCase sheet Γ u ≡ asCase other Δ u
+  case-same u w =
+      let name = name-same u (w .event) in
+      let label = literals-same (eventLabel Γ u) ∙ ap (literalsOf Δ) (s .labels u (w .event)) in
+      λ i. record { event = name i; label = label i }
+
+  cases-same : map (asCase sheet Γ) (labelledOf Γ) ≡ map (asCase other Δ) (labelledOf Δ)
+  cases-same =
+      map-same (asCase sheet Γ) (asCase other Δ) 0 (labelledOf Γ) (each-mono case-same (each-labelled Γ))
+      ∙ ap (map (asCase other Δ)) labelled-same
+
   pub house-same : Faithful sheet Γ → houseOf sheet Γ ≡ houseOf other Δ
   house-same t =
       let rules : map (asRule sheet Γ) (remainingOf Γ) ≡ map (asRule other Δ) (remainingOf Δ) =
       map-same (asRule sheet Γ) (asRule other Δ) noConstraint (remainingOf Γ) (each-mono rule-same (each-remains t))
       ∙ ap (map (asRule other Δ)) (s .remaining) in
-      let reactions = ap sectionOf slow-same in
+      let reactions = ap₂ beforeLabels (ap (length {A = ℕ}) labelled-same) slow-same in
+      let cases = ap (sectionOf {A = Case}) cases-same in
       λ i. record {
         horizon = s .horizons i;
         names = s .events i;
         signals = s .signals i;
         rules = rules i;
         reactions = reactions i;
+        cases = cases i;
       }
 
   pub text-same : Faithful sheet Γ → houseText sheet Γ ≡ houseText other Δ

@@ -21,12 +21,13 @@ use Rattle.network.specs.declared.Kind.{Kind}
 use Rattle.network.specs.declared.Kind.the-variants.{Max, Min, Fix}
 use Rattle.names.specs.Names.{isName, Literal}
 use Rattle.names.proofs.Tokens.{name-short}
-use Rattle.layout.specs.Contents.{Signal, Rule, Reaction, Contents, noSignal, noRule, noReaction, signalLetters}
-use Rattle.layout.specs.Keeps.{KeepsSignal, KeepsRule, KeepsReaction, Keeps}
+use Rattle.layout.specs.Contents.{Signal, Rule, Reaction, Case, Contents, noSignal, noRule, noReaction, noCase}
+use Rattle.layout.specs.Contents.{signalLetters, listedCases}
+use Rattle.layout.specs.Keeps.{KeepsSignal, KeepsRule, KeepsReaction, KeepsCase, Keeps}
 use Rattle.layout.specs.Layout.{signedText, signText, reactionLine, reactionsText, literalsText, labelText, kindText}
-use Rattle.layout.specs.Layout.{section, signalLine, ruleLine, textOf}
+use Rattle.layout.specs.Layout.{section, signalLine, ruleLine, caseLine, casesText, textOf}
 use Rattle.canonical.specs.Most.{mostCount, mostEvents, mostSignals, mostLabel, mostRule, mostRules}
-use Rattle.canonical.specs.Most.{mostReaction, mostReactions, mostForm}
+use Rattle.canonical.specs.Most.{mostReaction, mostReactions, mostCase, mostCases, mostForm}
 use Rattle.canonical.proofs.Lengths.{length-line, length-field, length-count, length-section}
 
 -- a limit, a label and a kind
@@ -57,13 +58,14 @@ length-kind Max = omega arith
 length-kind Min = omega arith
 length-kind Fix = omega arith
 
--- five parts one behind the other
-length-parts : (h e s r y : List ℕ) → length h ≤ mostCount 7 → length e ≤ mostEvents → length s ≤ mostSignals
-    → length r ≤ mostRules → length y ≤ mostReactions
-    → length (h ++ e ++ s ++ r ++ y) ≤ mostForm
-length-parts h e s r y a b c d i =
+-- six parts one behind the other
+length-parts : (h e s r y l : List ℕ) → length h ≤ mostCount 7 → length e ≤ mostEvents → length s ≤ mostSignals
+    → length r ≤ mostRules → length y ≤ mostReactions → length l ≤ mostCases
+    → length (h ++ e ++ s ++ r ++ y ++ l) ≤ mostForm
+length-parts h e s r y l a b c d i j =
     omega (
       arith,
+      length-append (h ++ e ++ s ++ r ++ y) l,
       length-append (h ++ e ++ s ++ r) y,
       length-append (h ++ e ++ s) r,
       length-append (h ++ e) s,
@@ -117,8 +119,28 @@ module _ (c : Contents) (k : Keeps c) where
       (omega (arith, length-map ys reactionLine)) (omega arith)
       (each-map reactionLine (λ l. length l ≤ mostReaction) noReaction [] ys (each-mono length-reaction e))
 
-  pub length-text : Each Few (c .rules) noRule → length (textOf c) ≤ mostForm
-  length-text few =
+  abbrev FewLetters : Case → Type 0
+  FewLetters x = length (x .label) ≤ L.signals
+
+  length-case : (x : Case) → KeepsCase (c .names) (signalLetters (c .signals)) x → FewLetters x
+      → length (caseLine x) ≤ mostCase
+  length-case x e few =
+      let name = name-short (x .event) (each-in (λ n. isName n ≡ true) (k .names) (e .event)) in
+      let label = labelText (x .label) in
+      omega (arith, length-field (x .event) label [], length-line label, length-label (x .label) few)
+
+  length-cases : (o : Option (List Case)) → length (Option·getD o []) ≤ L.events
+      → Each (KeepsCase (c .names) (signalLetters (c .signals))) (Option·getD o []) noCase
+      → Each FewLetters (Option·getD o []) noCase → length (casesText o) ≤ mostCases
+  length-cases none most e few = omega arith
+  length-cases (some ks) most e few =
+      length-section "cases" mostCase L.events (map caseLine ks)
+      (omega (arith, length-map ks caseLine)) (omega arith)
+      (each-map caseLine (λ l. length l ≤ mostCase) noCase [] ks
+      (record { each = λ i h. length-case (getD ks i noCase) (e .each i h) (few .each i h) }))
+
+  pub length-text : Each Few (c .rules) noRule → Each FewLetters (listedCases c) noCase → length (textOf c) ≤ mostForm
+  length-text few labels =
       let names = map (λ n. line n []) (c .names) in
       let signals = map signalLine (c .signals) in
       let rules = map ruleLine (c .rules) in
@@ -127,7 +149,7 @@ module _ (c : Contents) (k : Keeps c) where
       let rule-count = length-map (c .rules) ruleLine in
       length-parts (line (ascii "horizon") (decimal (c .horizon) ∷ [])) (section "events" names)
       (section "signals" signals)
-      (section "rules" rules) (reactionsText (c .reactions))
+      (section "rules" rules) (reactionsText (c .reactions)) (casesText (c .cases))
       (length-count (ascii "horizon") (c .horizon) (omega (arith, k .horizon)))
       (length-section "events" 9 L.events names (omega (arith, k .events, name-count)) (omega arith) length-events)
       (length-section "signals" 11 L.signals signals (omega (arith, k .few-signals, signal-count)) (omega arith)
@@ -136,3 +158,4 @@ module _ (c : Contents) (k : Keeps c) where
       (each-map ruleLine (λ l. length l ≤ mostRule) noRule [] (c .rules)
       (record { each = λ i h. length-rule (getD (c .rules) i noRule) (k .rules .each i h) (few .each i h) })))
       (length-reactions (c .reactions) (k .few-reactions) (k .reactions))
+      (length-cases (c .cases) (omega (arith, k .few-cases, k .events)) (k .cases) labels)

@@ -24,7 +24,7 @@ use Rattle.names.proofs.Sums.{weight-of, weights-append, weightIn, truths-sum}
 use Rattle.canonical.specs.House.{literal, literalBy, literalAt, literalsOf}
 use Rattle.canonical.proofs.Keyed.{LettersAre, keys-known, keys-once}
 
-letter-by : (b : ℕ) (s t : Bool) (l : Literal) → literalBy b s t ≡ some l → l .letter ≡ b
+pub letter-by : (b : ℕ) (s t : Bool) (l : Literal) → literalBy b s t ≡ some l → l .letter ≡ b
 letter-by b true t l e = cc
 letter-by b false true l e = cc
 letter-by b false false l e = none-not-some l e

@@ -3,8 +3,8 @@
 use mathlib.Core.Path.{_≡_, refl, sym, _∙_, ap}
 use mathlib.Core.Logic.{inl, inr}
 use mathlib.Core.Bool.{Bool, true, false}
-use mathlib.Core.Option.{some, Option·getD}
-use mathlib.Core.List.{List, [], _∷_}
+use mathlib.Core.Option.{some}
+use mathlib.Core.List.{List}
 use Prim.Native.Nat.{ℕ, _≤_, _<_}
 use native.Mathlib.Omega.{arith}
 use borrow.Author.Tests.{eqb-false, ne-eqb}
@@ -26,13 +26,10 @@ use Rattle.network.proofs.Strategy.{reactionOf-stated, reactionOf-least, reacti
 use Rattle.layout.specs.Contents.{Signal, Reaction, noSignal, noReaction, reactionLetters}
 use Rattle.layout.specs.Keeps.{KeepsReaction}
 use Rattle.layout.specs.Contains.{Contains}
-use Rattle.canonical.specs.House.{signalAt, signalsOf, slowBy, slowAt, slowOf, sectionOf, houseOf}
-use Rattle.canonical.proofs.Keyed.{LettersAre, keys-known, keys-once}
-
--- what is listed is listed, whether or not there is a section
-pub listed-slow : (ys : List Reaction) → Option·getD (sectionOf ys) [] ≡ ys
-listed-slow [] = refl
-listed-slow (y ∷ ys) = refl
+use Rattle.canonical.specs.Listed.{slowBy, slowAt, slowOf, labelledOf}
+use Rattle.canonical.specs.House.{signalAt, signalsOf, houseOf}
+use Rattle.canonical.proofs.Keyed.{LettersAre, letter-tells, keys-known, keys-once}
+use Rattle.canonical.proofs.Listed.{listed-before}
 
 -- a reaction that is listed has its signal's letter and its minutes, which are other than 1
 pub record IsSlow (b x : ℕ) (y : Reaction) : Type 0 where
@@ -99,18 +96,12 @@ module _ (sheet : List ℕ) {Γ : Network} {k : ℕ} {bs : List ℕ} (w : Letter
   same-letter = h .lettered p inside
       ∙ ap (λ (x : Signal). x .letter) (getD-tabulate (signalAt sheet Γ) (Γ .signals) p noSignal l)
 
-  -- a listed letter is that of one signal
-  of-signal : (q : ℕ) → q < Γ .signals → letter Γ q ≡ letter Γ p → q ≡ p
-  of-signal q m e =
-      w .once .once q p (omega (arith, w .count, w .sized)) (omega (arith, w .count, w .sized))
-      (sym (w .are q (omega (arith, w .count))) ∙ e ∙ w .are p (omega (arith, w .count)))
-
   unlisted : reaction Γ p ≡ L.fastest → In (letter Δ p) (reactionLetters (slowOf Γ)) 0 → ⊥
   unlisted e i =
       let at : i .place < length (slowOf Γ) = omega (arith, i .place-lt, length-map (slowOf Γ) (λ y. y .letter)) in
       let s = slow-at Γ (i .place) at in
       let its = sym (getD-map (λ y. y .letter) noReaction 0 (slowOf Γ) (i .place) at) ∙ i .is ∙ same-letter in
-      s .2 .slow (ap (reaction Γ) (of-signal (s .0) (s .1) (sym (s .2 .letter-is) ∙ its)) ∙ e)
+      s .2 .slow (ap (reaction Γ) (letter-tells w (s .0) p (s .1) l (sym (s .2 .letter-is) ∙ its)) ∙ e)
 
   listed : (reaction Γ p ≡ L.fastest → ⊥)
       → In (record { letter = letter Γ p; minutes = reaction Γ p }) (slowOf Γ) noReaction
@@ -122,11 +113,12 @@ module _ (sheet : List ℕ) {Γ : Network} {k : ℕ} {bs : List ℕ} (w : Letter
   reaction-back =
       elim (eq-or-ne (reaction Γ p) L.fastest) [
         | inl e ↦
-            let none = (rw (listed-slow (slowOf Γ)) at (h .unsaid)) p inside (unlisted e) in
+            let none = (rw (listed-before (length (labelledOf Γ)) (slowOf Γ)) at (h .unsaid)) p inside (unlisted e) in
             reactionOf-least (reactionStated Δ p) (omega arith) ∙ sym e
         | inr n ↦
             let i = listed n in
-            let given = (rw (listed-slow (slowOf Γ)) at (h .reacts)) p (i .place) inside (i .place-lt)
+            let reacts = rw (listed-before (length (labelledOf Γ)) (slowOf Γ)) at (h .reacts) in
+            let given = reacts p (i .place) inside (i .place-lt)
             (same-letter ∙ ap (λ (y : Reaction). y .letter) (sym (i .is)))
             ∙ ap (λ (y : Reaction). y .minutes) (i .is) in
             ap reactionOf given ∙ reactionOf-stated (reaction Γ p) (reaction-some Γ p)

@@ -1,26 +1,25 @@
--- A sheet in its house form (02, points 2 and 3): its horizon, events and signals as they are, the upper bounds that
--- remain, and the reactions other than 1. "Label letters stand in signal order". What the form contains is said as the
--- layout says what any sheet contains, and it is written as any sheet is.
+-- A sheet in its house form (02, points 2, 3 and 6): its horizon, events and signals as they are, the upper bounds that
+-- remain, the reactions other than 1 and the labels of events other than `-`. "Label letters stand in signal order".
+-- What the form contains is said as the layout says what any sheet contains, and it is written as any sheet is.
 use mathlib.Core.Bool.{Bool, true, false}
-use mathlib.Core.Option.{Option, none, some}
-use mathlib.Core.List.{List, [], _∷_, map}
+use mathlib.Core.Option.{Option, some}
+use mathlib.Core.List.{List, map}
 use Prim.Native.Nat.{ℕ}
-use lib.Dec.{eqb}
+use lib.ListN.{length}
 use Rattle.prelude.specs.Bounded.{tabulate}
-use Rattle.prelude.specs.Search.{when, unless}
+use Rattle.prelude.specs.Search.{when}
 use Rattle.prelude.specs.Gather.{gather}
-use Rattle.network.specs.Limits as L
-use Rattle.network.specs.Build.{nameOf, letter, observation}
-use Rattle.network.specs.Strategy.{reaction}
+use Rattle.network.specs.Build.{nameOf, letter, observation, eventLabel}
 use Rattle.network.specs.Scenario.{truth}
 use Rattle.network.specs.declared.Kind.the-variants.{Max}
 use Rattle.network.specs.declared.Label.{Label}
 use Rattle.network.specs.declared.Constraint.{Constraint}
 use Rattle.network.specs.declared.Network.{Network}
 use Rattle.names.specs.Names.{Literal}
-use Rattle.layout.specs.Contents.{Signal, Rule, Reaction, Contents}
+use Rattle.layout.specs.Contents.{Signal, Rule, Case, Contents}
 use Rattle.layout.specs.Layout.{textOf}
 use Rattle.tighten.specs.Tightest.{remainingOf}
+use Rattle.canonical.specs.Listed.{slowOf, labelledOf, sectionOf, beforeLabels}
 
 -- a letter, with the truth that a label asks of it
 abbrev pub literal : ℕ → Bool → Literal
@@ -39,24 +38,6 @@ module _ (Γ : Network) (ℓ : Label) where
   -- its letters in signal order
   abbrev pub literalsOf : List Literal
   literalsOf = gather (Γ .signals) literalAt
-
--- a reaction that is listed: "only reactions other than 1" (02, point 3)
-abbrev pub slowBy : ℕ → ℕ → Option Reaction
-slowBy b x = unless (eqb x L.fastest) (record { letter = b; minutes = x })
-
-module _ (Γ : Network) where
-  -- that of signal p, if it is listed
-  abbrev pub slowAt : ℕ → Option Reaction
-  slowAt p = slowBy (letter Γ p) (reaction Γ p)
-
-  -- "in signal order"
-  abbrev pub slowOf : List Reaction
-  slowOf = gather (Γ .signals) slowAt
-
--- "with no section if there are none"
-abbrev pub sectionOf : List Reaction → Option (List Reaction)
-sectionOf [] = none
-sectionOf (y ∷ ys) = some (y ∷ ys)
 
 module _ (sheet : List ℕ) (Γ : Network) where
   -- the event list
@@ -80,13 +61,18 @@ module _ (sheet : List ℕ) (Γ : Network) where
     label = literalsOf Γ (r .label);
   }
 
+  -- an event with its label
+  abbrev pub asCase : ℕ → Case
+  asCase u = record { event = nameOf Γ sheet u; label = literalsOf Γ (eventLabel Γ u) }
+
   abbrev pub houseOf : Contents
   houseOf = record {
     horizon = Γ .horizon;
     names = namesOf;
     signals = signalsOf;
     rules = map asRule (remainingOf Γ);
-    reactions = sectionOf (slowOf Γ);
+    reactions = beforeLabels (length (labelledOf Γ)) (slowOf Γ);
+    cases = sectionOf (map asCase (labelledOf Γ));
   }
 
   -- the form's bytes

@@ -32,5 +32,12 @@ mostReaction = 8
 abbrev pub mostReactions : ℕ
 mostReactions = mostCount 9 + mostReaction * L.signals
 
+-- a name, a comma, a label and the line feed
+abbrev pub mostCase : ℕ
+mostCase = 8 + (1 + mostLabel) + 1
+
+abbrev pub mostCases : ℕ
+mostCases = mostCount 5 + mostCase * L.events
+
 abbrev pub mostForm : ℕ
-mostForm = mostCount 7 + mostEvents + mostSignals + mostRules + mostReactions
+mostForm = mostCount 7 + mostEvents + mostSignals + mostRules + mostReactions + mostCases

@@ -13,13 +13,14 @@ ghost use Rattle.page.specs.Filled.{FilledIs};
 ghost use Rattle.network.specs.Build.{nameOf};
 ghost use Rattle.network.specs.WellFormed.{InLimits, Proper, WellFormed, Named};
 ghost use Rattle.layout.specs.Layout.{lines, section, signalLine, ruleLine, signedText, literalsText};
-ghost use Rattle.layout.specs.Layout.{labelText, reactionLine, reactionsText};
+ghost use Rattle.layout.specs.Layout.{labelText, reactionLine, reactionsText, caseLine, casesText};
 ghost use Rattle.tighten.specs.Tightest.{remainingOf};
 ghost use Rattle.tighten.specs.Fronts.{UppersAre};
-ghost use Rattle.canonical.specs.House.{literalBy, literalsOf, namesOf, signalsOf, asRule, houseText};
-ghost use Rattle.canonical.specs.House.{slowBy, slowOf, sectionOf};
+ghost use Rattle.canonical.specs.Listed.{slowBy, slowOf, labelledAt, labelledOf, sectionOf, beforeLabels};
+ghost use Rattle.canonical.specs.House.{literalBy, literalsOf, namesOf, signalsOf, asRule, asCase, houseText};
 ghost use Rattle.canonical.specs.Most.{mostCount, mostEvents, mostSignals, mostLabel, mostRule, mostRules};
-ghost use Rattle.canonical.specs.Most.{mostReaction, mostReactions};
+ghost use Rattle.canonical.specs.Most.{mostReaction, mostReactions, mostCase, mostCases};
+use line::whole;
 use network::Constraint;
 use network::Label;
 use network::Network;
@@ -201,14 +202,14 @@ fn push_reaction(page: &mut [u8], at: usize, letter: u8, reaction: u16) -> usize
     page::push(page, next, b'\n')
 }
 
-// The reactions other than 1, where there are any.
-fn push_reactions(page: &mut [u8], at: usize, network: Network) -> usize
+// The reactions other than 1, where there are any, or where so many labels are to follow.
+fn push_reactions(page: &mut [u8], at: usize, network: Network, labelled: usize) -> usize
     requires { ⌜ WellFormed network × (at + mostReactions ≤ length (now page)) ⌝ }
     ensures { λ r. ⌜ Appended mostReactions (now (page .entry)) at
-        (reactionsText (sectionOf (slowOf network))) (now (page .exit)) r ⌝ }
+        (reactionsText (beforeLabels labelled (slowOf network))) (now (page .exit)) r ⌝ }
 {
     let count = slow_count(network);
-    if count == 0 {
+    if count == 0 && labelled == 0 {
         return at;
     }
     let mut next = push_count(page, at, b"reactions", count as u16);
@@ -219,8 +220,58 @@ fn push_reactions(page: &mut [u8], at: usize, network: Network) -> usize
     next
 }
 
+// How many events have a label other than `-`.
+fn labelled_count(network: Network) -> usize
+    requires { ⌜ WellFormed network ⌝ }
+    ensures { λ r. ⌜ r ≡ length (labelledOf network) ⌝ }
+{
+    let mut count: usize = 0;
+    for u in 0..network.events {
+        if !whole::is_none(network.labels[u]) {
+            count += 1;
+        }
+    }
+    count
+}
+
+// An event's label behind its name, if it is other than `-`.
+fn push_case(page: &mut [u8], at: usize, sheet: &[u8], network: Network, u: usize) -> usize
+    requires { ⌜ WellFormed network × Named (now sheet) network × (u < network .events)
+        × (at + mostCase ≤ length (now page)) ⌝ }
+    ensures { λ r. ⌜ Appended mostCase (now (page .entry)) at
+        (lines (map (λ v. caseLine (asCase (now (sheet .entry)) network v)) (ahead (labelledAt network u) [])))
+        (now (page .exit)) r ⌝ }
+{
+    let label = network.labels[u];
+    if whole::is_none(label) {
+        return at;
+    }
+    let mut next = page::push_all(page, at, name_of(sheet, network, u));
+    next = page::push(page, next, b',');
+    next = push_label(page, next, network, label);
+    page::push(page, next, b'\n')
+}
+
+// The labels other than `-`, so many, where there are any.
+fn push_cases(page: &mut [u8], at: usize, sheet: &[u8], network: Network, labelled: usize) -> usize
+    requires { ⌜ WellFormed network × Named (now sheet) network × (labelled ≡ length (labelledOf network))
+        × (at + mostCases ≤ length (now page)) ⌝ }
+    ensures { λ r. ⌜ Appended mostCases (now (page .entry)) at
+        (casesText (sectionOf (map (asCase (now (sheet .entry)) network) (labelledOf network))))
+        (now (page .exit)) r ⌝ }
+{
+    if labelled == 0 {
+        return at;
+    }
+    let mut next = push_count(page, at, b"cases", labelled as u16);
+    for u in 0..network.events {
+        next = push_case(page, next, sheet, network, u);
+    }
+    next
+}
+
 // No form is longer.
-const LONGEST: usize = 2721;
+const LONGEST: usize = 3021;
 
 // The form into out, where the upper bounds that remain fit a sheet: how many bytes were written, or that out is too
 // short for them.
@@ -230,10 +281,12 @@ pub fn write(sheet: &[u8], network: Network, remaining: UpperBounds, out: &mut [
     ensures { λ r. ⌜ FilledIs (houseText (now (sheet .entry)) network) (now (out .entry)) (now (out .exit)) r ⌝ }
 {
     let mut page = [0u8; LONGEST];
+    let labelled = labelled_count(network);
     let events = push_count(&mut page, 0, b"horizon", network.horizon);
     let signals = push_events(&mut page, events, sheet, network);
     let rules = push_signals(&mut page, signals, sheet, network);
     let reactions = push_rules(&mut page, rules, sheet, network, remaining);
-    let end = push_reactions(&mut page, reactions, network);
+    let cases = push_reactions(&mut page, reactions, network, labelled);
+    let end = push_cases(&mut page, cases, sheet, network, labelled);
     page::hand_out(&page[..end], out)
 }

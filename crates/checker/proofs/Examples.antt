@@ -5,6 +5,7 @@ use Prim.Native.Nat.{ℕ, zero, suc}
 use lib.IntN.{ℤ, pos, negsuc}
 use Rattle.network.specs.Build.{empty, withEvent, withSignal, withRule}
 use Rattle.network.specs.Scenario.{satisfies}
+use Rattle.network.specs.Happens.{happens}
 use Rattle.network.specs.Constraint.{covers}
 use Rattle.network.specs.Strategy.{reactionOf}
 use Rattle.network.specs.declared.Kind.{Kind}
@@ -31,18 +32,18 @@ abbrev withRules : List Constraint → Network → Network
 withRules [] Γ = Γ
 withRules (c ∷ cs) Γ = withRules cs (withRule Γ c)
 
-abbrev network : ℕ → ℕ → List ℕ → List Constraint → Network
+abbrev pub network : ℕ → ℕ → List ℕ → List Constraint → Network
 network horizon events observations constraints =
     withRules constraints (withSignals observations (withEvents events (empty horizon)))
 
-abbrev rule : Kind → ℕ → ℕ → ℤ → Label → Constraint
+abbrev pub rule : Kind → ℕ → ℕ → ℤ → Label → Constraint
 rule k a b w ℓ = record { kind = k; from = a; to = b; bound = w; label = ℓ }
 
 -- the labels `-`, `p` and `!p`, of the first proposition
-abbrev always : Label
+abbrev pub always : Label
 always = record { positive = 0; negative = 0 }
 
-abbrev p : Label
+abbrev pub p : Label
 p = record { positive = 1; negative = 0 }
 
 abbrev not-p : Label
@@ -56,12 +57,12 @@ safe = network 60 3 (1 ∷ []) (rule Min 0 1 (pos 5) always ∷ rule Min 1 2 (po
 abbrev heard-last : List Constraint → Network
 heard-last constraints = network 60 3 (2 ∷ []) constraints
 
-record Example : Type 0 where
-  on : Network
-  times : List ℕ
-  judged : Verdict
+pub record Example : Type 0 where
+  pub on : Network
+  pub times : List ℕ
+  pub judged : Verdict
 
-abbrev example : Network → List ℕ → Verdict → Example
+abbrev pub example : Network → List ℕ → Verdict → Example
 example Γ σ v = record { on = Γ; times = σ; judged = v }
 
 abbrev examples : List Example
@@ -100,14 +101,14 @@ examples =
     ∷ []
 
 -- the verdicts given, and those that the table has
-abbrev given : List Example → List Verdict
+abbrev pub given : List Example → List Verdict
 given [] = []
 given (e ∷ es) = verdict (e .on) (e .times) ∷ given es
 
-abbrev expected : List Example → List Verdict
+abbrev pub expected : List Example → List Verdict
 expected [] = []
 expected (e ∷ es) = e .judged ∷ expected es
 
 pub examples-agree : given examples ≡ expected examples
-unfolding verdict satisfies covers reactionOf
+unfolding verdict satisfies happens covers reactionOf
 examples-agree = refl

@@ -1,16 +1,18 @@
 -- The verdict on a strategy: "Points 1, 2, 3 are tried in that order, and the first breach ends the search" (01, The
 -- judge's verdict).
-use mathlib.Core.Bool.{Bool, _&&_, _||_, not}
+use mathlib.Core.Bool.{Bool, _&&_, _||_, not, cond}
 use mathlib.Core.Option.{Option, none, some}
 use mathlib.Core.List.{List}
 use Prim.Native.Nat.{ℕ}
 use lib.Dec.{eqb, leb}
 use Rattle.prelude.specs.Search.{orElse, firstBelow, unless}
 use Rattle.prelude.specs.Bounded.{allBelow}
-use Rattle.network.specs.Build.{constraint, scenarios}
+use Rattle.network.specs.Limits as L
+use Rattle.network.specs.Build.{eventLabel, constraint, scenarios}
 use Rattle.network.specs.Scenario.{agree}
+use Rattle.network.specs.Happens.{mentions, happens}
 use Rattle.network.specs.Constraint.{covers, admits}
-use Rattle.network.specs.Strategy.{time, known}
+use Rattle.network.specs.Strategy.{time, knownFrom, known}
 use Rattle.network.specs.declared.Constraint.{Constraint}
 use Rattle.network.specs.declared.Network.{Network}
 use Rattle.checker.specs.declared.Breach.{Breach}
@@ -22,9 +24,18 @@ module _ (Γ : Network) (σ : List ℕ) where
   abbrev at : ℕ → ℕ → ℕ
   at s u = time (Γ .events) σ s u
 
-  -- point 1 in one cell
+  -- u comes in s no sooner than each signal of its label plus that signal's reaction (02, point 6), by number: a
+  -- giver's cell that is blank counts as 65,535
+  abbrev pub doesWait : ℕ → ℕ → Bool
+  doesWait s u = allBelow (Γ .signals) (λ p. not (mentions (eventLabel Γ u) p) || leb (knownFrom Γ σ s p) (at s u))
+
+  -- the cell of an event that happens: within the horizon, 0 for the start, and not before what its label waits for
+  abbrev pub isPlaced : ℕ → ℕ → Bool
+  isPlaced s u = (leb (at s u) (Γ .horizon) && (not (eqb u 0) || eqb (at s u) 0)) && doesWait s u
+
+  -- point 1 in one cell: "a cell wrongly filled, wrongly blank or sooner than its label's signals allow" breaks it too
   abbrev pub isOnTime : ℕ → ℕ → Bool
-  isOnTime s u = leb (at s u) (Γ .horizon) && (not (eqb u 0) || eqb (at s u) 0)
+  isOnTime s u = cond (happens Γ s u) (isPlaced s u) (eqb (at s u) L.blank)
 
   -- point 2 for one constraint in one scenario
   abbrev pub doesHold : ℕ → Constraint → Bool
@@ -34,9 +45,9 @@ module _ (Γ : Network) (σ : List ℕ) where
   abbrev pub isIndistinct : ℕ → ℕ → ℕ → Bool
   isIndistinct s r u = allBelow (Γ .signals) (λ p. agree s r p || not (known Γ σ s p (at s u)))
 
-  -- point 3 for one event and two scenarios
+  -- point 3 for one event and two scenarios, of which it "compares only events that happen in both"
   abbrev pub isAlike : ℕ → ℕ → ℕ → Bool
-  isAlike s r u = not (isIndistinct s r u) || eqb (at s u) (at r u)
+  isAlike s r u = not (happens Γ s u && happens Γ r u) || (not (isIndistinct s r u) || eqb (at s u) (at r u))
 
   -- "the lowest cell, by case and then event"
   abbrev pub lateIn : ℕ → Option Breach

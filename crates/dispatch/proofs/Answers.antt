@@ -25,7 +25,7 @@ use Rattle.dispatch.specs.declared.Heard.{Heard}
 use Rattle.dispatch.specs.declared.Dispatched.{Dispatched}
 use Rattle.dispatch.specs.declared.Dispatched.the-variants.{Events, Misnamed, NeverHeard}
 use Rattle.dispatch.proofs.History.{well-named, named-of-history, told-of-history, history-of-told}
-use Rattle.dispatch.proofs.Alike.{history-indistinct, indistinct-due}
+use Rattle.dispatch.proofs.Alike.{heard-due}
 
 -- searches by what is said alike of each letter
 pub hearer-same : (Γ : Network) → Lettered Γ → (σ : List ℕ) (m : ℕ) (f g : ℕ → Bool → Bool)
@@ -70,7 +70,7 @@ module _ (Γ : Network) (σ : List ℕ) (m : ℕ) (lettered : Lettered Γ) (hs :
   data Answer : Dispatched → Type 0 where
     misnamed : (WellNamed Γ hs → ⊥) → Answer Misnamed
     never : Never → Answer NeverHeard
-    events : (s : ℕ) → s < scenarios Γ → History Γ σ m hs s → Answer (Events (dueIn (Γ .events) σ m s))
+    events : (s : ℕ) → s < scenarios Γ → History Γ σ m hs s → Answer (Events (dueIn Γ σ m s))
 
   answer-for : (o : Option ℕ) → hearer Γ σ m (says hs) ≡ o → WellNamed Γ hs → Answer (dueFor Γ σ m o)
   answer-for none e n =
@@ -120,10 +120,10 @@ module _ (Γ : Network) (σ : List ℕ) (m : ℕ) (lettered : Lettered Γ) (hs :
 
   -- what is due in any case that has heard it
   pub due-history : Solution Γ σ → WellFormed Γ → (s : ℕ) → s < scenarios Γ → History Γ σ m hs s
-      → due Γ σ m hs ≡ Events (dueIn (Γ .events) σ m s)
+      → due Γ σ m hs ≡ Events (dueIn Γ σ m s)
   due-history good wf s l h = so due-answer
     where
-      so : {d : Dispatched} → Answer d → d ≡ Events (dueIn (Γ .events) σ m s)
+      so : {d : Dispatched} → Answer d → d ≡ Events (dueIn Γ σ m s)
       so (misnamed n) = absurd (n (named-of-history Γ σ m h))
       so (never w) = absurd (w .1 s l h)
-      so (events r k g) = ap Events (indistinct-due Γ σ m good wf k l (history-indistinct Γ σ m lettered hs g h))
+      so (events r k g) = ap Events (heard-due Γ σ m good wf lettered k l hs g h)

@@ -5,22 +5,20 @@ use mathlib.Core.Path.{_≡_, refl, sym, _∙_, ap, ap₂}
 use mathlib.Core.Bool.{Bool, true, false, _&&_, not, Bool·beq, cond}
 use mathlib.Core.List.{List}
 use Prim.Native.Nat.{ℕ, suc, _+_, _*_, _%_, _^_, _≤_, _<_}
-use native.Mathlib.Nat.{zero-add, add-zero, mul-le-mul-right}
+use native.Mathlib.Nat.{zero-add, add-zero}
 use native.Mathlib.Numerals.{add-one}
 use native.Mathlib.Omega.{arith}
-use borrow.Author.Tests.{eq-eqb, ne-eqb}
-use lib.Dec.{eqb, leb}
-use lib.ListN.{length}
+use lib.Dec.{eqb}
 use lib.Pow.{pow-mono}
 use Rattle.prelude.specs.Search.{when}
 use Rattle.prelude.specs.Bounded.{sumBelow}
 use Rattle.prelude.proofs.Search.{Searching}
-use Rattle.network.specs.Build.{letter, scenarios, cells}
+use Rattle.network.specs.Build.{letter, scenarios}
 use Rattle.network.specs.Scenario.{truth}
-use Rattle.network.specs.Strategy.{time, knownFrom}
+use Rattle.network.specs.Strategy.{known}
 use Rattle.network.specs.declared.Network.{Network}
 use Rattle.names.proofs.Finds.{finds-on, finds-at, finds-end}
-use Rattle.dispatch.specs.Due.{asHeard, dueIn, hasHeard}
+use Rattle.dispatch.specs.Due.{isDue, dueIn, asHeard, hasHeard}
 use Rattle.dispatch.specs.Said.{saidOn, standsOn, asSaid, withHeard, saidFrom}
 use Rattle.dispatch.specs.Said.{recordsOn, wellNamedOn, dueOn}
 use Rattle.dispatch.specs.declared.Dispatched.the-variants.{Events, Misnamed, NeverHeard}
@@ -43,38 +41,32 @@ as-said-is x l p n true true e d = rw (← e, ← d) (ap₂ _&&_ (beq-with-true 
 as-said-is x l p n true false e d = rw (← e, ← d) (ap₂ _&&_ (beq-with-false p) (beq-with-true n))
 as-said-is x l p n false t e d = rw (← e, ← d) (ap₂ _&&_ (beq-with-false p) (beq-with-false n))
 
--- with k from when on p is known and t its truth, that is what s has heard
-pub as-heard-is : (Γ : Network) (σ : List ℕ) (m x s p k : ℕ) (t : Bool)
-    → k ≡ knownFrom Γ σ s p → t ≡ truth s p
-    → asSaid x (letter Γ p) (leb k m) t ≡ asHeard Γ σ m (saidOn x) s p
+-- with k whether p is known and t its truth, that is what s has heard
+pub as-heard-is : (Γ : Network) (σ : List ℕ) (m x s p : ℕ) (k t : Bool) → k ≡ known Γ σ s p m → t ≡ truth s p
+    → asSaid x (letter Γ p) k t ≡ asHeard Γ σ m (saidOn x) s p
 as-heard-is Γ σ m x s p k t e d = rw (e, d)
 
--- a loop over the n events of s has come to u, and due has a bit for each below u that is due at m
-pub record Summing (n : ℕ) (σ : List ℕ) (m s due u : ℕ) : Type 0 where
-  pub within : u ≤ n
-  pub sum : due ≡ sumBelow u (λ v. cond (eqb (time n σ s v) m) (2 ^ v) 0)
+-- a loop over the events of s has come to u, and due has a bit for each below u that is due at m
+pub record Summing (Γ : Network) (σ : List ℕ) (m s due u : ℕ) : Type 0 where
+  pub within : u ≤ Γ .events
+  pub sum : due ≡ sumBelow u (λ v. cond (isDue Γ σ m s v) (2 ^ v) 0)
 
-module _ {n : ℕ} {σ : List ℕ} {m s due u : ℕ} (here : Summing n σ m s due u) where
+module _ {Γ : Network} {σ : List ℕ} {m s due u : ℕ} (here : Summing Γ σ m s due u) where
   -- one more bit fits 16
   pub summing-fits : u < 16 → due + (1 * 2 ^ u) % 2 ^ 16 < 2 ^ 16
   summing-fits h =
-      let small = mask-small (λ v. eqb (time n σ s v) m) u in
+      let small = mask-small (isDue Γ σ m s) u in
       omega (arith, here .sum, one-shifted u 16 h, small, pow-mono {i = suc u} {j = 16} h)
 
-  pub summing-bit : u < 16 → u < n → time n σ s u ≡ m → Summing n σ m s (due + (1 * 2 ^ u) % 2 ^ 16) (u + 1)
-  summing-bit h l e =
-      record { within = omega arith; sum = rw (one-shifted u 16 h, here .sum, add-one, eq-eqb (time n σ s u) m e) }
+  pub summing-bit : u < 16 → u < Γ .events → isDue Γ σ m s u ≡ true
+      → Summing Γ σ m s (due + (1 * 2 ^ u) % 2 ^ 16) (u + 1)
+  summing-bit h l e = record { within = omega arith; sum = rw (one-shifted u 16 h, here .sum, add-one, e) }
 
-  pub summing-none : u < n → (time n σ s u ≡ m → ⊥) → Summing n σ m s due (u + 1)
-  summing-none l e = record { within = omega arith; sum = rw (here .sum, add-one, ne-eqb (time n σ s u) m e, add-zero) }
+  pub summing-none : u < Γ .events → isDue Γ σ m s u ≡ false → Summing Γ σ m s due (u + 1)
+  summing-none l e = record { within = omega arith; sum = rw (here .sum, add-one, e, add-zero) }
 
-  pub summed : n ≤ u → due ≡ dueIn n σ m s
-  summed l = let end : u ≡ n = omega (arith, here .within) in rw end at (here .sum)
-
--- a case's row is in a table of the network's size
-pub row-in : (Γ : Network) (σ : List ℕ) → length σ ≡ cells Γ → (s : ℕ) → s < scenarios Γ
-    → s * Γ .events + Γ .events ≤ length σ
-row-in Γ σ e s h = omega (arith, e, mul-le-mul-right (Γ .events) h)
+  pub summed : Γ .events ≤ u → due ≡ dueIn Γ σ m s
+  summed l = let end : u ≡ Γ .events = omega (arith, here .within) in rw end at (here .sum)
 
 pub misnamed-on : (Γ : Network) (σ : List ℕ) (m x : ℕ) → wellNamedOn Γ x ≡ false → Misnamed ≡ dueOn Γ σ m x
 unfolding dueOn
@@ -114,7 +106,7 @@ module _ {Γ : Network} {σ : List ℕ} {m x s : ℕ} (here : Hearing Γ σ m x 
   pub hearing-on : s < scenarios Γ → hasHeard Γ σ m (saidOn x) s ≡ false → Hearing Γ σ m x (s + 1)
   hearing-on h e = record { named = here .named; search = finds-on (hasHeard Γ σ m (saidOn x)) (here .search) h e }
 
-  pub heard-on : s < scenarios Γ → hasHeard Γ σ m (saidOn x) s ≡ true → Events (dueIn (Γ .events) σ m s) ≡ dueOn Γ σ m x
+  pub heard-on : s < scenarios Γ → hasHeard Γ σ m (saidOn x) s ≡ true → Events (dueIn Γ σ m s) ≡ dueOn Γ σ m x
   unfolding dueOn
   heard-on h e = rw (here .named, finds-at (hasHeard Γ σ m (saidOn x)) (here .search) h e)
 

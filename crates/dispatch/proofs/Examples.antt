@@ -1,5 +1,6 @@
 -- What the definitions say at the edges, in tables that one theorem covers by computation: the events and the minutes
--- of document 01's sheet, with a second signal; and sixteen events without a signal. Assumes nothing.
+-- of document 01's sheet, with a second signal; the same with a door that only some cases have; and sixteen events
+-- without a signal. Assumes nothing.
 use mathlib.Core.Path.{_≡_, refl}
 use mathlib.Core.Bool.{Bool, true, false, _&&_}
 use mathlib.Core.List.{List, [], _∷_}
@@ -8,7 +9,9 @@ use Prim.Native.Char.{code}
 use lib.Dec.{eqb}
 use Rattle.prelude.specs.Bounded.{tabulate}
 use Rattle.prelude.specs.Bytes.{every}
-use Rattle.network.specs.Build.{empty, withEvent, withSignal}
+use Rattle.network.specs.Build.{empty, withEvent, withSignal, withLabel}
+use Rattle.network.specs.Scenario.{satisfies}
+use Rattle.network.specs.Happens.{happens}
 use Rattle.network.specs.Strategy.{reactionOf}
 use Rattle.network.specs.declared.Network.{Network}
 use Rattle.dispatch.specs.Due.{due}
@@ -72,6 +75,33 @@ questions =
     ∷ asked 6 (is 255 true ∷ []) Misnamed
     ∷ []
 
+-- the door, where p is true alone: elsewhere its cell is blank
+abbrev some-cases : Network
+some-cases = withLabel net 2 (record { positive = 1; negative = 0 })
+
+abbrev blanks : List ℕ
+blanks = 0 ∷ 5 ∷ 65535 ∷ 0 ∷ 5 ∷ 20 ∷ 0 ∷ 5 ∷ 65535 ∷ 0 ∷ 5 ∷ 20 ∷ []
+
+abbrev questions-of-some : List Question
+questions-of-some =
+    asked 20 (p true ∷ []) (Events 4)
+    ∷ asked 21 (p true ∷ q false ∷ []) (Events 0)
+    -- a blank is not due at the minute that it holds
+    ∷ asked 65535 (p false ∷ []) (Events 0)
+    -- nor is its signal heard after it
+    ∷ asked 65536 (p false ∷ []) (Events 0)
+    ∷ asked 65536 (p false ∷ q false ∷ []) NeverHeard
+    ∷ asked 65536 (p false ∷ q true ∷ []) NeverHeard
+    ∷ []
+
+-- and in the table above, where the door has a minute in cases that do not have it, neither is it due nor q heard
+abbrev questions-of-filled : List Question
+questions-of-filled =
+    asked 6 (p false ∷ []) (Events 0)
+    ∷ asked 7 (p false ∷ []) (Events 0)
+    ∷ asked 7 (p false ∷ q true ∷ []) NeverHeard
+    ∷ []
+
 -- answers as numbers, to compare them
 abbrev number : Dispatched → ℕ
 number (Events e) = e
@@ -79,10 +109,10 @@ number Misnamed = 65536
 number NeverHeard = 65537
 
 -- by the list, and by its mask
-abbrev holds : Question → Bool
-holds x =
-    eqb (number (due net table (x .minute) (x .list))) (number (x .answer))
-    && eqb (number (dueOn net table (x .minute) (saidFrom 0 (x .list)))) (number (x .answer))
+abbrev holds : Network → List ℕ → Question → Bool
+holds Γ σ x =
+    eqb (number (due Γ σ (x .minute) (x .list))) (number (x .answer))
+    && eqb (number (dueOn Γ σ (x .minute) (saidFrom 0 (x .list)))) (number (x .answer))
 
 -- as many events as there may be, no signal, and event u at minute u
 abbrev sixteen : ℕ → Network
@@ -92,9 +122,9 @@ sixteen (suc n) = withEvent (sixteen n) 0 1
 abbrev row : List ℕ
 row = tabulate 16 (λ u. u)
 
-abbrev all : List Question → Bool
-all [] = true
-all (x ∷ xs) = holds x && all xs
+abbrev all : Network → List ℕ → List Question → Bool
+all Γ σ [] = true
+all Γ σ (x ∷ xs) = holds Γ σ x && all Γ σ xs
 
 -- the last bit, none behind it, and a letter where none is defined
 abbrev ends : Bool
@@ -112,6 +142,10 @@ masks =
     && every (λ k. eqb (number (dueOn net table 6 (2 ^ 15 + 2 ^ k))) (number Misnamed))
     (47 ∷ 17 ∷ 26 ∷ 31 ∷ 58 ∷ 62 ∷ 63 ∷ 64 ∷ []))
 
-pub played : all questions && (ends && masks) ≡ true
-unfolding reactionOf due withHeard dueOn
+pub played : all net table questions && (ends && masks) ≡ true
+unfolding satisfies happens reactionOf due withHeard dueOn
 played = refl
+
+pub played-some : all some-cases blanks questions-of-some && all some-cases table questions-of-filled ≡ true
+unfolding satisfies happens reactionOf due withHeard dueOn
+played-some = refl

@@ -1,4 +1,5 @@
--- What is due at a minute, by what has been heard before it (02, point 1; with reactions, point 3).
+-- What is due at a minute, by what has been heard before it (02, point 1; with reactions, point 3, and events that only
+-- some cases have, point 6).
 use mathlib.Core.Bool.{Bool, true, false, _&&_, Bool·beq, cond}
 use mathlib.Core.Option.{Option, none, some}
 use mathlib.Core.List.{List}
@@ -8,6 +9,7 @@ use Rattle.prelude.specs.Search.{firstBelow, when}
 use Rattle.prelude.specs.Bounded.{allBelow, sumBelow}
 use Rattle.network.specs.Build.{letter, scenarios}
 use Rattle.network.specs.Scenario.{truth}
+use Rattle.network.specs.Happens.{happens}
 use Rattle.network.specs.Strategy.{time, known}
 use Rattle.network.specs.declared.Network.{Network}
 use Rattle.dispatch.specs.Heard.{isWellNamed, says}
@@ -15,12 +17,17 @@ use Rattle.dispatch.specs.declared.Heard.{Heard}
 use Rattle.dispatch.specs.declared.Dispatched.{Dispatched}
 use Rattle.dispatch.specs.declared.Dispatched.the-variants.{Events, Misnamed, NeverHeard}
 
--- "the events due at that minute" in s, of n events: bit u for event u
-abbrev pub dueIn : ℕ → List ℕ → ℕ → ℕ → ℕ
-dueIn n σ m s = sumBelow n (λ u. cond (eqb (time n σ s u) m) (2 ^ u) 0)
-
 module _ (Γ : Network) (σ : List ℕ) (m : ℕ) where
-  -- whether s has heard that the signal p is v
+  -- whether event u is due in s: it happens there, and m is its minute. A cell without its event "is never due" (02,
+  -- point 6), not even at the minute 65,535, which it holds
+  abbrev pub isDue : ℕ → ℕ → Bool
+  isDue s u = happens Γ s u && eqb (time (Γ .events) σ s u) m
+
+  -- "the events due at that minute" in s: bit u for event u
+  abbrev pub dueIn : ℕ → ℕ
+  dueIn s = sumBelow (Γ .events) (λ u. cond (isDue s u) (2 ^ u) 0)
+
+  -- whether s has heard that the signal p is v; where its event does not happen it is "never heard" (`known`)
   abbrev pub hears : ℕ → ℕ → Bool → Bool
   hears s p v = known Γ σ s p m && Bool·beq (truth s p) v
 
@@ -41,7 +48,7 @@ module _ (Γ : Network) (σ : List ℕ) (m : ℕ) where
   -- (`dispatch/proofs/Alike.antt`)
   abbrev pub dueFor : Option ℕ → Dispatched
   dueFor none = NeverHeard
-  dueFor (some s) = Events (dueIn (Γ .events) σ m s)
+  dueFor (some s) = Events (dueIn s)
 
   -- 15 is tried before 16
   abbrev pub dueBy : Bool → (ℕ → Bool → Bool) → Dispatched

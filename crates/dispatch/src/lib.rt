@@ -1,12 +1,13 @@
-// What is due at a minute, by what has been heard before it (document 02, point 1). The records that are lent are
-// walked once, into a mask; all the rest works on the mask.
+// What is due at a minute, by what has been heard before it (document 02, points 1, 3 and 6). The records that are lent
+// are walked once, into a mask; all the rest works on the mask.
 ghost use mathlib.Core.Path.{_≡_};
 ghost use mathlib.Core.Bool.{true};
-ghost use Prim.Native.Nat.{_+_, _*_, _≤_, _<_};
+ghost use Prim.Native.Nat.{_<_};
 ghost use lib.ListN.{length};
-ghost use Rattle.network.specs.Limits as L;
 ghost use Rattle.network.specs.Build.{scenarios, cells};
 ghost use Rattle.network.specs.Scenario as S;
+ghost use Rattle.network.specs.Happens as E;
+ghost use Rattle.network.specs.Strategy as T;
 ghost use Rattle.network.specs.WellFormed.{WellFormed};
 ghost use Rattle.names.specs.Names.{isLetter};
 ghost use Rattle.dispatch.specs.Heard.{Lettered};
@@ -136,20 +137,40 @@ fn as_said(said: u64, letter: u8, known: bool, truth: bool) -> bool
     !positive && negative
 }
 
+// Whether event u happens in s.
+fn happens(network: Network, s: usize, u: usize) -> bool
+    requires { ⌜ WellFormed network × (s < scenarios network) × (u < network .events) ⌝ }
+    ensures { λ r. ⌜ r ≡ E.happens network s u ⌝ }
+{
+    network::satisfies(s, network.labels[u])
+}
+
+// Whether the signal p is known in s at the minute: never where its event does not happen.
+fn is_known(network: Network, table: &[u16], minute: u16, s: usize, p: usize) -> bool
+    requires { ⌜ WellFormed network × (length (now table) ≡ cells network) × (s < scenarios network)
+        × (p < network .signals) ⌝ }
+    ensures { λ r. ⌜ r ≡ T.known network (now (table .entry)) s p minute ⌝ }
+{
+    let events = network.events;
+    let observation = network.observations[p];
+    let stated = network.reactions[p];
+    if !happens(network, s, observation) {
+        return false;
+    }
+    times::known_after(table, events, s, observation, stated) <= minute as u32
+}
+
 // Whether exactly what is said has been heard in s before the minute.
 fn has_heard(network: Network, table: &[u16], minute: u16, said: u64, s: usize) -> bool
     requires { ⌜ WellFormed network × (length (now table) ≡ cells network) × Lettered network
         × (s < scenarios network) ⌝ }
     ensures { λ r. ⌜ r ≡ D.hasHeard network (now (table .entry)) minute (M.saidOn said) s ⌝ }
 {
-    let events = network.events;
     let signals = network.signals;
     let mut p = 0;
     while p < signals {
-        let observation = network.observations[p];
         let letter = network.letters[p];
-        let stated = network.reactions[p];
-        let known = times::known_after(table, events, s, observation, stated) <= minute as u32;
+        let known = is_known(network, table, minute, s, p);
         if !as_said(said, letter, known, has(s as u64, p as u32)) {
             return false;
         }
@@ -158,15 +179,28 @@ fn has_heard(network: Network, table: &[u16], minute: u16, said: u64, s: usize) 
     true
 }
 
-// The events of s that are due at the minute: bit u for event u.
-fn due_in(table: &[u16], events: usize, minute: u16, s: usize) -> u16
-    requires { ⌜ (events ≤ L.events) × (s * events + events ≤ length (now table)) ⌝ }
-    ensures { λ r. ⌜ r ≡ D.dueIn events (now (table .entry)) minute s ⌝ }
+// Whether event u is due in s at the minute: never where it does not happen, whatever its cell holds.
+fn is_due(network: Network, table: &[u16], minute: u16, s: usize, u: usize) -> bool
+    requires { ⌜ WellFormed network × (length (now table) ≡ cells network) × (s < scenarios network)
+        × (u < network .events) ⌝ }
+    ensures { λ r. ⌜ r ≡ D.isDue network (now (table .entry)) minute s u ⌝ }
 {
+    if happens(network, s, u) {
+        return times::time_of(table, network.events, s, u) == minute;
+    }
+    false
+}
+
+// The events of s that are due at the minute: bit u for event u.
+fn due_in(network: Network, table: &[u16], minute: u16, s: usize) -> u16
+    requires { ⌜ WellFormed network × (length (now table) ≡ cells network) × (s < scenarios network) ⌝ }
+    ensures { λ r. ⌜ r ≡ D.dueIn network (now (table .entry)) minute s ⌝ }
+{
+    let events = network.events;
     let mut due: u16 = 0;
     let mut u = 0;
     while u < events {
-        if times::time_of(table, events, s, u) == minute {
+        if is_due(network, table, minute, s, u) {
             due += 1 << u;
         }
         u += 1;
@@ -179,7 +213,6 @@ pub fn due(network: Network, table: &[u16], minute: u16, said: u64) -> Dispatche
     requires { ⌜ WellFormed network × (length (now table) ≡ cells network) × Lettered network ⌝ }
     ensures { λ r. ⌜ r ≡ M.dueOn network (now (table .entry)) minute said ⌝ }
 {
-    let events = network.events;
     let signals = network.signals;
     if !well_named(network, said) {
         return Dispatched::Misnamed;
@@ -188,7 +221,7 @@ pub fn due(network: Network, table: &[u16], minute: u16, said: u64) -> Dispatche
     let mut s = 0;
     while s < scenarios {
         if has_heard(network, table, minute, said, s) {
-            return Dispatched::Events(due_in(table, events, minute, s));
+            return Dispatched::Events(due_in(network, table, minute, s));
         }
         s += 1;
     }

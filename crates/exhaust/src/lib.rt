@@ -1,11 +1,12 @@
-// A second solver, by another method: it makes every table of a small network and asks the checker of each. It shares
-// nothing with the solver but the network. Proved safe and ending; what it answers is compared with the solver's, not
-// proved.
+// A second solver, by another method: it makes every table of a small network and asks the checker of each. Cells
+// whose event does not happen are blank in all of them. It shares nothing with the solver but the network. Proved safe
+// and ending; what it answers is compared with the solver's, not proved.
 ghost use mathlib.Core.Path.{_≡_};
-ghost use Prim.Native.Nat.{_+_, _*_, _^_, _<_, _≤_};
+ghost use Prim.Native.Nat.{_*_, _^_, _<_, _≤_};
 ghost use lib.ListN.{length};
 ghost use Rattle.network.specs.WellFormed.{WellFormed};
 use checker::Verdict;
+use network::Label;
 use network::Network;
 
 // The most tables that are made, the most cells that a table has, and the latest time of a cell.
@@ -14,6 +15,14 @@ const TABLES: u32 = 70000;
 pub const CELLS: usize = 32;
 
 const LATEST: u16 = 15;
+
+// What stands for a cell in which every time is tried. Any other cell has one value: 0, or that of a blank.
+const OPEN: u16 = 1;
+
+// What the cells of every table hold, or OPEN.
+struct Frame {
+    cells: [u16; CELLS],
+}
 
 // Whether the network was small enough to be searched; whether it has a solution; the least time of each cell over
 // all solutions.
@@ -47,47 +56,85 @@ fn table_count(times: u32, cells: usize) -> u32
     count
 }
 
-// The time of event u by the last digit of rest, and the digits behind it. The origin takes none.
-fn time_of(u: usize, rest: u32, times: u32) -> u16
-    requires { ⌜ (0 < times) × (times ≤ 16) ⌝ }
+// What the cell of event u holds in s: the origin has its time, and where the event does not happen the cell is blank.
+fn held(s: usize, u: usize, label: Label) -> u16
+    requires { ⌜ (s < 16) × (label .positive < 16) × (label .negative < 16) ⌝ }
 {
     if u == 0 {
         return 0;
     }
+    if !network::satisfies(s, label) {
+        return Network::BLANK;
+    }
+    OPEN
+}
+
+fn frame_of(network: Network) -> Frame
+    requires { ⌜ WellFormed network × (network .events * 2 ^ network .signals ≤ 32) ⌝ }
+    ensures { λ r. ⌜ length (r .cells) ≡ 32 ⌝ }
+{
+    let events = network.events;
+    let signals = network.signals;
+    let scenarios = network::scenario_count(signals);
+    let mut cells = [0u16; CELLS];
+    let mut s = 0;
+    while s < scenarios {
+        let mut u = 0;
+        while u < events {
+            let label = network.labels[u];
+            cells[s * events + u] = held(s, u, label);
+            u += 1;
+        }
+        s += 1;
+    }
+    Frame { cells }
+}
+
+// How many cells are open.
+fn open_count(frame: &[u16; CELLS]) -> usize
+    requires { ⌜ length (now frame) ≡ 32 ⌝ }
+{
+    let mut count = 0;
+    let mut i = 0;
+    while i < CELLS {
+        if frame[i] == OPEN {
+            count += 1;
+        }
+        i += 1;
+    }
+    count
+}
+
+// The time of a cell by the last digit of rest, and the digits behind it. A cell that is not open takes none.
+fn time_of(cell: u16, rest: u32, times: u32) -> u16
+    requires { ⌜ (0 < times) × (times ≤ 16) ⌝ }
+{
+    if cell != OPEN {
+        return cell;
+    }
     (rest % times) as u16
 }
 
-fn rest_after(u: usize, rest: u32, times: u32) -> u32
+fn rest_after(cell: u16, rest: u32, times: u32) -> u32
     requires { ⌜ 0 < times ⌝ }
 {
-    if u == 0 {
+    if cell != OPEN {
         return rest;
     }
     rest / times
 }
 
-fn next_event(u: usize, events: usize) -> usize
-    requires { ⌜ u ≤ 32 ⌝ }
-    ensures { λ r. ⌜ r ≤ u + 1 ⌝ }
-{
-    if u + 1 == events {
-        return 0;
-    }
-    u + 1
-}
-
-// Table number k: each cell but the origins' has a digit of k in base times.
-fn fill(table: &mut [u16; CELLS], k: u32, times: u32, events: usize, cells: usize)
-    requires { ⌜ (0 < times) × (times ≤ 16) × (cells ≤ 32) × (length (now table) ≡ 32) ⌝ }
+// Table number k: each open cell of the frame has a digit of k in base times.
+fn fill(table: &mut [u16; CELLS], frame: &[u16; CELLS], k: u32, times: u32)
+    requires { ⌜ (0 < times) × (times ≤ 16) × (length (now table) ≡ 32) × (length (now frame) ≡ 32) ⌝ }
     ensures { λ _. ⌜ length (now (table .exit)) ≡ 32 ⌝ }
 {
     let mut rest = k;
-    let mut u = 0;
     let mut i = 0;
-    while i < cells {
-        table[i] = time_of(u, rest, times);
-        rest = rest_after(u, rest, times);
-        u = next_event(u, events);
+    while i < CELLS {
+        let cell = frame[i];
+        table[i] = time_of(cell, rest, times);
+        rest = rest_after(cell, rest, times);
         i += 1;
     }
 }
@@ -122,14 +169,20 @@ fn passes(network: Network, table: &[u16]) -> bool
 }
 
 // Table number k: 1 where it is a solution, and then each cell of least is no more than its own.
-fn attempt(network: Network, k: u32, times: u32, cells: usize, least: &mut [u16; CELLS]) -> u32
+fn attempt(
+    network: Network,
+    frame: &[u16; CELLS],
+    k: u32,
+    times: u32,
+    cells: usize,
+    least: &mut [u16; CELLS],
+) -> u32
     requires { ⌜ WellFormed network × (0 < times) × (times ≤ 16) × (cells ≤ 32)
-        × (cells ≡ network .events * 2 ^ network .signals) × (length (now least) ≡ 32) ⌝ }
+        × (cells ≡ network .events * 2 ^ network .signals) × (length (now least) ≡ 32) × (length (now frame) ≡ 32) ⌝ }
     ensures { λ r. ⌜ (r ≤ 1) × (length (now (least .exit)) ≡ 32) ⌝ }
 {
-    let events = network.events;
     let mut table = [0u16; CELLS];
-    fill(&mut table, k, times, events, cells);
+    fill(&mut table, frame, k, times);
     if !passes(network, &table[..cells]) {
         return 0;
     }
@@ -160,7 +213,9 @@ pub fn search(network: Network) -> Tried
         return untried();
     }
     let times = horizon as u32 + 1;
-    let count = table_count(times, network::cell_count(events - 1, signals));
+    let held = frame_of(network);
+    let frame = held.cells;
+    let count = table_count(times, open_count(&frame));
     if TABLES < count {
         return untried();
     }
@@ -168,7 +223,7 @@ pub fn search(network: Network) -> Tried
     let mut hits: u32 = 0;
     let mut k: u32 = 0;
     while k < count {
-        hits += attempt(network, k, times, cells, &mut least);
+        hits += attempt(network, &frame, k, times, cells, &mut least);
         k += 1;
     }
     Tried {

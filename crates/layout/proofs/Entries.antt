@@ -18,20 +18,22 @@ use Rattle.sheet.specs.Reading.{Progress, Go, readLine, readEntries}
 use Rattle.sheet.proofs.ReadLine.{readLine-on, went}
 use Rattle.layout.specs.Layout.{lines}
 
--- a line of this kind is that of an x: the network holds the xs that have been read, and x may follow them
+-- a line of this kind, with so many more of the section behind it, is that of an x: the network holds the xs that have
+-- been read, where so many are to come, and x may follow them
 pub record Understood (sheet : List ℕ) (s : Section) {X : Type 0} (first : X → List ℕ) (others : X → List (List ℕ))
-    (Held : Network → List X → Type 0) (Kept : List X → Type 0) (May : List X → X → Type 0) : Type 0 where
-  pub may : (xs ys : List X) (x : X) → Kept (xs ++ x ∷ ys) → May xs x
-  pub reads : {Γ : Network} {xs : List X} → Held Γ xs → (fs : List (List ℕ))
-      → firstFailing (testsOf sheet s Γ fs) ≡ none
-      → (x : X) × (fs ≡ first x ∷ others x) × May xs x
-  pub passes : {Γ : Network} {xs : List X} → Held Γ xs → (x : X) → May xs x
-      → firstFailing (testsOf sheet s Γ (first x ∷ others x)) ≡ none
-  pub plain : {Γ : Network} {xs : List X} → Held Γ xs → (x : X) → May xs x → Plain (first x ∷ others x)
-  pub adds : {Γ : Network} {xs : List X} → Held Γ xs → (x : X) → May xs x → length xs < headingOf s .most
-      → (at : ℕ) (rest : List ℕ)
+    (Held : ℕ → Network → List X → Type 0) (Kept : List X → Type 0) (May : ℕ → List X → X → Type 0) : Type 0 where
+  pub may : (xs ys : List X) (x : X) → Kept (xs ++ x ∷ ys) → May (length ys) xs x
+  pub reads : (m : ℕ) {Γ : Network} {xs : List X} → Held (suc m) Γ xs → (fs : List (List ℕ))
+      → firstFailing (testsOf sheet s m Γ fs) ≡ none
+      → (x : X) × (fs ≡ first x ∷ others x) × May m xs x
+  pub passes : (m : ℕ) {Γ : Network} {xs : List X} → Held (suc m) Γ xs → (x : X) → May m xs x
+      → firstFailing (testsOf sheet s m Γ (first x ∷ others x)) ≡ none
+  pub plain : {m : ℕ} {Γ : Network} {xs : List X} → Held (suc m) Γ xs → (x : X) → May m xs x
+      → Plain (first x ∷ others x)
+  pub adds : (n m : ℕ) {Γ : Network} {xs : List X} → Held (suc m) Γ xs → (x : X) → May m xs x
+      → length xs < headingOf n s .most → (at : ℕ) (rest : List ℕ)
       → drop at sheet ≡ line (first x) (others x) ++ rest
-      → Held (withLine sheet s Γ at (first x ∷ others x)) (xs ++ x ∷ [])
+      → Held m (withLine sheet s Γ at (first x ∷ others x)) (xs ++ x ∷ [])
 
 pub readLine-passes : (sheet : List ℕ) (at k : ℕ) (ts : List (List ℕ) → Tests) (next : List (List ℕ) → Progress)
     (fs : List (List ℕ)) (rest : List ℕ) (p : Progress) → IsRead sheet at fs rest → firstFailing (ts fs) ≡ none
@@ -71,8 +73,8 @@ pub record Reads (sheet : List ℕ) {X : Type 0} (Held : Network → X → Type 
   pub behind : drop at sheet ≡ rest
 
 module _ {sheet : List ℕ} {s : Section} {X : Type 0} {first : X → List ℕ} {others : X → List (List ℕ)}
-    {Held : Network → List X → Type 0} {Kept : List X → Type 0} {May : List X → X → Type 0}
-    (w : Understood sheet s first others Held Kept May) where
+    {Held : ℕ → Network → List X → Type 0} {Kept : List X → Type 0} {May : ℕ → List X → X → Type 0}
+    (w : Understood sheet s first others Held Kept May) (n : ℕ) where
   abbrev text : X → List ℕ
   text x = line (first x) (others x)
 
@@ -81,9 +83,9 @@ module _ {sheet : List ℕ} {s : Section} {X : Type 0} {first : X → List ℕ} 
   next m Γ at k fs = readEntries sheet s m (withLine sheet s Γ at fs) (afterLine sheet at) (suc k)
 
   -- so many lines that were read are those of some items
-  pub entries-read : (m : ℕ) (Γ : Network) (xs : List X) (at k : ℕ) → Held Γ xs → length xs + m ≤ headingOf s .most
+  pub entries-read : (m : ℕ) (Γ : Network) (xs : List X) (at k : ℕ) → Held m Γ xs → length xs + m ≤ headingOf n s .most
       → (Δ : Network) (end number : ℕ) → readEntries sheet s m Γ at k ≡ Go Δ end number
-      → Read sheet Held text xs m at Δ end
+      → Read sheet (Held 0) text xs m at Δ end
   entries-read zero Γ xs at k h few Δ end number g =
       let same-network : Γ ≡ Δ = cc in
       let same-place : at ≡ end = cc in
@@ -94,13 +96,13 @@ module _ {sheet : List ℕ} {s : Section} {X : Type 0} {first : X → List ℕ} 
         held = rw (append-nil xs, ← same-network) h;
       }
   entries-read (suc m) Γ xs at k h few Δ end number g =
-      let p = went sheet at k (testsOf sheet s Γ) (next m Γ at k) Δ end number g in
-      let r = w .reads h (fields (lineAt sheet at)) (p .passed .accepted) in
+      let p = went sheet at k (testsOf sheet s m Γ) (next m Γ at k) Δ end number g in
+      let r = w .reads m h (fields (lineAt sheet at)) (p .passed .accepted) in
       let x = r .0 in
       let behind = drop (afterLine sheet at) sheet in
       let t : drop at sheet ≡ text x ++ behind = rw (r .1) at (line-read sheet at (p .passed .ends)) in
-      let held = w .adds h x (r .2) (omega arith) at behind t in
-      let few-left : length (xs ++ x ∷ []) + m ≤ headingOf s .most = omega (arith, length-append xs (x ∷ [])) in
+      let held = w .adds n m h x (r .2) (omega arith) at behind t in
+      let few-left : length (xs ++ x ∷ []) + m ≤ headingOf n s .most = omega (arith, length-append xs (x ∷ [])) in
       let on =
       entries-read m (withLine sheet s Γ at (first x ∷ others x)) (xs ++ x ∷ []) (afterLine sheet at) (suc k) held
       few-left Δ end number
@@ -113,9 +115,9 @@ module _ {sheet : List ℕ} {s : Section} {X : Type 0} {first : X → List ℕ} 
       }
 
   -- where the lines of ys stand, they are read
-  pub entries-reads : (ys : List X) (Γ : Network) (xs : List X) (at k : ℕ) (rest : List ℕ) → Held Γ xs → Kept (xs ++ ys)
-      → length xs + length ys ≤ headingOf s .most → drop at sheet ≡ texts text ys ++ rest
-      → Reads sheet Held (readEntries sheet s (length ys) Γ at k) (xs ++ ys) rest
+  pub entries-reads : (ys : List X) (Γ : Network) (xs : List X) (at k : ℕ) (rest : List ℕ) → Held (length ys) Γ xs
+      → Kept (xs ++ ys) → length xs + length ys ≤ headingOf n s .most → drop at sheet ≡ texts text ys ++ rest
+      → Reads sheet (Held 0) (readEntries sheet s (length ys) Γ at k) (xs ++ ys) rest
   entries-reads [] Γ xs at k rest h kept few t =
       record { network = Γ; at = at; number = k; goes = refl; held = rw append-nil h; behind = t }
   entries-reads (x ∷ ys) Γ xs at k rest h kept few t =
@@ -123,8 +125,9 @@ module _ {sheet : List ℕ} {s : Section} {X : Type 0} {first : X → List ℕ} 
       let behind = texts text ys ++ rest in
       let l = parts (drop at sheet) (text x) (texts text ys) rest t in
       let r = is-read sheet at (first x) (others x) behind (w .plain h x m) l in
-      let held = w .adds h x m (omega arith) at behind l in
-      let few-left : length (xs ++ x ∷ []) + length ys ≤ headingOf s .most = omega (arith, length-append xs (x ∷ [])) in
+      let held = w .adds n (length ys) h x m (omega arith) at behind l in
+      let few-left : length (xs ++ x ∷ []) + length ys ≤ headingOf n s .most =
+      omega (arith, length-append xs (x ∷ [])) in
       let on =
       entries-reads ys (withLine sheet s Γ at (first x ∷ others x)) (xs ++ x ∷ []) (afterLine sheet at)
       (suc k) rest held
@@ -134,8 +137,8 @@ module _ {sheet : List ℕ} {s : Section} {X : Type 0} {first : X → List ℕ} 
         at = on .at;
         number = on .number;
         goes =
-            readLine-passes sheet at k (testsOf sheet s Γ) (next (length ys) Γ at k) (first x ∷ others x) behind
-            (Go (on .network) (on .at) (on .number)) r (w .passes h x m) (on .goes);
+            readLine-passes sheet at k (testsOf sheet s (length ys) Γ) (next (length ys) Γ at k) (first x ∷ others x)
+            behind (Go (on .network) (on .at) (on .number)) r (w .passes (length ys) h x m) (on .goes);
         held = rw append-snoc at (on .held);
         behind = on .behind;
       }

@@ -57,11 +57,11 @@ module _ (sheet : List ℕ) (h : ℕ) where
 
   pub events-understood :
       Understood sheet Events (λ n. n) (λ n. [])
-      (λ Γ ns. Stands sheet Γ (contents h ns [] [])) KeptNames NewName
+      (λ m Γ ns. Stands sheet Γ (contents h ns [] [])) KeptNames (λ m. NewName)
   events-understood = record {
     may = may-name;
-    reads = λ c fs e. name-read c fs e;
-    passes = λ c n m. name-passes c n m;
+    reads = λ m c fs e. name-read c fs e;
+    passes = λ j c n m. name-passes c n m;
     plain = λ c n m. plain-name n (m .is) & tt;
-    adds = λ c n m few at rest e. name-adds c n m few at rest e;
+    adds = λ i j c n m few at rest e. name-adds c n m few at rest e;
   }

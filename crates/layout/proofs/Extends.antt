@@ -14,12 +14,17 @@ use Rattle.network.specs.Build.{empty, withEvent, withSignal, withRule, reactio
 use Rattle.network.specs.WellFormed.{Arrays}
 use Rattle.network.specs.declared.Network.{Network}
 use Rattle.network.specs.declared.Constraint.{Constraint}
-use Rattle.layout.specs.Contents.{Signal, Rule, Reaction, Contents, noSignal, noRule}
+use Rattle.sheet.proofs.LabelStage.{label-empty}
+use Rattle.layout.specs.Contents.{Signal, Rule, Reaction, Case, Contents, noSignal, noRule}
 use Rattle.layout.specs.Contains.{Bears, Means, Contains}
 
--- contents by their parts, and with reactions behind them
+-- contents by their parts; without cases, and without reactions
+abbrev pub contentsOf : ℕ → List (List ℕ) → List Signal → List Rule → Option (List Reaction) → Option (List Case)
+    → Contents
+contentsOf h ns xs rs o q = record { horizon = h; names = ns; signals = xs; rules = rs; reactions = o; cases = q }
+
 abbrev pub contentsWith : ℕ → List (List ℕ) → List Signal → List Rule → Option (List Reaction) → Contents
-contentsWith h ns xs rs o = record { horizon = h; names = ns; signals = xs; rules = rs; reactions = o }
+contentsWith h ns xs rs o = contentsOf h ns xs rs o none
 
 abbrev pub contents : ℕ → List (List ℕ) → List Signal → List Rule → Contents
 contents h ns xs rs = contentsWith h ns xs rs none
@@ -49,6 +54,8 @@ empty-contains sheet h = record {
   means = λ i l. absurd (omega arith);
   reacts = λ p i l. absurd (omega arith);
   unsaid = λ p l. absurd (omega arith);
+  labelled = λ u i l. absurd (omega arith);
+  unlabelled = λ u n. label-empty h u;
 }
 
 module _ {sheet : List ℕ} {Γ : Network} {h : ℕ} {ns : List (List ℕ)} (a : Arrays Γ) where
@@ -79,6 +86,8 @@ module _ {sheet : List ℕ} {Γ : Network} {h : ℕ} {ns : List (List ℕ)} (a :
         means = λ i l. absurd (omega arith);
         reacts = λ p i l. absurd (omega arith);
         unsaid = λ p l. absurd (omega arith);
+        labelled = λ v i l. absurd (omega arith);
+        unlabelled = λ v n. c .unlabelled v (λ w. absurd (omega (arith, w .place-lt)));
       }
 
   -- one signal more, where nothing was said of reactions
@@ -102,6 +111,8 @@ module _ {sheet : List ℕ} {Γ : Network} {h : ℕ} {ns : List (List ℕ)} (a :
         means = λ i l. absurd (omega arith);
         reacts = λ p i l m. absurd (omega arith);
         unsaid = λ p l n. quiet p;
+        labelled = λ v i l. absurd (omega arith);
+        unlabelled = c .unlabelled;
       }
 
   -- one rule more
@@ -121,4 +132,6 @@ module _ {sheet : List ℕ} {Γ : Network} {h : ℕ} {ns : List (List ℕ)} (a :
         (omega (arith, c .rules, a .constraints)) means (c .means);
     reacts = λ p i l m. absurd (omega arith);
     unsaid = c .unsaid;
+    labelled = λ v i l. absurd (omega arith);
+    unlabelled = c .unlabelled;
   }

@@ -17,6 +17,7 @@ use Rattle.network.specs.Build.{nameOf, letter, observation}
 use Rattle.network.specs.declared.Network.{Network}
 use Rattle.names.specs.Names.{Literal}
 use Rattle.names.specs.Defined.{placeOf, givesSignal, weight, weights, maskOf}
+use Rattle.names.proofs.Sums.{place-of}
 use Rattle.line.specs.Tests.{eventOf}
 use Rattle.prelude.specs.Lists.{In, Distinct}
 use Rattle.layout.specs.Contents.{Signal, Contents, noSignal, signalLetters, signalEvents}
@@ -114,11 +115,22 @@ module _ {sheet : List ℕ} {Γ : Network} {c : Contents} (s : Contains sheet Γ
         (eq-eqb (observation Γ (w .place)) u v) .1)
 
   -- a label's weights are those of the letters
-  place-is : (b : ℕ) → placeOf (Γ .signals) (Γ .letters) b ≡ placeOf (length xs) (signalLetters xs) b
+  pub place-is : (b : ℕ) → placeOf (Γ .signals) (Γ .letters) b ≡ placeOf (length xs) (signalLetters xs) b
   place-is b =
       ap (λ (n : ℕ). placeOf n (Γ .letters) b) (s .signals)
       ∙ firstBelow-same (λ p. when (eqb (letter Γ p) b) p) (λ p. when (eqb (getD (signalLetters xs) p 0) b) p)
       (length xs) (λ p h. ap (λ (a : ℕ). when (eqb a b) p) (letter-is p h))
+
+  -- a signal stands where its letter is found
+  pub place-at : Distinct (signalLetters xs) 0 → (p : ℕ) → p < length xs
+      → placeOf (Γ .signals) (Γ .letters) (letter Γ p) ≡ some p
+  place-at once p h =
+      let n = length-map xs (λ x. x .letter) in
+      let bs = signalLetters xs in
+      place-is (letter Γ p)
+      ∙ ap (λ (b : ℕ). placeOf (length xs) bs b) (letter-is p h)
+      ∙ ap (λ (k : ℕ). placeOf k bs (getD bs p 0)) (sym n)
+      ∙ place-of bs once p (omega (arith, n))
 
   weight-is : (b : ℕ) → weight (Γ .signals) (Γ .letters) b ≡ weight (length xs) (signalLetters xs) b
   weight-is b = ap (λ (o : Option ℕ). elim o as (λ x. ℕ) [ none ↦ 0 | some p ↦ 2 ^ p ]) (place-is b)

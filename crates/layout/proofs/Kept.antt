@@ -1,5 +1,5 @@
--- Names, signals, rules and reactions that keep the layout's rules, so far as the lines behind them rely on it, and
--- what may follow them: none keep them, and with one that may follow they still do. Assumes nothing.
+-- Names, signals, rules, reactions and cases that keep the layout's rules, so far as the lines behind them rely on it,
+-- and what may follow them: none keep them, and with one that may follow they still do. Assumes nothing.
 use mathlib.Core.Path.{_≡_, sym, _∙_, ap}
 use mathlib.Core.Bool.{true}
 use mathlib.Core.List.{List, [], _∷_, _++_, map-append}
@@ -9,10 +9,11 @@ use lib.ListN.{length, length-map, List·getD-map}
 use Rattle.prelude.specs.Bytes.{every}
 use Rattle.prelude.specs.Lists.{In, Distinct, Each}
 use Rattle.prelude.proofs.Lists.{each-at, each-snoc, each-mono, every-of-each, distinct-new, distinct-snoc}
+use Rattle.prelude.proofs.Parts.{each-none}
 use Rattle.names.specs.Names.{isLetter, isName}
-use Rattle.layout.specs.Contents.{Signal, Rule, Reaction, noSignal, noRule, noReaction, signalLetters}
-use Rattle.layout.specs.Contents.{signalEvents, reactionLetters}
-use Rattle.layout.specs.Keeps.{KeepsSignal, KeepsRule, KeepsReaction}
+use Rattle.layout.specs.Contents.{Signal, Rule, Reaction, Case, noSignal, noRule, noReaction, noCase}
+use Rattle.layout.specs.Contents.{signalLetters, signalEvents, reactionLetters, caseEvents}
+use Rattle.layout.specs.Keeps.{KeepsSignal, KeepsRule, KeepsReaction, KeepsCase}
 
 pub record KeptNames (ns : List (List ℕ)) : Type 0 where
   pub each : Each (λ n. isName n ≡ true) ns []
@@ -43,29 +44,36 @@ pub record NewReaction (xs : List Signal) (ys : List Reaction) (y : Reaction) : 
   pub keeps : KeepsReaction (signalLetters xs) y
   pub new : In (y .letter) (reactionLetters ys) 0 → ⊥
 
--- none
-module _ {A : Type 0} (d : A) where
-  no-each : (P : A → Type 0) → Each P [] d
-  no-each P = record { each = λ i h. absurd (omega arith) }
+pub record KeptCases (names : List (List ℕ)) (xs : List Signal) (ks : List Case) : Type 0 where
+  pub each : Each (KeepsCase names (signalLetters xs)) ks noCase
+  pub once : Distinct (caseEvents ks) []
 
-  no-twice : Distinct [] d
-  no-twice = record { once = λ i j h k e. absurd (omega arith) }
+pub record NewCase (names : List (List ℕ)) (xs : List Signal) (ks : List Case) (k : Case) : Type 0 where
+  pub keeps : KeepsCase names (signalLetters xs) k
+  pub new : In (k .event) (caseEvents ks) [] → ⊥
+
+-- none
+no-twice : {A : Type 0} (d : A) → Distinct [] d
+no-twice d = record { once = λ i j h k e. absurd (omega arith) }
 
 pub no-names : KeptNames []
-no-names = record { each = no-each [] (λ n. isName n ≡ true); once = no-twice [] }
+no-names = record { each = each-none (λ n. isName n ≡ true) []; once = no-twice [] }
 
 pub no-signals : (names : List (List ℕ)) → KeptSignals names []
 no-signals names = record {
-  each = no-each noSignal (KeepsSignal names);
+  each = each-none (KeepsSignal names) noSignal;
   letters-once = no-twice 0;
   events-once = no-twice [];
 }
 
 pub no-rules : (names : List (List ℕ)) (xs : List Signal) → KeptRules names xs []
-no-rules names xs = no-each noRule (KeepsRule names (signalLetters xs))
+no-rules names xs = each-none (KeepsRule names (signalLetters xs)) noRule
 
 pub no-reactions : (xs : List Signal) → KeptReactions xs []
-no-reactions xs = record { each = no-each noReaction (KeepsReaction (signalLetters xs)); once = no-twice 0 }
+no-reactions xs = record { each = each-none (KeepsReaction (signalLetters xs)) noReaction; once = no-twice 0 }
+
+pub no-cases : (names : List (List ℕ)) (xs : List Signal) → KeptCases names xs []
+no-cases names xs = record { each = each-none (KeepsCase names (signalLetters xs)) noCase; once = no-twice [] }
 
 -- one more
 pub name-kept : (ns : List (List ℕ)) (n : List ℕ) → KeptNames ns → NewName ns n → KeptNames (ns ++ n ∷ [])
@@ -93,6 +101,13 @@ reaction-kept xs ys y k m = record {
   once = rw map-append (distinct-snoc 0 (reactionLetters ys) (y .letter) (k .once) (m .new));
 }
 
+pub case-kept : (names : List (List ℕ)) (xs : List Signal) (ks : List Case) (k : Case) → KeptCases names xs ks
+    → NewCase names xs ks k → KeptCases names xs (ks ++ k ∷ [])
+case-kept names xs ks k c m = record {
+  each = each-snoc noCase ks k (KeepsCase names (signalLetters xs)) (c .each) (m .keeps);
+  once = rw map-append (distinct-snoc [] (caseEvents ks) (k .event) (c .once) (m .new));
+}
+
 -- each may follow those before it
 pub may-name : (ns ms : List (List ℕ)) (n : List ℕ) → KeptNames (ns ++ n ∷ ms) → NewName ns n
 may-name ns ms n k = record {
@@ -113,6 +128,13 @@ pub may-reaction : (xs : List Signal) (ys zs : List Reaction) (y : Reaction) →
 may-reaction xs ys zs y k = record {
   keeps = each-at noReaction ys y (KeepsReaction (signalLetters xs)) zs (k .each);
   new = distinct-new 0 (reactionLetters ys) (y .letter) (reactionLetters zs) (rw map-append at (k .once));
+}
+
+pub may-case : (names : List (List ℕ)) (xs : List Signal) (ks js : List Case) (k : Case)
+    → KeptCases names xs (ks ++ k ∷ js) → NewCase names xs ks k
+may-case names xs ks js k c = record {
+  keeps = each-at noCase ks k (KeepsCase names (signalLetters xs)) js (c .each);
+  new = distinct-new [] (caseEvents ks) (k .event) (caseEvents js) (rw map-append at (c .once));
 }
 
 -- signals' letters are letters

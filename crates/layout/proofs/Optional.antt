@@ -8,6 +8,7 @@ use Prim.Native.Nat.{ℕ, _≤_, _<_, zero-le}
 use native.Mathlib.Omega.{arith}
 use borrow.Author.Tests.{lt-ltb, le-ltb}
 use lib.ListN.{length, drop, length-drop}
+use Rattle.prelude.proofs.Search.{some-not-none}
 use Rattle.network.specs.Limits as L
 use Rattle.network.specs.declared.Network.{Network}
 use Rattle.line.specs.declared.Section.{Section}
@@ -17,7 +18,8 @@ use Rattle.layout.specs.Contents.{Signal, Rule, Reaction}
 use Rattle.layout.specs.Layout.{reactionsText}
 use Rattle.layout.proofs.Kept.{KeptReactions}
 use Rattle.layout.proofs.Extends.{contents, contentsWith}
-use Rattle.layout.proofs.Stands.{Stands, reactions-begin}
+use Rattle.layout.proofs.Stands.{Stands}
+use Rattle.layout.proofs.Behind.{reactions-begin}
 use Rattle.layout.proofs.Entries.{Reads}
 use Rattle.layout.proofs.Reactions.{reactions-understood}
 use Rattle.layout.proofs.Section.{section-read, section-reads}
@@ -29,19 +31,28 @@ pub record ReactionsRead (sheet : List ℕ) (h : ℕ) (ns : List (List ℕ)) (xs
   pub few : length (Option·getD items []) ≤ L.signals
   pub written : drop at sheet ≡ reactionsText items ++ drop end sheet
   pub held : Stands sheet Γ (contentsWith h ns xs rs items)
+  -- where the section is absent, nothing stands behind it
+  pub ended : items ≡ none → follows sheet end ≡ false
 
 pub reactions-read : (sheet : List ℕ) {h : ℕ} {ns : List (List ℕ)} {xs : List Signal} {rs : List Rule} (Γ : Network)
     (at k : ℕ) → length xs ≤ L.signals → Stands sheet Γ (contents h ns xs rs)
     → (Δ : Network) (end m : ℕ) → readOptional sheet Reactions Γ at k ≡ Go Δ end m
     → ReactionsRead sheet h ns xs rs at Δ end
-reactions-read sheet {h} {ns} {xs} {rs} Γ at k few held Δ end m e = by-bytes (follows sheet at) e
+reactions-read sheet {h} {ns} {xs} {rs} Γ at k few held Δ end m e = by-bytes (follows sheet at) refl e
   where
-    by-bytes : (more : Bool) → cond more (readSection sheet Reactions Γ at k) (Go Γ at k) ≡ Go Δ end m
+    by-bytes : (more : Bool) → follows sheet at ≡ more
+        → cond more (readSection sheet Reactions Γ at k) (Go Γ at k) ≡ Go Δ end m
         → ReactionsRead sheet h ns xs rs at Δ end
-    by-bytes true e =
-        let r = section-read (reactions-understood sheet h ns xs rs few) Γ at k (reactions-begin held) Δ end m e in
-        record { items = some (r .items); few = r .high; written = r .written; held = r .held }
-    by-bytes false e =
+    by-bytes true f e =
+        let r = section-read (reactions-understood sheet h ns xs rs few) Γ at k (λ _. reactions-begin held) Δ end m e in
+        record {
+          items = some (r .items);
+          few = r .high;
+          written = r .written;
+          held = r .held;
+          ended = λ n. some-not-none (r .items) n;
+        }
+    by-bytes false f e =
         let same-network : Γ ≡ Δ = cc in
         let same-place : at ≡ end = cc in
         record {
@@ -49,38 +60,39 @@ reactions-read sheet {h} {ns} {xs} {rs} Γ at k few held Δ end m e = by-bytes (
           few = omega arith;
           written = ap (λ (i : ℕ). drop i sheet) same-place;
           held = rw same-network at held;
+          ended = λ n. rw same-place at f;
         }
 
 -- a section that may be absent is, where nothing is left, and where something stands it is read
 module _ (sheet : List ℕ) (s : Section) (Γ : Network) (at k : ℕ) where
-  optional-absent : drop at sheet ≡ [] → readOptional sheet s Γ at k ≡ Go Γ at k
+  pub optional-absent : drop at sheet ≡ [] → readOptional sheet s Γ at k ≡ Go Γ at k
   optional-absent e =
       let h : length sheet ≤ at = omega (arith, ap length e, length-drop at sheet) in
       rw (le-ltb at (length sheet) h)
 
-  optional-stands : {b : ℕ} {rest : List ℕ} → drop at sheet ≡ b ∷ rest
+  pub optional-stands : {b : ℕ} {rest : List ℕ} → drop at sheet ≡ b ∷ rest
       → readOptional sheet s Γ at k ≡ readSection sheet s Γ at k
   optional-stands e =
       let h : at < length sheet = omega (arith, ap length e, length-drop at sheet) in
       rw (lt-ltb at (length sheet) h)
 
--- where the section of o stands, or nothing, the reading holds it
+-- where the section of o stands, or nothing at all, the reading holds it
 pub reactions-reads : (sheet : List ℕ) {h : ℕ} {ns : List (List ℕ)} {xs : List Signal} {rs : List Rule} (Γ : Network)
     (at k : ℕ) → length xs ≤ L.signals → Stands sheet Γ (contents h ns xs rs)
     → (o : Option (List Reaction)) → KeptReactions xs (Option·getD o []) → length (Option·getD o []) ≤ L.signals
-    → drop at sheet ≡ reactionsText o ++ []
-    → Reads sheet (λ Γ o. Stands sheet Γ (contentsWith h ns xs rs o)) (readOptional sheet Reactions Γ at k) o []
-reactions-reads sheet Γ at k signals held none kept few t = record {
+    → (rest : List ℕ) → (o ≡ none → rest ≡ []) → drop at sheet ≡ reactionsText o ++ rest
+    → Reads sheet (λ Γ o. Stands sheet Γ (contentsWith h ns xs rs o)) (readOptional sheet Reactions Γ at k) o rest
+reactions-reads sheet Γ at k signals held none kept few rest ends t = record {
   network = Γ;
   at = at;
   number = k;
-  goes = optional-absent sheet Reactions Γ at k t;
+  goes = optional-absent sheet Reactions Γ at k (t ∙ ends refl);
   held = held;
   behind = t;
 }
-reactions-reads sheet {h} {ns} {xs} {rs} Γ at k signals held (some ys) kept few t =
-    let r = section-reads (reactions-understood sheet h ns xs rs signals) Γ at k (reactions-begin held) refl ys [] kept
-    zero-le few t in
+reactions-reads sheet {h} {ns} {xs} {rs} Γ at k signals held (some ys) kept few rest ends t =
+    let r = section-reads (reactions-understood sheet h ns xs rs signals) Γ at k (λ _. reactions-begin held) refl ys
+    rest kept zero-le few t in
     record {
       network = r .network;
       at = r .at;

@@ -30,7 +30,8 @@ use Rattle.layout.specs.Contents.{Signal, Rule, Reaction, noReaction, re
 use Rattle.layout.proofs.Plain.{plain-letter, one-letter}
 use Rattle.layout.proofs.Kept.{KeptReactions, NewReaction, may-reaction, letter-is}
 use Rattle.layout.proofs.Extends.{contentsWith}
-use Rattle.layout.proofs.Stands.{Stands, reaction-added}
+use Rattle.layout.proofs.Stands.{Stands}
+use Rattle.layout.proofs.Behind.{reaction-added}
 use Rattle.layout.proofs.Finds.{letter-place, letter-in, letter-found}
 use Rattle.layout.proofs.Entries.{Understood}
 
@@ -100,15 +101,15 @@ module _ (sheet : List ℕ) (h : ℕ) (names : List (List ℕ)) (xs : List Signa
 
   pub reactions-understood :
       Understood sheet Reactions (λ y. y .letter ∷ []) (λ y. decimal (y .minutes) ∷ [])
-      (λ Γ ys. Stands sheet Γ (contentsWith h names xs rs (some ys))) (KeptReactions xs) (NewReaction xs)
+      (λ m Γ ys. Stands sheet Γ (contentsWith h names xs rs (some ys))) (KeptReactions xs) (λ m. NewReaction xs)
   reactions-understood = record {
     may = may-reaction xs;
-    reads = λ c fs e. reaction-read c fs e;
-    passes = λ c y m. reaction-passes c y m;
+    reads = λ m c fs e. reaction-read c fs e;
+    passes = λ j c y m. reaction-passes c y m;
     plain = λ c y m.
         and-both (plain (y .letter)) true
         (plain-letter (y .letter) (letter-is (c .signals) (y .letter) (m .keeps .signal))) refl
         & plain-decimal (y .minutes)
         & tt;
-    adds = λ c y m few at rest e. reaction-adds c y m at;
+    adds = λ i j c y m few at rest e. reaction-adds c y m at;
   }

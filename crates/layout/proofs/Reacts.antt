@@ -29,6 +29,8 @@ none-listed c = record {
   means = c .means;
   reacts = c .reacts;
   unsaid = c .unsaid;
+  labelled = c .labelled;
+  unlabelled = c .unlabelled;
 }
 
 -- one reaction more, of the signal p, whose letter has no line yet
@@ -84,4 +86,6 @@ module _ {sheet : List ℕ} {Γ : Network} {h : ℕ} {ns : List (List ℕ)} {xs 
     means = c .means;
     reacts = λ q i l m. reacts i m q l;
     unsaid = unsaid;
+    labelled = c .labelled;
+    unlabelled = c .unlabelled;
   }

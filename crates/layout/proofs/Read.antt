@@ -1,7 +1,7 @@
 -- A sheet that is the text of contents which keep the layout's rules is read to its end, and the network holds these
 -- contents. Assumes nothing.
 use mathlib.Core.Path.{_≡_, refl, _∙_, ap}
-use mathlib.Core.Option.{Option, Option·getD}
+use mathlib.Core.Option.{Option, none, Option·getD}
 use mathlib.Core.List.{List, [], _++_}
 use Prim.Native.Nat.{ℕ, _≤_, zero-le}
 use lib.ListN.{length, drop}
@@ -12,22 +12,23 @@ use Rattle.network.specs.Build.{empty}
 use Rattle.network.specs.declared.Network.{Network}
 use Rattle.line.specs.Tests.{secondNumber}
 use Rattle.line.specs.Sections.{horizonHeading}
-use Rattle.line.specs.declared.Section.the-variants.{Events, Signals, Rules, Reactions}
-use Rattle.sheet.specs.Reading.{Progress, Go, andThen, readHorizon, readSection, readOptional, readEnd}
+use Rattle.line.specs.declared.Section.the-variants.{Events, Signals, Rules, Reactions, Cases}
+use Rattle.sheet.specs.Reading.{Progress, Go, readHorizon, readSection, readOptional, readEnd}
 use Rattle.sheet.specs.Reading.{progress}
-use Rattle.sheet.proofs.Whole.{toEvents, toSignals, toRules, toReactions, toEnd, in-length}
-use Rattle.layout.specs.Contents.{Signal, Rule, Reaction, Contents}
+use Rattle.sheet.proofs.Whole.{toEvents, toSignals, toRules, toReactions, toCases, toEnd, in-length}
+use Rattle.layout.specs.Contents.{Signal, Rule, Reaction, Case, Contents}
 use Rattle.layout.specs.Keeps.{Keeps}
-use Rattle.layout.specs.Layout.{Layout, reactionsText, textOf}
+use Rattle.layout.specs.Layout.{Layout, reactionsText, casesText, textOf}
 use Rattle.layout.specs.Contains.{Contains}
 use Rattle.layout.proofs.Kept.{KeptNames, KeptSignals, KeptRules, KeptReactions}
-use Rattle.layout.proofs.Extends.{contents, contentsWith}
+use Rattle.layout.proofs.Extends.{contents, contentsWith, contentsOf}
 use Rattle.layout.proofs.Stands.{Stands, empty-stands}
 use Rattle.layout.proofs.Entries.{Reads}
 use Rattle.layout.proofs.Events.{events-understood}
 use Rattle.layout.proofs.Signals.{signals-understood}
 use Rattle.layout.proofs.Rules.{rules-understood}
 use Rattle.layout.proofs.Optional.{reactions-reads}
+use Rattle.layout.proofs.OptionalCases.{cases-reads}
 use Rattle.layout.proofs.Section.{count-line-reads, section-reads}
 use Rattle.layout.proofs.Text.{
   horizonText,
@@ -37,20 +38,7 @@ use Rattle.layout.proofs.Text.{
   apart,
   end-reads,
   on,
-}
-
--- a step behind another
-andThen-reads : (sheet : List ℕ) {X Y : Type 0} {Held : Network → X → Type 0} {Held′ : Network → Y → Type 0}
-    {x : X} {y : Y} {rest rest′ : List ℕ} (p : Progress) (next : Network → ℕ → ℕ → Progress)
-    (r : Reads sheet Held p x rest)
-    → Reads sheet Held′ (next (r .network) (r .at) (r .number)) y rest′ → Reads sheet Held′ (andThen p next) y rest′
-andThen-reads sheet p next r t = record {
-  network = t .network;
-  at = t .at;
-  number = t .number;
-  goes = on p next (r .network) (r .at) (r .number) (Go (t .network) (t .at) (t .number)) (r .goes) (t .goes);
-  held = t .held;
-  behind = t .behind;
+  andThen-reads,
 }
 
 module _ (sheet : List ℕ) (h : ℕ) (ns : List (List ℕ)) (xs : List Signal) (rs : List Rule) where
@@ -83,61 +71,78 @@ module _ (sheet : List ℕ) (h : ℕ) (ns : List (List ℕ)) (xs : List Signal) 
       → AtEvents (readHorizon sheet) [] (eventsText ns ++ rest) → AtEvents (toEvents sheet) ns rest
   events-read rest kept least few r =
       andThen-reads sheet (readHorizon sheet) (readSection sheet Events) r
-      (section-reads (events-understood sheet h) (r .network) (r .at) (r .number) (r .held)
+      (section-reads (events-understood sheet h) (r .network) (r .at) (r .number) (λ _. r .held)
       refl ns rest kept least few (r .behind))
 
   signals-read : (rest : List ℕ) → KeptSignals ns xs → length xs ≤ L.signals
       → AtEvents (toEvents sheet) ns (signalsText xs ++ rest) → AtSignals (toSignals sheet) xs rest
   signals-read rest kept few r =
       andThen-reads sheet (toEvents sheet) (readSection sheet Signals) r
-      (section-reads (signals-understood sheet h ns) (r .network) (r .at) (r .number) (r .held)
+      (section-reads (signals-understood sheet h ns) (r .network) (r .at) (r .number) (λ _. r .held)
       refl xs rest kept zero-le few (r .behind))
 
   rules-read : (rest : List ℕ) → KeptRules ns xs rs → length rs ≤ L.rules
       → AtSignals (toSignals sheet) xs (rulesText rs ++ rest) → AtRules (toRules sheet) rs rest
   rules-read rest kept few r =
       andThen-reads sheet (toSignals sheet) (readSection sheet Rules) r
-      (section-reads (rules-understood sheet h ns xs) (r .network) (r .at) (r .number) (r .held)
+      (section-reads (rules-understood sheet h ns xs) (r .network) (r .at) (r .number) (λ _. r .held)
       refl rs rest kept zero-le few (r .behind))
 
   abbrev AtReactions : Progress → Option (List Reaction) → List ℕ → Type 0
   AtReactions p o rest = Reads sheet (λ Γ o. Stands sheet Γ (contentsWith h ns xs rs o)) p o rest
 
-  reactions-read : (o : Option (List Reaction)) → KeptReactions xs (Option·getD o [])
-      → length (Option·getD o []) ≤ L.signals → length xs ≤ L.signals
-      → AtRules (toRules sheet) rs (reactionsText o ++ []) → AtReactions (toReactions sheet) o []
-  reactions-read o kept few signals r =
+  reactions-read : (o : Option (List Reaction)) (rest : List ℕ) → (o ≡ none → rest ≡ [])
+      → KeptReactions xs (Option·getD o []) → length (Option·getD o []) ≤ L.signals → length xs ≤ L.signals
+      → AtRules (toRules sheet) rs (reactionsText o ++ rest) → AtReactions (toReactions sheet) o rest
+  reactions-read o rest ends kept few signals r =
       andThen-reads sheet (toRules sheet) (readOptional sheet Reactions) r
-      (reactions-reads sheet (r .network) (r .at) (r .number) signals (r .held) o kept few (r .behind))
+      (reactions-reads sheet (r .network) (r .at) (r .number) signals (r .held) o kept few rest ends (r .behind))
 
-  end-read : (o : Option (List Reaction)) → AtReactions (toReactions sheet) o [] → AtReactions (toEnd sheet) o []
-  end-read o r = record {
-    network = r .network;
-    at = r .at;
-    number = r .number;
-    goes =
-        on (toReactions sheet) (readEnd sheet) (r .network) (r .at) (r .number)
-        (Go (r .network) (r .at) (r .number)) (r .goes)
-        (end-reads sheet (r .network) (r .at) (r .number) (r .behind));
-    held = r .held;
-    behind = r .behind;
-  }
+  module _ (o : Option (List Reaction)) (q : Option (List Case)) where
+    abbrev AtCases : Progress → Type 0
+    AtCases p = Reads sheet (λ Γ q. Stands sheet Γ (contentsOf h ns xs rs o q)) p q []
 
-  sections-read : (o : Option (List Reaction)) → Keeps (contentsWith h ns xs rs o)
-      → sheet ≡ textOf (contentsWith h ns xs rs o) → AtReactions (toEnd sheet) o []
-  sections-read o k t =
-      let behind-rules = reactionsText o ++ [] in
-      let behind-signals = rulesText rs ++ behind-rules in
-      let behind-events = signalsText xs ++ behind-signals in
-      end-read o
-      (reactions-read o (record { each = k .reactions; once = k .reactions-once }) (k .few-reactions) (k .few-signals)
-      (rules-read behind-rules (k .rules) (k .few-rules)
-      (signals-read behind-signals
-      (record { each = k .signals; letters-once = k .letters-once; events-once = k .events-once }) (k .few-signals)
-      (events-read behind-events
-      (record { each = k .names; once = k .names-once }) (k .some-event) (k .events)
-      (horizon-reads (eventsText ns ++ behind-events) (k .horizon)
-      (apart sheet (horizonText h) (eventsText ns) (signalsText xs) (rulesText rs) (reactionsText o) t))))))
+    cases-read : Keeps (contentsOf h ns xs rs o q) → AtReactions (toReactions sheet) o (casesText q ++ [])
+        → AtCases (toCases sheet)
+    cases-read k r =
+        andThen-reads sheet (toReactions sheet) (readOptional sheet Cases) r
+        (cases-reads sheet (k .events) (k .few-signals) (r .network) (r .at) (r .number) (r .held) q
+        (record { each = k .cases; once = k .cases-once }) (k .labelled) (k .few-cases) (r .behind))
+
+    end-read : AtCases (toCases sheet) → AtCases (toEnd sheet)
+    end-read r = record {
+      network = r .network;
+      at = r .at;
+      number = r .number;
+      goes =
+          on (toCases sheet) (readEnd sheet) (r .network) (r .at) (r .number)
+          (Go (r .network) (r .at) (r .number)) (r .goes)
+          (end-reads sheet (r .network) (r .at) (r .number) (r .behind));
+      held = r .held;
+      behind = r .behind;
+    }
+
+    sections-read : Keeps (contentsOf h ns xs rs o q) → sheet ≡ textOf (contentsOf h ns xs rs o q)
+        → AtCases (toEnd sheet)
+    sections-read k t =
+        let behind-reactions = casesText q ++ [] in
+        let behind-rules = reactionsText o ++ behind-reactions in
+        let behind-signals = rulesText rs ++ behind-rules in
+        let behind-events = signalsText xs ++ behind-signals in
+        let ends : o ≡ none → behind-reactions ≡ [] =
+        λ n. ap (λ (p : Option (List Case)). casesText p ++ []) (k .cases-follow n) in
+        end-read
+        (cases-read k
+        (reactions-read o behind-reactions ends (record { each = k .reactions; once = k .reactions-once })
+        (k .few-reactions) (k .few-signals)
+        (rules-read behind-rules (k .rules) (k .few-rules)
+        (signals-read behind-signals
+        (record { each = k .signals; letters-once = k .letters-once; events-once = k .events-once }) (k .few-signals)
+        (events-read behind-events
+        (record { each = k .names; once = k .names-once }) (k .some-event) (k .events)
+        (horizon-reads (eventsText ns ++ behind-events) (k .horizon)
+        (apart sheet (horizonText h) (eventsText ns) (signalsText xs) (rulesText rs) (reactionsText o) (casesText q)
+        t)))))))
 
 -- the reading comes to its end with a network that holds the contents
 pub record IsRead (sheet : List ℕ) (c : Contents) : Type 0 where
@@ -151,7 +156,8 @@ pub layout-read : (sheet : List ℕ) (l : Layout sheet) → IsRead sheet (l .con
 layout-read sheet l =
     let c = l .contents in
     let r =
-    sections-read sheet (c .horizon) (c .names) (c .signals) (c .rules) (c .reactions) (l .keeps) (l .written) in
+    sections-read sheet (c .horizon) (c .names) (c .signals) (c .rules) (c .reactions) (c .cases) (l .keeps)
+    (l .written) in
     record {
       network = r .network;
       at = r .at;

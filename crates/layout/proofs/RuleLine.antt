@@ -1,24 +1,23 @@
 -- The line of a rule that keeps the layout's rules: the constraint that it adds says what the rule says, and the line
 -- is passed. Assumes nothing.
-use mathlib.Core.Path.{_≡_, _∙_, ap}
+use mathlib.Core.Path.{_≡_}
 use mathlib.Core.Bool.{true, _&&_}
 use mathlib.Core.Option.{none, Option·getD}
 use mathlib.Core.List.{List, [], _∷_}
 use Prim.Native.Nat.{ℕ}
 use borrow.Author.Tests.{le-leb}
 use Rattle.prelude.specs.Search.{answers}
-use Rattle.prelude.specs.Bytes.{every, distinct}
 use Rattle.prelude.specs.Checks.{firstFailing}
 use Rattle.prelude.specs.Lists.{In}
 use Rattle.prelude.proofs.Checks.{_&_, none-fails}
-use Rattle.prelude.proofs.Lists.{each-in, test-of-distinct}
+use Rattle.prelude.proofs.Lists.{each-in}
 use Rattle.prelude.proofs.Tests.{and-both}
 use Rattle.text.specs.Number.{magnitude}
 use Rattle.text.proofs.Written.{Plain}
 use Rattle.network.specs.Limits as L
 use Rattle.network.specs.declared.Network.{Network}
-use Rattle.names.specs.Names.{isLetter, isName, isLabel, labelOf, lettersOf}
-use Rattle.names.specs.Defined.{allDefined, maskOf}
+use Rattle.names.specs.Names.{isName, isLabel, labelOf, lettersOf}
+use Rattle.names.specs.Defined.{allDefined}
 use Rattle.line.specs.Tests.{eventOf, endsTests, ruleTests}
 use Rattle.line.specs.Sections.{ruleOf}
 use Rattle.layout.specs.Contents.{Rule, Contents, signalLetters}
@@ -27,20 +26,14 @@ use Rattle.layout.specs.Layout.{kindText, signedText, labelText, ruleFie
 use Rattle.layout.specs.Contains.{Bears, Means}
 use Rattle.layout.proofs.Plain.{plain-name}
 use Rattle.layout.proofs.Numbers as N
-use Rattle.layout.proofs.Labels.{labelOf-labelText, isLabel-labelText, plain-labelText}
-use Rattle.layout.proofs.Finds.{event-answers, event-found, event-named, mask-is}
-use Rattle.layout.proofs.Kept.{letters-are}
+use Rattle.layout.proofs.Labels.{isLabel-labelText, plain-labelText}
+use Rattle.layout.proofs.Finds.{event-answers, event-found, event-named}
 use Rattle.layout.proofs.Stands.{Stands}
-use Rattle.layout.proofs.KindWords.{kind-is, kind-passes, plain-kind, defined-passes}
+use Rattle.layout.proofs.KindWords.{kind-is, kind-passes, plain-kind}
+use Rattle.layout.proofs.LabelField.{label-letters, label-defined, label-unlike, label-mask}
 
 module _ {sheet : List ℕ} {Γ : Network} {c : Contents} (s : Stands sheet Γ c) (x : Rule)
     (m : KeepsRule (c .names) (signalLetters (c .signals)) x) where
-  letters : every isLetter (lettersOf (x .label)) ≡ true
-  letters = letters-are (s .signals) (lettersOf (x .label)) (m .known)
-
-  label-is : labelOf (labelText (x .label)) ≡ x .label
-  label-is = labelOf-labelText (x .label) letters
-
   bears : (f : List ℕ) → In f (c .names) [] → Bears (c .names) (Option·getD (eventOf sheet Γ f) 0) f
   bears f w = let u = event-found (s .holds) f w in rw (u .1) (event-named (s .holds) f (u .0) (u .1))
 
@@ -50,7 +43,7 @@ module _ {sheet : List ℕ} {Γ : Network} {c : Contents} (s : Stands sheet Γ c
     from = bears (x .from) (m .from);
     to = bears (x .to) (m .to);
     bound = N.valueOf-signedText (x .limit);
-    label = ap (maskOf (Γ .signals) (Γ .letters)) label-is ∙ mask-is (s .holds) (x .label);
+    label = label-mask s (x .label) (m .label);
   }
 
   from-is : isName (x .from) ≡ true
@@ -66,11 +59,11 @@ module _ {sheet : List ℕ} {Γ : Network} {c : Contents} (s : Stands sheet Γ c
       let to = x .to in
       let label = labelText (x .label) in
       let bs = lettersOf (labelOf label) in
-      let is : bs ≡ lettersOf (x .label) = ap lettersOf label-is in
       let areDefined = allDefined (Γ .signals) (Γ .letters) in
       let isFrom = answers (eventOf sheet Γ from) in
       let isTo = answers (eventOf sheet Γ to) in
-      let defined = ap areDefined is ∙ defined-passes (s .holds) (lettersOf (x .label)) (m .known) in
+      let letters = label-letters s (x .label) (m .label) in
+      let defined = label-defined s (x .label) (m .label) in
       none-fails (ruleTests sheet Γ (kindText (x .kind) ∷ ruleFields x))
       (kind-passes (x .kind)
       & N.isNumber-signedText (x .limit)
@@ -79,7 +72,7 @@ module _ {sheet : List ℕ} {Γ : Network} {c : Contents} (s : Stands sheet Γ c
       (and-both (isName to) (isLabel label) to-is (isLabel-labelText (x .label) letters))
       & and-both isFrom (isTo && areDefined bs) (event-answers (s .holds) from (m .from))
       (and-both isTo (areDefined bs) (event-answers (s .holds) to (m .to)) defined)
-      & (ap distinct is ∙ test-of-distinct (lettersOf (x .label)) (m .once))
+      & label-unlike s (x .label) (m .label)
       & tt)
 
   pub rule-plain : Plain (kindText (x .kind) ∷ ruleFields x)
@@ -88,5 +81,5 @@ module _ {sheet : List ℕ} {Γ : Network} {c : Contents} (s : Stands sheet Γ c
       & plain-name (x .from) from-is
       & plain-name (x .to) to-is
       & N.plain-signedText (x .limit)
-      & plain-labelText (x .label) letters
+      & plain-labelText (x .label) (label-letters s (x .label) (m .label))
       & tt

@@ -11,7 +11,7 @@ use lib.ListN.{length}
 use Rattle.prelude.specs.Search.{answers}
 use Rattle.prelude.specs.Checks.{firstFailing}
 use Rattle.prelude.proofs.Checks.{hold}
-use Rattle.prelude.proofs.Lists.{all-of, each-at, distinct-of-test}
+use Rattle.prelude.proofs.Lists.{all-of, each-at}
 use Rattle.prelude.proofs.Tests.{and-true}
 use Rattle.text.specs.Lines.{field}
 use Rattle.text.specs.Number.{magnitude, valueOf}
@@ -32,7 +32,8 @@ use Rattle.layout.proofs.Extends.{contents}
 use Rattle.layout.proofs.Kept.{KeptRules}
 use Rattle.layout.proofs.Stands.{Stands, rule-added}
 use Rattle.layout.proofs.Entries.{Understood}
-use Rattle.layout.proofs.KindWords.{kind-read, defined-read}
+use Rattle.layout.proofs.KindWords.{kind-read}
+use Rattle.layout.proofs.LabelField.{label-keeps}
 use Rattle.layout.proofs.RuleLine.{rule-means, rule-passes, rule-plain}
 
 -- five fields of which three are written otherwise
@@ -68,21 +69,20 @@ rule-read {sheet} {Γ} s fs e =
         from = event-in (s .holds) from (u .0);
         to = event-in (s .holds) to (v .0);
         limit = N.valueOf-limits limit (leb-true (magnitude limit) L.horizon (t .1 .1 .0));
-        known = defined-read (s .holds) bs (v .1);
-        once = distinct-of-test bs (t .1 .1 .1 .1 .1 .0);
+        label = label-keeps s (labelOf label) (v .1) (t .1 .1 .1 .1 .1 .0);
       },
     )
 
 module _ (sheet : List ℕ) (h : ℕ) (names : List (List ℕ)) (xs : List Signal) where
   pub rules-understood :
       Understood sheet Rules (λ x. kindText (x .kind)) ruleFields
-      (λ Γ rs. Stands sheet Γ (contents h names xs rs)) (KeptRules names xs)
-      (λ rs x. KeepsRule names (signalLetters xs) x)
+      (λ m Γ rs. Stands sheet Γ (contents h names xs rs)) (KeptRules names xs)
+      (λ m rs x. KeepsRule names (signalLetters xs) x)
   rules-understood = record {
     may = λ rs ys x k. each-at noRule rs x (KeepsRule names (signalLetters xs)) ys k;
-    reads = λ s fs e. rule-read s fs e;
-    passes = λ s x m. rule-passes s x m;
+    reads = λ m s fs e. rule-read s fs e;
+    passes = λ n s x m. rule-passes s x m;
     plain = λ s x m. rule-plain s x m;
-    adds = λ {Γ} s x m few at rest e.
+    adds = λ n j {Γ} s x m few at rest e.
         rule-added s x (ruleOf sheet Γ (kindText (x .kind) ∷ ruleFields x)) m few (rule-means s x m);
   }

@@ -96,25 +96,25 @@ pub record SectionRead (sheet : List ℕ) {X : Type 0} (Held : Network → List 
   pub held : Held Γ items
 
 module _ {sheet : List ℕ} {s : Section} {X : Type 0} {first : X → List ℕ} {others : X → List (List ℕ)}
-    {Held : Network → List X → Type 0} {Kept : List X → Type 0} {May : List X → X → Type 0}
+    {Held : ℕ → Network → List X → Type 0} {Kept : List X → Type 0} {May : ℕ → List X → X → Type 0}
     (w : Understood sheet s first others Held Kept May) (Γ : Network) (at k : ℕ)
-    (start : Held Γ []) where
+    (start : (m : ℕ) → Held m Γ []) where
   abbrev text : X → List ℕ
   text x = line (first x) (others x)
 
   abbrev head : Heading
-  head = headingOf s
+  head = headingOf (Γ .events) s
 
   abbrev entries : List (List ℕ) → Progress
   entries fs = readEntries sheet s (secondNumber fs) Γ (afterLine sheet at) (suc k)
 
   pub section-read : (Δ : Network) (end number : ℕ) → readSection sheet s Γ at k ≡ Go Δ end number
-      → SectionRead sheet Held head text at Δ end
+      → SectionRead sheet (Held 0) head text at Δ end
   section-read Δ end number g =
       let c = count-line-read sheet head at k entries Δ end number g in
       let m = secondNumber (c .fs) in
-      let r = entries-read w m Γ [] (afterLine sheet at) (suc k) start (omega (arith, c .high)) Δ end number
-      (c .then) in
+      let r = entries-read w (Γ .events) m Γ [] (afterLine sheet at) (suc k) (start m) (omega (arith, c .high)) Δ end
+      number (c .then) in
       let n : m ≡ length (map text (r .items)) = omega (arith, r .count, length-map (r .items) text) in
       record {
         items = r .items;
@@ -133,14 +133,15 @@ module _ {sheet : List ℕ} {s : Section} {X : Type 0} {first : X → List ℕ} 
   pub section-reads : every plain (ascii (head .word)) ≡ true → (ys : List X) (rest : List ℕ) → Kept ys
       → head .least ≤ length ys → length ys ≤ head .most
       → drop at sheet ≡ section (head .word) (map text ys) ++ rest
-      → Reads sheet Held (readSection sheet s Γ at k) ys rest
+      → Reads sheet (Held 0) (readSection sheet s Γ at k) ys rest
   section-reads p ys rest kept low high t =
       let n = length (map text ys) in
       let e : n ≡ length ys = length-map ys text in
       let body = lines (map text ys) in
       let l = parts (drop at sheet) (line (ascii (head .word)) (decimal n ∷ [])) body rest t in
       let c = count-line-reads sheet head at k entries p n (body ++ rest) (omega arith) (omega arith) l in
-      let r = entries-reads w ys Γ [] (afterLine sheet at) (suc k) rest start kept (omega arith) (c .0) in
+      let r = entries-reads w (Γ .events) ys Γ [] (afterLine sheet at) (suc k) rest (start (length ys)) kept
+      (omega arith) (c .0) in
       let count : magnitude (decimal n) ≡ length ys = magnitude-decimal n ∙ e in
       record {
         network = r .network;

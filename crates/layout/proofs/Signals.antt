@@ -104,14 +104,14 @@ module _ (sheet : List ℕ) (h : ℕ) (names : List (List ℕ)) where
 
   pub signals-understood :
       Understood sheet Signals (λ x. x .letter ∷ []) (λ x. x .event ∷ [])
-      (λ Γ xs. Stands sheet Γ (contents h names xs [])) (KeptSignals names) (NewSignal names)
+      (λ m Γ xs. Stands sheet Γ (contents h names xs [])) (KeptSignals names) (λ m. NewSignal names)
   signals-understood = record {
     may = may-signal names;
-    reads = λ c fs e. signal-read c fs e;
-    passes = λ c x m. signal-passes c x m;
+    reads = λ m c fs e. signal-read c fs e;
+    passes = λ j c x m. signal-passes c x m;
     plain = λ c x m.
         and-both (plain (x .letter)) true (plain-letter (x .letter) (m .keeps .letter)) refl
         & plain-name (x .event) (each-in (λ n. isName n ≡ true) (c .names .each) (m .keeps .event))
         & tt;
-    adds = λ c x m few at rest e. signal-adds c x m few at;
+    adds = λ i j c x m few at rest e. signal-adds c x m few at;
   }

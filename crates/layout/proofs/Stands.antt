@@ -1,29 +1,32 @@
 -- What stands while a sheet is read: the network holds the contents so far, its arrays are as long as the limits say,
 -- so that there is room, and the contents keep the layout's rules, on which the lines behind rely. Assumes nothing.
 use mathlib.Core.Path.{_≡_, refl}
-use mathlib.Core.Option.{none, some}
+use mathlib.Core.Logic.{inl, inr}
+use mathlib.Core.Bool.{true, false}
+use mathlib.Core.Option.{none}
 use mathlib.Core.List.{List, [], _∷_, _++_}
-use Prim.Native.Nat.{ℕ, _≤_, _<_}
+use Prim.Native.Nat.{ℕ, _<_}
 use native.Mathlib.Omega.{arith}
-use lib.ListN.{length, take, drop}
-use Rattle.prelude.proofs.Search.{some-not-none}
+use lib.ListN.{length, getD, take, drop, replicate, getD-replicate, List·getD-eq-default}
+use Rattle.prelude.specs.Lists.{In}
+use Rattle.prelude.proofs.Tests.{clash, lt-or-ge}
 use Rattle.network.specs.Limits as L
-use Rattle.network.specs.Build.{empty, withEvent, withSignal, withRule, withReaction, letter}
+use Rattle.network.specs.Build.{empty, withEvent, withSignal, withRule, isLabelled}
 use Rattle.network.specs.WellFormed.{Arrays}
 use Rattle.network.specs.declared.Network.{Network}
 use Rattle.network.specs.declared.Constraint.{Constraint}
 use Rattle.network.proofs.Strategy.{stated-empty}
-use Rattle.sheet.proofs.Arrays.{arrays-empty, arrays-event, arrays-signal, arrays-rule, arrays-reaction}
-use Rattle.layout.specs.Contents.{Signal, Rule, Reaction, Contents, signalLetters, listedReactions}
+use Rattle.sheet.proofs.Arrays.{arrays-empty, arrays-event, arrays-signal, arrays-rule}
+use Rattle.layout.specs.Contents.{Signal, Rule, Contents, signalLetters, caseEvents}
+use Rattle.layout.specs.Contents.{listedReactions, listedCases}
 use Rattle.layout.specs.Keeps.{KeepsRule}
 use Rattle.layout.specs.Contains.{Bears, Means, Contains}
 use Rattle.layout.proofs.Kept.{KeptNames, NewName, no-names, name-kept}
 use Rattle.layout.proofs.Kept.{KeptSignals, NewSignal, no-signals, signal-kept}
 use Rattle.layout.proofs.Kept.{KeptRules, no-rules, rule-kept}
-use Rattle.layout.proofs.Kept.{KeptReactions, NewReaction, no-reactions, reaction-kept}
-use Rattle.layout.proofs.Extends.{contents, contentsWith, Quiet, empty-contains, event-contains}
+use Rattle.layout.proofs.Kept.{KeptReactions, no-reactions, KeptCases, no-cases}
+use Rattle.layout.proofs.Extends.{contents, Quiet, empty-contains, event-contains}
 use Rattle.layout.proofs.Extends.{signal-contains, rule-contains}
-use Rattle.layout.proofs.Reacts.{none-listed, reaction-contains}
 
 pub record Stands (sheet : List ℕ) (Γ : Network) (c : Contents) : Type 0 where
   pub holds : Contains sheet Γ c
@@ -33,6 +36,17 @@ pub record Stands (sheet : List ℕ) (Γ : Network) (c : Contents) : Type 0 wher
   pub rules : KeptRules (c .names) (c .signals) (c .rules)
   pub reactions : KeptReactions (c .signals) (listedReactions c)
   pub quiet : c .reactions ≡ none → Quiet Γ
+  pub cases : KeptCases (c .names) (c .signals) (listedCases c)
+  -- the events that have a line in the section of cases are marked, and no others
+  pub listed : (u : ℕ) → isLabelled Γ u ≡ true → In (getD (c .names) u []) (caseEvents (listedCases c)) []
+  pub marks : (u : ℕ) → In (getD (c .names) u []) (caseEvents (listedCases c)) [] → isLabelled Γ u ≡ true
+
+unmarked : (h u : ℕ) → isLabelled (empty h) u ≡ false
+unmarked h u =
+    elim (lt-or-ge u L.events) [
+      | inl l ↦ getD-replicate L.events u false false l
+      | inr l ↦ List·getD-eq-default (replicate L.events false) false {n = u} l
+    ]
 
 pub empty-stands : (sheet : List ℕ) (h : ℕ) → Stands sheet (empty h) (contents h [] [] [])
 empty-stands sheet h = record {
@@ -43,6 +57,9 @@ empty-stands sheet h = record {
   rules = no-rules [] [];
   reactions = no-reactions [];
   quiet = λ e. stated-empty h;
+  cases = no-cases [] [];
+  listed = λ u e. clash (isLabelled (empty h) u) e (unmarked h u);
+  marks = λ u i. absurd (omega (arith, i .place-lt));
 }
 
 module _ {sheet : List ℕ} {Γ : Network} {h : ℕ} {ns : List (List ℕ)} where
@@ -56,6 +73,9 @@ module _ {sheet : List ℕ} {Γ : Network} {h : ℕ} {ns : List (List ℕ)} wher
     rules = no-rules (ns ++ n ∷ []) [];
     reactions = no-reactions [];
     quiet = c .quiet;
+    cases = no-cases (ns ++ n ∷ []) [];
+    listed = λ u e. absurd (omega (arith, c .listed u e .place-lt));
+    marks = λ u i. absurd (omega (arith, i .place-lt));
   }
 
   pub signal-added : {xs : List Signal} → Stands sheet Γ (contents h ns xs []) → (x : Signal) (u : ℕ)
@@ -69,6 +89,9 @@ module _ {sheet : List ℕ} {Γ : Network} {h : ℕ} {ns : List (List ℕ)} wher
     rules = no-rules ns (xs ++ x ∷ []);
     reactions = no-reactions (xs ++ x ∷ []);
     quiet = c .quiet;
+    cases = no-cases ns (xs ++ x ∷ []);
+    listed = c .listed;
+    marks = c .marks;
   }
 
   pub rule-added : {xs : List Signal} {rs : List Rule} → Stands sheet Γ (contents h ns xs rs)
@@ -82,31 +105,7 @@ module _ {sheet : List ℕ} {Γ : Network} {h : ℕ} {ns : List (List ℕ)} wher
     rules = rule-kept ns xs rs x (c .rules) m;
     reactions = no-reactions xs;
     quiet = c .quiet;
+    cases = c .cases;
+    listed = c .listed;
+    marks = c .marks;
   }
-
-  -- the section of reactions begins, and one reaction more
-  module _ {xs : List Signal} {rs : List Rule} where
-    pub reactions-begin : Stands sheet Γ (contents h ns xs rs) → Stands sheet Γ (contentsWith h ns xs rs (some []))
-    reactions-begin c = record {
-      holds = none-listed (c .holds);
-      arrays = c .arrays;
-      names = c .names;
-      signals = c .signals;
-      rules = c .rules;
-      reactions = c .reactions;
-      quiet = λ e. some-not-none [] e;
-    }
-
-    pub reaction-added : {ys : List Reaction} → Stands sheet Γ (contentsWith h ns xs rs (some ys)) → (y : Reaction)
-        (p : ℕ) → NewReaction xs ys y → p < length xs → length xs ≤ L.signals → letter Γ p ≡ y .letter
-        → Stands sheet (withReaction Γ p (y .minutes)) (contentsWith h ns xs rs (some (ys ++ y ∷ [])))
-    reaction-added {ys} c y p m signal few its = record {
-      holds = reaction-contains (c .holds) y p signal (omega (arith, c .arrays .reactions)) its
-          (c .signals .letters-once) (m .new);
-      arrays = arrays-reaction (c .arrays) p (y .minutes);
-      names = c .names;
-      signals = c .signals;
-      rules = c .rules;
-      reactions = reaction-kept xs ys y (c .reactions) m;
-      quiet = λ e. some-not-none (ys ++ y ∷ []) e;
-    }

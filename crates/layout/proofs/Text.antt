@@ -18,7 +18,7 @@ use Rattle.sheet.specs.Reading.{Progress, Go, andThen, readEnd}
 use Rattle.sheet.proofs.ReadLine.{stop-not-go}
 use Rattle.layout.specs.Contents.{Signal, Rule}
 use Rattle.layout.specs.Layout.{section, signalLine, ruleLine}
-use Rattle.layout.proofs.Entries.{joins}
+use Rattle.layout.proofs.Entries.{Reads, joins}
 
 abbrev pub horizonText : ℕ → List ℕ
 horizonText h = line (ascii "horizon") (decimal h ∷ [])
@@ -33,25 +33,28 @@ abbrev pub rulesText : List Rule → List ℕ
 rulesText rs = section "rules" (map ruleLine rs)
 
 module _ (sheet : List ℕ) where
-  -- five texts in a row, and nothing behind
-  pub in-a-row : (h e s r y : List ℕ) (a b c d i : ℕ) → drop 0 sheet ≡ h ++ drop a sheet
+  -- six texts in a row, and nothing behind
+  pub in-a-row : (h e s r y z : List ℕ) (a b c d i j : ℕ) → drop 0 sheet ≡ h ++ drop a sheet
       → drop a sheet ≡ e ++ drop b sheet → drop b sheet ≡ s ++ drop c sheet → drop c sheet ≡ r ++ drop d sheet
-      → drop d sheet ≡ y ++ drop i sheet → drop i sheet ≡ [] → sheet ≡ h ++ e ++ s ++ r ++ y
-  in-a-row h e s r y a b c d i p q t u v w =
+      → drop d sheet ≡ y ++ drop i sheet → drop i sheet ≡ z ++ drop j sheet → drop j sheet ≡ []
+      → sheet ≡ h ++ e ++ s ++ r ++ y ++ z
+  in-a-row h e s r y z a b c d i j p q t u v w l =
       let one = joins sheet h (drop a sheet) e (drop b sheet) p q in
       let two = joins sheet (h ++ e) (drop b sheet) s (drop c sheet) one t in
       let three = joins sheet (h ++ e ++ s) (drop c sheet) r (drop d sheet) two u in
       let four = joins sheet (h ++ e ++ s ++ r) (drop d sheet) y (drop i sheet) three v in
-      four ∙ ap (λ (x : List ℕ). h ++ e ++ s ++ r ++ y ++ x) w ∙ append-nil (h ++ e ++ s ++ r ++ y)
+      let five = joins sheet (h ++ e ++ s ++ r ++ y) (drop i sheet) z (drop j sheet) four w in
+      five ∙ ap (λ (x : List ℕ). h ++ e ++ s ++ r ++ y ++ z ++ x) l ∙ append-nil (h ++ e ++ s ++ r ++ y ++ z)
 
-  pub apart : (h e s r y : List ℕ) → sheet ≡ h ++ e ++ s ++ r ++ y
-      → drop 0 sheet ≡ h ++ (e ++ (s ++ (r ++ (y ++ []))))
-  apart h e s r y p =
+  pub apart : (h e s r y z : List ℕ) → sheet ≡ h ++ e ++ s ++ r ++ y ++ z
+      → drop 0 sheet ≡ h ++ (e ++ (s ++ (r ++ (y ++ (z ++ [])))))
+  apart h e s r y z p =
       p ∙ rw (
-        append-nil y,
-        append-assoc (h ++ e ++ s) r y,
-        append-assoc (h ++ e) s (r ++ y),
-        append-assoc h e (s ++ (r ++ y)),
+        append-nil z,
+        append-assoc (h ++ e ++ s ++ r) y z,
+        append-assoc (h ++ e ++ s) r (y ++ z),
+        append-assoc (h ++ e) s (r ++ (y ++ z)),
+        append-assoc h e (s ++ (r ++ (y ++ z))),
       )
 
   -- the reading ends where nothing is left
@@ -72,3 +75,16 @@ module _ (sheet : List ℕ) where
 pub on : (p : Progress) (next : Network → ℕ → ℕ → Progress) (Γ : Network) (at k : ℕ) (q : Progress) → p ≡ Go Γ at k
     → next Γ at k ≡ q → andThen p next ≡ q
 on p next Γ at k q e f = ap (λ (r : Progress). andThen r next) e ∙ f
+
+pub andThen-reads : (sheet : List ℕ) {X Y : Type 0} {Held : Network → X → Type 0} {Held′ : Network → Y → Type 0}
+    {x : X} {y : Y} {rest rest′ : List ℕ} (p : Progress) (next : Network → ℕ → ℕ → Progress)
+    (r : Reads sheet Held p x rest)
+    → Reads sheet Held′ (next (r .network) (r .at) (r .number)) y rest′ → Reads sheet Held′ (andThen p next) y rest′
+andThen-reads sheet p next r t = record {
+  network = t .network;
+  at = t .at;
+  number = t .number;
+  goes = on p next (r .network) (r .at) (r .number) (Go (t .network) (t .at) (t .number)) (r .goes) (t .goes);
+  held = t .held;
+  behind = t .behind;
+}

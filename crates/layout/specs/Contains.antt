@@ -1,16 +1,17 @@
 -- What it means that a network holds the contents of a sheet: its horizon, each event by its name, each signal by its
--- letter, event and reaction, each rule by its kind, ends, limit and label (01, The sheet; 02, point 3).
+-- letter, event and reaction, each rule by its kind, ends, limit and label, each event's label (01, The sheet; 02,
+-- points 3 and 6).
 use mathlib.Core.Path.{_≡_}
 use mathlib.Core.List.{List, []}
 use Prim.Native.Nat.{ℕ, _<_}
 use lib.ListN.{length, getD}
-use Rattle.network.specs.Build.{nameOf, letter, observation, reactionStated, constraint}
+use Rattle.network.specs.Build.{noLabel, nameOf, letter, observation, reactionStated, eventLabel, constraint}
 use Rattle.network.specs.declared.Constraint.{Constraint}
 use Rattle.network.specs.declared.Network.{Network}
 use Rattle.names.specs.Defined.{maskOf}
 use Rattle.prelude.specs.Lists.{In}
-use Rattle.layout.specs.Contents.{Signal, Rule, Contents, noSignal, noRule, noReaction, signalLetters}
-use Rattle.layout.specs.Contents.{reactionLetters, listedReactions}
+use Rattle.layout.specs.Contents.{Signal, Rule, Contents, noSignal, noRule, noReaction, noCase}
+use Rattle.layout.specs.Contents.{signalLetters, reactionLetters, caseEvents, listedReactions, listedCases}
 
 -- event u is the one of that name
 pub record Bears (names : List (List ℕ)) (u : ℕ) (f : List ℕ) : Type 0 where
@@ -43,3 +44,11 @@ pub record Contains (sheet : List ℕ) (Γ : Network) (c : Contents) : Type 0 wh
       → reactionStated Γ p ≡ getD (listedReactions c) i noReaction .minutes
   pub unsaid : (p : ℕ) → p < length (c .signals)
       → (In (letter Γ p) (reactionLetters (listedReactions c)) 0 → ⊥) → reactionStated Γ p ≡ 0
+  -- an event whose name has a line happens where that says, and every other everywhere; behind the last event names are
+  -- read as `[]`, which is no event's
+  pub labelled : (u i : ℕ) → i < length (listedCases c)
+      → getD (c .names) u [] ≡ getD (listedCases c) i noCase .event
+      → eventLabel Γ u
+      ≡ maskOf (length (c .signals)) (signalLetters (c .signals)) (getD (listedCases c) i noCase .label)
+  pub unlabelled : (u : ℕ) → (In (getD (c .names) u []) (caseEvents (listedCases c)) [] → ⊥)
+      → eventLabel Γ u ≡ noLabel

@@ -1,5 +1,5 @@
 -- The layout of a sheet: how its contents are written, and that a sheet is that text and nothing else. Nothing here
--- reads (01, The sheet; 02, point 3).
+-- reads (01, The sheet; 02, points 3 and 6).
 use mathlib.Core.Path.{_≡_}
 use mathlib.Core.Bool.{Bool, true, false}
 use mathlib.Core.Option.{Option, none, some}
@@ -16,7 +16,7 @@ use Rattle.network.specs.declared.Kind.{Kind}
 use Rattle.network.specs.declared.Kind.the-variants.{Max, Min, Fix}
 use Rattle.names.specs.Names.{Literal}
 use Rattle.sheet.specs.Reading.{longest}
-use Rattle.layout.specs.Contents.{Signal, Rule, Reaction, Contents}
+use Rattle.layout.specs.Contents.{Signal, Rule, Reaction, Case, Contents}
 use Rattle.layout.specs.Keeps.{Keeps}
 
 -- numbers, labels and kinds
@@ -69,6 +69,14 @@ abbrev pub reactionsText : Option (List Reaction) → List ℕ
 reactionsText none = []
 reactionsText (some ys) = section "reactions" (map reactionLine ys)
 
+abbrev pub caseLine : Case → List ℕ
+caseLine k = line (k .event) (labelText (k .label) ∷ [])
+
+-- the section of cases, or nothing where it is absent
+abbrev pub casesText : Option (List Case) → List ℕ
+casesText none = []
+casesText (some ks) = section "cases" (map caseLine ks)
+
 abbrev pub textOf : Contents → List ℕ
 textOf c =
     line (ascii "horizon") (decimal (c .horizon) ∷ [])
@@ -76,6 +84,7 @@ textOf c =
     ++ section "signals" (map signalLine (c .signals))
     ++ section "rules" (map ruleLine (c .rules))
     ++ reactionsText (c .reactions)
+    ++ casesText (c .cases)
 
 -- the sheet is the text of contents that keep the rules, and nothing else
 pub record Layout (sheet : List ℕ) : Type 0 where

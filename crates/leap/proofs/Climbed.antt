@@ -6,7 +6,7 @@ use Prim.Native.Nat.{ℕ, _*_, _-_, _≤_, _<_}
 use native.Mathlib.Omega.{arith}
 use Rattle.network.specs.declared.Network.{Network}
 use Rattle.rows.specs.declared.Frame.{Frame}
-use Rattle.rows.specs.Rows.{Times}
+use Rattle.rows.specs.Rows.{FrameTimes}
 use Rattle.rounds.specs.Compiled.{Compiled}
 use Rattle.moves.specs.Levels.{NextLevel}
 use Rattle.leap.specs.Levels.{Level}
@@ -22,7 +22,7 @@ module _ {frame : Frame} {counts lists d : List ℕ} {P : Network → ℕ → Ty
   pub climbed-start : Climbed frame counts lists d P 0
   climbed-start = record { in-range = omega arith; lower = λ Γ C. lower-start }
 
-  module _ {l r : ℕ} (here : Climbed frame counts lists d P l) (D : Times (frame .events) (frame .scenarios) d)
+  module _ {l r : ℕ} (here : Climbed frame counts lists d P l) (D : FrameTimes frame d)
       (few : frame .scenarios ≤ 16) (N : NextLevel d l (frame .scenarios * 16) r) (more : r ≡ 0 → ⊥) where
     pub climbed-less : 10080 - r < 10080 - l
     climbed-less = let up = level-up D few N more in omega (arith, up .0, up .1)

@@ -10,7 +10,7 @@ use Rattle.fixpoint.proofs.Leap.{leads-leap}
 use Rattle.network.specs.Build.{scenarios}
 use Rattle.network.specs.declared.Network.{Network}
 use Rattle.rows.specs.declared.Frame.{Frame}
-use Rattle.rows.specs.Rows.{Times}
+use Rattle.rows.specs.Rows.{FrameTimes}
 use Rattle.rows.proofs.Gapless.{length-gapless}
 use Rattle.rounds.specs.Propagate.{propagate}
 use Rattle.rounds.specs.Cap.{cap}
@@ -26,8 +26,8 @@ use Rattle.leap.proofs.Strategies.{held-moved, placed-within, some-cell
 use Rattle.leap.proofs.Tables.{horizon-few, placed-framed, moved-whole}
 
 module _ {frame : Frame} {counts lists : List ℕ} where
-  pub advanced-hop : {t d o : List ℕ} (p j : ℕ) → Usable frame counts lists → Times (frame .events) (frame .scenarios) t
-      → Times (frame .events) (frame .scenarios) d → length o ≡ 256 → Some d (frame .scenarios * 16)
+  pub advanced-hop : {t d o : List ℕ} (p j : ℕ) → Usable frame counts lists → FrameTimes frame t
+      → FrameTimes frame d → length o ≡ 256 → Some d (frame .scenarios * 16)
       → Placed t d 0 10080 j (frame .horizon) (frame .scenarios * 16) o
       → ((Γ : Network) → Compiled Γ frame counts lists → AtMost (iterate p (propagate Γ)) (held Γ t) (held Γ d) j)
       → ((Γ : Network) → Compiled Γ frame counts lists → AtLeast (iterate p (propagate Γ)) (held Γ t) (held Γ d) j)
@@ -41,7 +41,8 @@ module _ {frame : Frame} {counts lists : List ℕ} where
         let w = some-cell Γ (C .formed .events) (framed-times C D) some in
         let led = leads-leap (propagate Γ) (cap Γ) (step-rises Γ) (step-near Γ) (held Γ t) (length-held Γ t)
         (held Γ d) p j (M Γ C) (L Γ C)
-        (rw here at (placed-within Γ (C .formed .events) (placed-framed C P)))
+        (rw here at (placed-within Γ (C .formed .events) (framed-times C (placed-times T D P z (horizon-few U)))
+        (placed-framed C P)))
         (w .0) (omega (arith, w .1, length-gapless (Γ .events) (scenarios Γ) t)) (w .2) in
         rw (← here) at led;
   }

@@ -17,7 +17,7 @@ use Rattle.fixpoint.proofs.Leap.{passes-between}
 use Rattle.network.specs.Build.{scenarios}
 use Rattle.network.specs.declared.Network.{Network}
 use Rattle.rows.specs.declared.Frame.{Frame}
-use Rattle.rows.specs.Rows.{Times}
+use Rattle.rows.specs.Rows.{FrameTimes}
 use Rattle.rounds.specs.declared.Effect.the-variants.{Passes}
 use Rattle.rounds.specs.Propagate.{propagate}
 use Rattle.rounds.specs.Cap.{cap}
@@ -47,12 +47,12 @@ module _ {frame : Frame} {counts lists : List ℕ} where
 
   -- p rounds from there
   far-whole : (t x : List ℕ) (j p : ℕ) {Γ : Network} {o : List ℕ} → Compiled Γ frame counts lists
-      → Times (frame .events) (frame .scenarios) x
+      → FrameTimes frame x
       → Far frame counts lists p j t x 0 10080 o → held Γ o ≡ iterate p (propagate Γ) (to Γ t j x)
   far-whole t x j p {Γ} C X F = F .made Γ C ∙ ap (iterate p (propagate Γ)) (moved-whole C t x j X)
 
-  module _ (t d e low high : List ℕ) (j p q : ℕ) (D : Times (frame .events) (frame .scenarios) d)
-      (E : Times (frame .events) (frame .scenarios) e) where
+  module _ (t d e low high : List ℕ) (j p q : ℕ) (D : FrameTimes frame d)
+      (E : FrameTimes frame e) where
     pub passing-of :
         ((Γ : Network) → Compiled Γ frame counts lists → AtMost (iterate p (propagate Γ)) (held Γ t) (held Γ d) j)
         → ((Γ : Network) → Compiled Γ frame counts lists → AtLeast (iterate p (propagate Γ)) (held Γ t) (held Γ e) j)

@@ -14,6 +14,8 @@ use Rattle.fixpoint.specs.Run.{within}
 use Rattle.fixpoint.specs.Straight.{moved}
 use Rattle.fixpoint.proofs.Moved.{length-moved, moved-at}
 use Rattle.network.specs.Build.{scenarios, cells}
+use Rattle.network.specs.Happens.{happens}
+use Rattle.network.specs.declared.Label.{Label}
 use Rattle.network.specs.declared.Network.{Network}
 use Rattle.rows.specs.Rows.{Times}
 use Rattle.rows.proofs.Gapless.{length-gapless, gapless-at}
@@ -24,13 +26,19 @@ use Rattle.moves.specs.Moves.{partOf, Placed}
 use Rattle.moves.specs.Levels.{Some, NextLevel}
 
 -- what is few at each row and column is few at each cell
-cell-few : {n c : ℕ} {e : List ℕ} → Times n c e → c ≤ 16 → (i : ℕ) → i < c * 16 → getD e i 0 ≤ 10080
-cell-few {n} {c} {e} E h i l =
+cell-few :
+    {n c : ℕ} {ls : List Label} {e : List ℕ}
+    → Times n ls c e
+    → c ≤ 16
+    → (i : ℕ)
+    → i < c * 16
+    → getD e i 0 ≤ 10080
+cell-few {c = c} E h i l =
     let w = cell-of 16 c i (omega arith) in
     rw (w .place) (E .few (w .row) (w .column) (w .row-lt) (w .column-lt))
 
 -- the next level is higher, and is the rise of a cell
-pub level-up : {n c l r : ℕ} {d : List ℕ} → Times n c d → c ≤ 16 → NextLevel d l (c * 16) r
+pub level-up : {n c l r : ℕ} {ls : List Label} {d : List ℕ} → Times n ls c d → c ≤ 16 → NextLevel d l (c * 16) r
     → (r ≡ 0 → ⊥)
     → (l < r) × (r ≤ 10080)
 level-up D h N n =
@@ -61,7 +69,7 @@ module _ (Γ : Network) (few : Γ .events ≤ 16) where
       by-cell (Γ .events) (scenarios Γ) (λ i. getD (held Γ d) i 0 ≤ l)
       (λ s u hs hu. rw (held-at d s u hs hu) (h (s * 16 + u) (omega arith))) i b
 
-  pub held-few : (d : List ℕ) → Times (Γ .events) (scenarios Γ) d → (i : ℕ) → i < Γ .events * scenarios Γ
+  pub held-few : (d : List ℕ) → Times (Γ .events) (Γ .labels) (scenarios Γ) d → (i : ℕ) → i < Γ .events * scenarios Γ
       → getD (held Γ d) i 0 ≤ 10080
   held-few d D i b =
       by-cell (Γ .events) (scenarios Γ) (λ i. getD (held Γ d) i 0 ≤ 10080)
@@ -88,19 +96,22 @@ module _ (Γ : Network) (few : Γ .events ≤ 16) where
       ∙ rw (held-at t s u hs hu, held-at d s u hs hu)))
 
   -- and is within the limits
-  pub placed-within : {t d o : List ℕ} {lo hi j : ℕ} → Placed t d lo hi j (Γ .horizon) (scenarios Γ * 16) o
-      → within (cap Γ) (held Γ o) ≡ true
-  placed-within {o = o} P = within-cap Γ (held Γ o) (λ s u hs hu.
+  pub placed-within : {t d o : List ℕ} {lo hi j : ℕ} → Times (Γ .events) (Γ .labels) (scenarios Γ) o
+      → Placed t d lo hi j (Γ .horizon) (scenarios Γ * 16) o → within (cap Γ) (held Γ o) ≡ true
+  unfolding happens
+  placed-within {o = o} T P = within-cap Γ (held Γ o) (λ s u hs hu.
       let inside : s * 16 + u < scenarios Γ * 16 = omega arith in
-      let here = held-at o s u hs hu in (
-        rw here (P .low (s * 16 + u) inside),
-        λ z.
+      let here = held-at o s u hs hu in
+      record {
+        in-horizon = rw here (P .low (s * 16 + u) inside);
+        origin = λ z.
             let row : (s * 16 + u) % 16 ≡ 0 = rw (z, add-zero) (mul-mod-left s 16) in
-            here ∙ P .origin (s * 16 + u) inside row,
-      ))
+            here ∙ P .origin (s * 16 + u) inside row;
+        absent = λ e. here ∙ T .absent s u hs (omega arith) e;
+      })
 
   -- where some rise of the table is not 0, some rise of the strategy is not
-  pub some-cell : {d : List ℕ} → Times (Γ .events) (scenarios Γ) d → Some d (scenarios Γ * 16)
+  pub some-cell : {d : List ℕ} → Times (Γ .events) (Γ .labels) (scenarios Γ) d → Some d (scenarios Γ * 16)
       → (c : ℕ) × (c < Γ .events * scenarios Γ) × (0 < getD (held Γ d) c 0)
   some-cell {d} D S =
       let w = cell-of 16 (scenarios Γ) (S .cell) (omega (arith, S .inside)) in

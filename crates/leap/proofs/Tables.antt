@@ -11,7 +11,7 @@ use Rattle.fixpoint.proofs.Leads.{leads-none, leads-join}
 use Rattle.network.specs.Build.{scenarios}
 use Rattle.network.specs.declared.Network.{Network}
 use Rattle.rows.specs.declared.Frame.{Frame}
-use Rattle.rows.specs.Rows.{Times, Wrote}
+use Rattle.rows.specs.Rows.{FrameTimes, Wrote}
 use Rattle.rows.proofs.Gapless.{length-gapless}
 use Rattle.rounds.specs.declared.Effect.the-variants.{Rises}
 use Rattle.rounds.specs.Propagate.{propagate}
@@ -37,7 +37,7 @@ module _ {frame : Frame} {counts lists : List ℕ} where
 
   -- all of a rise is between none and the longest horizon
   pub moved-whole : {Γ : Network} → Compiled Γ frame counts lists → (t d : List ℕ) (j : ℕ)
-      → Times (frame .events) (frame .scenarios) d
+      → FrameTimes frame d
       → moved (held Γ t) j (λ i. partOf 0 10080 (getD (held Γ d) i 0)) ≡ moved (held Γ t) j (λ i. getD (held Γ d) i 0)
   moved-whole {Γ} C t d j D =
       moved-ext (held Γ t) j (λ i. partOf 0 10080 (getD (held Γ d) i 0)) (λ i. getD (held Γ d) i 0) (λ i b.
@@ -47,7 +47,7 @@ module _ {frame : Frame} {counts lists : List ℕ} where
             (omega (arith, length-gapless (Γ .events) (scenarios Γ) t)),
       ))
 
-  pub advanced-none : {t : List ℕ} → Times (frame .events) (frame .scenarios) t → Advanced frame counts lists 0 t t
+  pub advanced-none : {t : List ℕ} → FrameTimes frame t → Advanced frame counts lists 0 t t
   advanced-none {t} T = record { times = T; led = λ Γ C. leads-none (propagate Γ) (cap Γ) (held Γ t) }
 
   pub advanced-join : {p q : ℕ} {t u v : List ℕ} → Advanced frame counts lists p t u → Advanced frame counts lists q u v
@@ -79,7 +79,7 @@ module _ {frame : Frame} {counts lists : List ℕ} where
     led = λ Γ C. rw (held-copied C u v W) (A .led Γ C);
   }
 
-  pub advanced-here : {u v v₀ : List ℕ} → Times (frame .events) (frame .scenarios) u
+  pub advanced-here : {u v v₀ : List ℕ} → FrameTimes frame u
       → Wrote v₀ v 0 (frame .scenarios * 16) (λ i. getD u i 0) → Advanced frame counts lists 0 v u
   advanced-here {u} {v} T W = record {
     times = T;
@@ -87,11 +87,13 @@ module _ {frame : Frame} {counts lists : List ℕ} where
   }
 
   -- p rounds from a placed table
-  pub far-of : {t d o u : List ℕ} {lo hi p j : ℕ} → Placed t d lo hi j (frame .horizon) (frame .scenarios * 16) o
+  pub far-of : {t d o u : List ℕ} {lo hi p j : ℕ} → FrameTimes frame o
+      → Placed t d lo hi j (frame .horizon) (frame .scenarios * 16) o
       → Advanced frame counts lists p o u → Far frame counts lists p j t d lo hi u
-  far-of {t} {d} {o} {u} {lo} {hi} {p} {j} P A = record {
+  far-of {t} {d} {o} {u} {lo} {hi} {p} {j} O P A = record {
     times = A .times;
     made = λ Γ C. A .led Γ C .made ∙ ap (iterate p (propagate Γ))
         (held-moved Γ (C .formed .events) (placed-framed C P));
-    inside = λ Γ C. A .led Γ C .inside (placed-within Γ (C .formed .events) (placed-framed C P));
+    inside = λ Γ C. A .led Γ C .inside
+        (placed-within Γ (C .formed .events) (framed-times C O) (placed-framed C P));
   }

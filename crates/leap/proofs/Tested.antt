@@ -11,7 +11,7 @@ use Rattle.fixpoint.proofs.Moved.{moved-ext, moved-still}
 use Rattle.network.specs.Build.{scenarios}
 use Rattle.network.specs.declared.Network.{Network}
 use Rattle.rows.specs.declared.Frame.{Frame}
-use Rattle.rows.specs.Rows.{Times}
+use Rattle.rows.specs.Rows.{FrameTimes}
 use Rattle.rows.proofs.Gapless.{length-gapless}
 use Rattle.rounds.specs.Propagate.{propagate}
 use Rattle.rounds.specs.Compiled.{Compiled}
@@ -47,7 +47,7 @@ module _ {frame : Frame} {counts lists : List ℕ} {Γ : Network} (C : Compiled 
         (moved-ext (held Γ t) j (λ i. partOf lo hi (getD (held Γ d) i 0)) (λ i. f (getD (held Γ d) i 0))
         (λ i b. h i (omega (arith, length-gapless (Γ .events) (scenarios Γ) t))))
 
-    module _ (D : Times (frame .events) (frame .scenarios) d) where
+    module _ (D : FrameTimes frame d) where
       -- at a level between
       pub faster-level : {l : ℕ} → AtLevel frame counts lists p j t d l l 10080 0 l → Level Γ d l (Faster Γ p j t d)
       faster-level {l} A =

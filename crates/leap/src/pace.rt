@@ -3,7 +3,7 @@ ghost use mathlib.Core.Path.{_≡_};
 ghost use Prim.Native.Nat.{_+_, _*_, _≤_, _<_};
 ghost use lib.ListN.{length};
 ghost use Rattle.network.specs.Limits as L;
-ghost use Rattle.rows.specs.Rows.{Times};
+ghost use Rattle.rows.specs.Rows.{FrameTimes};
 ghost use Rattle.rounds.specs.Compiled.{Usable};
 ghost use Rattle.leap.specs.Passing.{Closing, Passing};
 use crate::test;
@@ -21,8 +21,8 @@ fn closing(
     counts: &[usize; Network::CASES],
     lists: &[u16; bounds::LIST],
 ) -> u32
-    requires { ⌜ Usable frame (now counts) (now lists) × Times (frame .events) (frame .scenarios) (now low)
-        × Times (frame .events) (frame .scenarios) (now high) ⌝ }
+    requires { ⌜ Usable frame (now counts) (now lists) × FrameTimes frame (now low)
+        × FrameTimes frame (now high) ⌝ }
     ensures { λ r. ⌜ (r ≤ most) × (length (now (low .exit)) ≡ L.cells) × (length (now (high .exit)) ≡ L.cells)
         × (0 < r → Closing frame (now (counts .entry)) (now (lists .entry)) (now (low .entry))
         (now (high .entry)) r) ⌝ }
@@ -69,8 +69,8 @@ fn passes_after(
     counts: &[usize; Network::CASES],
     lists: &[u16; bounds::LIST],
 ) -> u32
-    requires { ⌜ Usable frame (now counts) (now lists) × Times (frame .events) (frame .scenarios) (now a)
-        × Times (frame .events) (frame .scenarios) (now e) × Times (frame .events) (frame .scenarios) (now d)
+    requires { ⌜ Usable frame (now counts) (now lists) × FrameTimes frame (now a)
+        × FrameTimes frame (now e) × FrameTimes frame (now d)
         × (j ≤ L.horizon)
         × (p ≤ 65535) ⌝ }
     ensures { λ r. ⌜ (r ≤ left) ×
@@ -138,7 +138,7 @@ pub fn finish(
     counts: &[usize; Network::CASES],
     lists: &[u16; bounds::LIST],
 ) -> u32
-    requires { ⌜ Usable frame (now counts) (now lists) × Times (frame .events) (frame .scenarios) (now a) ⌝ }
+    requires { ⌜ Usable frame (now counts) (now lists) × FrameTimes frame (now a) ⌝ }
     ensures { λ r. ⌜ (r ≤ left) ×
         (0 < r → Passing frame (now (counts .entry)) (now (lists .entry)) r (now (a .entry))) ⌝ }
 {

@@ -2,7 +2,7 @@
 ghost use mathlib.Core.Path.{_≡_};
 ghost use Prim.Native.Nat.{_+_, _*_, _≤_, _<_};
 ghost use Rattle.network.specs.Limits as L;
-ghost use Rattle.rows.specs.Rows.{Times};
+ghost use Rattle.rows.specs.Rows.{FrameTimes};
 ghost use Rattle.rounds.specs.Compiled.{Usable};
 ghost use Rattle.moves.specs.Levels.{Some};
 ghost use Rattle.leap.specs.Tables.{Advanced};
@@ -30,8 +30,8 @@ fn hop(
     counts: &[usize; Network::CASES],
     lists: &[u16; bounds::LIST],
 ) -> u32
-    requires { ⌜ Usable frame (now counts) (now lists) × Times (frame .events) (frame .scenarios) (now a)
-        × Times (frame .events) (frame .scenarios) (now d) × (j ≤ L.horizon) × (p ≤ 65535)
+    requires { ⌜ Usable frame (now counts) (now lists) × FrameTimes frame (now a)
+        × FrameTimes frame (now d) × (j ≤ L.horizon) × (p ≤ 65535)
         × Some (now d) (frame .scenarios * L.events)
         × Advanced frame (now counts) (now lists) p (now a) (now x) ⌝ }
     ensures { λ r. ⌜ (r ≤ left) × Advanced frame (now (counts .entry)) (now (lists .entry)) r (now (a .entry))
@@ -83,7 +83,7 @@ pub fn pass_over(
     counts: &[usize; Network::CASES],
     lists: &[u16; bounds::LIST],
 ) -> u32
-    requires { ⌜ Usable frame (now counts) (now lists) × Times (frame .events) (frame .scenarios) (now a)
+    requires { ⌜ Usable frame (now counts) (now lists) × FrameTimes frame (now a)
         × Advanced frame (now counts) (now lists) p (now a) (now x) ⌝ }
     ensures { λ r. ⌜ (r ≤ left) × Advanced frame (now (counts .entry)) (now (lists .entry)) r (now (a .entry))
         (now (a .exit))

@@ -9,7 +9,7 @@ ghost use Rattle.fixpoint.specs.Near.{iterate};
 ghost use Rattle.fixpoint.specs.Straight.{AtMost, AtLeast};
 ghost use Rattle.network.specs.Limits as L;
 ghost use Rattle.network.specs.declared.Network.{Network};
-ghost use Rattle.rows.specs.Rows.{Times};
+ghost use Rattle.rows.specs.Rows.{FrameTimes};
 ghost use Rattle.rounds.specs.Propagate.{propagate};
 ghost use Rattle.rounds.specs.Compiled.{Compiled, Usable};
 ghost use Rattle.rounds.specs.Rounds.{held};
@@ -27,7 +27,7 @@ pub fn advance(
     counts: &[usize; Network::CASES],
     lists: &[u16; bounds::LIST],
 ) -> bool
-    requires { ⌜ Usable frame (now counts) (now lists) × Times (frame .events) (frame .scenarios) (now a) ⌝ }
+    requires { ⌜ Usable frame (now counts) (now lists) × FrameTimes frame (now a) ⌝ }
     ensures { λ r. ⌜ (length (now (a .exit)) ≡ L.cells)
         × (r ≡ true → Advanced frame (now (counts .entry)) (now (lists .entry)) p (now (a .entry)) (now (a .exit))) ⌝ }
 {
@@ -60,8 +60,8 @@ pub fn far(
     lists: &[u16; bounds::LIST],
     o: &mut [u16; Network::CELLS],
 ) -> bool
-    requires { ⌜ Usable frame (now counts) (now lists) × Times (frame .events) (frame .scenarios) (now t)
-        × Times (frame .events) (frame .scenarios) (now d) × (hi ≤ L.horizon) × (j ≤ L.horizon)
+    requires { ⌜ Usable frame (now counts) (now lists) × FrameTimes frame (now t)
+        × FrameTimes frame (now d) × (hi ≤ L.horizon) × (j ≤ L.horizon)
         × (length (now o) ≡ L.cells) ⌝ }
     ensures { λ r. ⌜ (length (now (o .exit)) ≡ L.cells) ×
         (r ≡ true → Far frame (now (counts .entry)) (now (lists .entry)) p j
@@ -89,8 +89,8 @@ fn at_level(
     counts: &[usize; Network::CASES],
     lists: &[u16; bounds::LIST],
 ) -> bool
-    requires { ⌜ Usable frame (now counts) (now lists) × Times (frame .events) (frame .scenarios) (now t)
-        × Times (frame .events) (frame .scenarios) (now d) × (hi ≤ L.horizon) × (j ≤ L.horizon)
+    requires { ⌜ Usable frame (now counts) (now lists) × FrameTimes frame (now t)
+        × FrameTimes frame (now d) × (hi ≤ L.horizon) × (j ≤ L.horizon)
         × (low ≤ 200000000) × (high ≤ 200000000) ⌝ }
     ensures { λ r. ⌜ (r ≡ true → AtLevel frame (now (counts .entry)) (now (lists .entry)) p j (now (t .entry))
         (now (d .entry)) l
@@ -116,8 +116,8 @@ fn faster_hold(
     counts: &[usize; Network::CASES],
     lists: &[u16; bounds::LIST],
 ) -> bool
-    requires { ⌜ Usable frame (now counts) (now lists) × Times (frame .events) (frame .scenarios) (now t)
-        × Times (frame .events) (frame .scenarios) (now d) × (j ≤ L.horizon) × (l ≤ L.horizon)
+    requires { ⌜ Usable frame (now counts) (now lists) × FrameTimes frame (now t)
+        × FrameTimes frame (now d) × (j ≤ L.horizon) × (l ≤ L.horizon)
         × Far frame (now counts) (now lists) p j (now t) (now d) 0 L.horizon (now o) ⌝ }
     ensures { λ r. ⌜ (r ≡ true → (Γ : Network) → Compiled Γ frame (now (counts .entry)) (now (lists .entry))
         → Level Γ (now (d .entry)) l (Faster Γ p j (now (t .entry)) (now (d .entry)))) ⌝ }
@@ -154,8 +154,8 @@ pub fn at_most(
     counts: &[usize; Network::CASES],
     lists: &[u16; bounds::LIST],
 ) -> bool
-    requires { ⌜ Usable frame (now counts) (now lists) × Times (frame .events) (frame .scenarios) (now t)
-        × Times (frame .events) (frame .scenarios) (now d) × (j ≤ L.horizon)
+    requires { ⌜ Usable frame (now counts) (now lists) × FrameTimes frame (now t)
+        × FrameTimes frame (now d) × (j ≤ L.horizon)
         × Advanced frame (now counts) (now lists) p (now t) (now x)
         × Far frame (now counts) (now lists) p j (now t) (now d) 0 L.horizon (now o) ⌝ }
     ensures { λ r. ⌜ (r ≡ true → (Γ : Network) → Compiled Γ frame (now (counts .entry)) (now (lists .entry))
@@ -187,8 +187,8 @@ fn slower_hold(
     counts: &[usize; Network::CASES],
     lists: &[u16; bounds::LIST],
 ) -> bool
-    requires { ⌜ Usable frame (now counts) (now lists) × Times (frame .events) (frame .scenarios) (now t)
-        × Times (frame .events) (frame .scenarios) (now d) × (j ≤ L.horizon) × (l ≤ L.horizon) ⌝ }
+    requires { ⌜ Usable frame (now counts) (now lists) × FrameTimes frame (now t)
+        × FrameTimes frame (now d) × (j ≤ L.horizon) × (l ≤ L.horizon) ⌝ }
     ensures { λ r. ⌜ (r ≡ true → (Γ : Network) → Compiled Γ frame (now (counts .entry)) (now (lists .entry))
         → Level Γ (now (d .entry)) l (Slower Γ p j (now (t .entry)) (now (d .entry)))) ⌝ }
 {
@@ -211,8 +211,8 @@ pub fn at_least(
     counts: &[usize; Network::CASES],
     lists: &[u16; bounds::LIST],
 ) -> bool
-    requires { ⌜ Usable frame (now counts) (now lists) × Times (frame .events) (frame .scenarios) (now t)
-        × Times (frame .events) (frame .scenarios) (now d) × (j ≤ L.horizon)
+    requires { ⌜ Usable frame (now counts) (now lists) × FrameTimes frame (now t)
+        × FrameTimes frame (now d) × (j ≤ L.horizon)
         × Far frame (now counts) (now lists) p j (now t) (now d) 0 L.horizon (now o) ⌝ }
     ensures { λ r. ⌜ (r ≡ true → (Γ : Network) → Compiled Γ frame (now (counts .entry)) (now (lists .entry))
         → AtLeast (iterate p (propagate Γ)) (held Γ (now (t .entry))) (held Γ (now (d .entry))) j) ⌝ }

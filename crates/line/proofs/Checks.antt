@@ -32,6 +32,17 @@ module _ {A : Type 0} where
   fails-behind ((true, a) ∷ ts) us e = fails-behind ts us e
   fails-behind ((false, a) ∷ ts) us e = some-not-none a e
 
+  -- where all hold, so do those before and those behind
+  pub holds-before : (ts us : List (Bool × A)) → firstFailing (ts ++ us) ≡ none → firstFailing ts ≡ none
+  holds-before [] us e = refl
+  holds-before ((true, a) ∷ ts) us e = holds-before ts us e
+  holds-before ((false, a) ∷ ts) us e = e
+
+  pub holds-behind : (ts us : List (Bool × A)) → firstFailing (ts ++ us) ≡ none → firstFailing us ≡ none
+  holds-behind [] us e = e
+  holds-behind ((true, a) ∷ ts) us e = holds-behind ts us e
+  holds-behind ((false, a) ∷ ts) us e = some-not-none a e
+
   -- three tests by their values
   pub three-same : (a b c d e f : Bool) (x y z : A) → a ≡ d → b ≡ e → c ≡ f
       → firstFailing ((a, x) ∷ (b, y) ∷ (c, z) ∷ []) ≡ firstFailing ((d, x) ∷ (e, y) ∷ (f, z) ∷ [])

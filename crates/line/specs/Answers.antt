@@ -17,8 +17,9 @@ use Rattle.network.specs.declared.Network.{Network}
 use Rattle.names.specs.Defined.{givesSignal}
 use Rattle.names.specs.declared.Found.{Found}
 use Rattle.names.specs.declared.Found.the-variants.{At, Nothing}
-use Rattle.line.specs.Tests.{Tests, lineTests, sectionTests, secondNumber, endsTests, letterTests, signalOf}
-use Rattle.line.specs.Sections.{Heading, testsOf, constraintOf, entryOf}
+use Rattle.line.specs.Tests.{Tests, lineTests, sectionTests, secondNumber, endsTests, placedTests}
+use Rattle.line.specs.Tests.{letterTests, signalOf}
+use Rattle.line.specs.Sections.{Heading, ownTests, constraintOf, labelAs, entryOf}
 use Rattle.line.specs.declared.Check.{Check}
 use Rattle.line.specs.declared.Check.the-variants as K
 use Rattle.line.specs.declared.KindField.{KindField}
@@ -43,6 +44,11 @@ abbrev pub statedFound : List ℕ → Found → Bool
 statedFound reactions Nothing = false
 statedFound reactions (At p) = ltb 0 (getD reactions p 0)
 
+-- whether an event that was looked for has a line already
+abbrev pub labelledFound : List Bool → Found → Bool
+labelledFound labelled Nothing = false
+labelledFound labelled (At u) = getD labelled u false
+
 -- the tests passed, or one of them did not
 abbrev pub checkOf : Option Cause → Check
 checkOf none = K.Passed
@@ -58,8 +64,8 @@ unfoldable pub limitOf : List ℕ → Limit
 limitOf f = cond (isNumber f) (cond (leb (magnitude f) L.horizon) (M.Minutes (valueOf f)) M.Beyond) M.IllFormed
 
 -- what a network is as far as the lines of the sheet are read against it
-abbrev pub partsOf : ℕ → List ℕ → List ℕ → ℕ → List ℕ → List ℕ → List ℕ → Network
-partsOf n starts lengths k letters observations reactions = record {
+abbrev pub partsOf : ℕ → List ℕ → List ℕ → ℕ → List ℕ → List ℕ → List ℕ → List Bool → Network
+partsOf n starts lengths k letters observations reactions labelled = record {
   horizon = 0;
   events = n;
   starts = starts;
@@ -70,6 +76,8 @@ partsOf n starts lengths k letters observations reactions = record {
   reactions = reactions;
   rules = 0;
   constraints = [];
+  labels = [];
+  labelled = labelled;
 }
 
 -- what the reader of a line answers: its refusal, or what it holds and how long it is
@@ -92,6 +100,11 @@ abbrev pub letterAnswer : Network → List ℕ → ℕ → ℕ → EntryLine
 letterAnswer Γ f minutes n =
     entryAnswer (firstFailing (letterTests Γ f)) (E.Reaction (Option·getD (signalOf Γ f) 0) minutes) n
 
+-- an event and its label
+abbrev pub placedAnswer : List ℕ → Network → List ℕ → List ℕ → ℕ → EntryLine
+placedAnswer sheet Γ name label n =
+    entryAnswer (firstFailing (placedTests sheet Γ name label)) (labelAs sheet Γ name label) n
+
 -- of a line without its line feed, by the tests that are made of it, given those of its fields
 module _ (line : List ℕ) (made : (List (List ℕ) → Tests) → Tests) where
   abbrev pub sectionUnder : List ℕ → ℕ → ℕ → HeadingLine
@@ -99,7 +112,7 @@ module _ (line : List ℕ) (made : (List (List ℕ) → Tests) → Tests) where
       sectionAnswer (firstFailing (made (sectionTests word lo hi))) (secondNumber (fields line)) (length line)
 
   abbrev pub entryUnder : Section → List ℕ → Network → EntryLine
-  entryUnder s sheet Γ = entryAnswer (firstFailing (made (testsOf sheet s Γ))) (entryOf sheet s Γ (fields line))
+  entryUnder s sheet Γ = entryAnswer (firstFailing (made (ownTests sheet s Γ))) (entryOf sheet s Γ (fields line))
       (length line)
 
 -- of a line by its fields alone

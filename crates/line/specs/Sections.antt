@@ -1,8 +1,8 @@
 -- The sections behind the horizon, by the code's `Section`: the line that each begins with, the tests of its lines,
--- and what a line of it adds to the network (01, The sheet; 02, point 3).
+-- and what a line of it adds to the network (01, The sheet; 02, points 3 and 6).
 use mathlib.Core.Option.{Option·getD}
-use mathlib.Core.List.{List}
-use Prim.Native.Nat.{ℕ}
+use mathlib.Core.List.{List, _++_}
+use Prim.Native.Nat.{ℕ, zero, suc}
 use Prim.Native.String.{String}
 use lib.IntN.{ℤ}
 use lib.ListN.{length, getD}
@@ -10,7 +10,7 @@ use Rattle.prelude.specs.Bytes.{ascii}
 use Rattle.text.specs.Lines.{field}
 use Rattle.text.specs.Number.{valueOf}
 use Rattle.network.specs.Limits as L
-use Rattle.network.specs.Build.{withEvent, withSignal, withRule, withReaction}
+use Rattle.network.specs.Build.{withEvent, withSignal, withRule, withReaction, withLabel}
 use Rattle.network.specs.declared.Kind.{Kind}
 use Rattle.network.specs.declared.Kind.the-variants.{Max}
 use Rattle.network.specs.declared.Constraint.{Constraint}
@@ -18,23 +18,26 @@ use Rattle.network.specs.declared.Network.{Network}
 use Rattle.names.specs.Names.{labelOf}
 use Rattle.names.specs.Defined.{maskOf}
 use Rattle.line.specs.Tests.{Tests, sectionTests, eventTests, signalTests, ruleTests, reactionTests}
-use Rattle.line.specs.Tests.{secondNumber, eventOf, kindOf, signalOf}
+use Rattle.line.specs.Tests.{labelTests, secondNumber, eventOf, kindOf, signalOf}
+use Rattle.line.specs.Labelling.{wholeTests}
 use Rattle.line.specs.declared.Section.{Section}
-use Rattle.line.specs.declared.Section.the-variants.{Events, Signals, Rules, Reactions}
+use Rattle.line.specs.declared.Section.the-variants.{Events, Signals, Rules, Reactions, Cases}
 use Rattle.line.specs.declared.entry.Entry.{Entry}
 use Rattle.line.specs.declared.entry.Entry.the-variants as E
 
--- the line that a section begins with: its word, and the range of its count (of the reactions "r from 0 to 4")
+-- the line that a section begins with: its word, and the range of its count (of the reactions "r from 0 to 4", of the
+-- cases "c from 0 to n", the number of the sheet's events)
 pub record Heading : Type 0 where
   pub word : String
   pub least : ℕ
   pub most : ℕ
 
-abbrev pub headingOf : Section → Heading
-headingOf Events = record { word = "events"; least = 1; most = L.events }
-headingOf Signals = record { word = "signals"; least = 0; most = L.signals }
-headingOf Rules = record { word = "rules"; least = 0; most = L.rules }
-headingOf Reactions = record { word = "reactions"; least = 0; most = L.signals }
+abbrev pub headingOf : ℕ → Section → Heading
+headingOf n Events = record { word = "events"; least = 1; most = L.events }
+headingOf n Signals = record { word = "signals"; least = 0; most = L.signals }
+headingOf n Rules = record { word = "rules"; least = 0; most = L.rules }
+headingOf n Reactions = record { word = "reactions"; least = 0; most = L.signals }
+headingOf n Cases = record { word = "cases"; least = 0; most = n }
 
 -- the first line of the sheet is written like one
 abbrev pub horizonHeading : Heading
@@ -49,6 +52,7 @@ added E.Event Γ at n = withEvent Γ at n
 added (E.Signal b u) Γ at n = withSignal Γ b u
 added (E.Rule c) Γ at n = withRule Γ c
 added (E.Reaction p m) Γ at n = withReaction Γ p m
+added (E.Label u ℓ) Γ at n = withLabel Γ u ℓ
 
 module _ (sheet : List ℕ) where
   -- a rule by its parts, and by its fields
@@ -66,12 +70,18 @@ module _ (sheet : List ℕ) where
       constraintOf Γ (Option·getD (kindOf (field 0 fs)) Max) (field 1 fs) (field 2 fs) (valueOf (field 3 fs))
       (field 4 fs)
 
-  -- the tests of a section's lines
-  abbrev pub testsOf : Section → Network → List (List ℕ) → Tests
-  testsOf Events = eventTests sheet
-  testsOf Signals = signalTests sheet
-  testsOf Rules = ruleTests sheet
-  testsOf Reactions = reactionTests
+  -- an event by its name, with its label
+  abbrev pub labelAs : Network → List ℕ → List ℕ → Entry
+  labelAs Γ name label =
+      E.Label (Option·getD (eventOf sheet Γ name) 0) (maskOf (Γ .signals) (Γ .letters) (labelOf label))
+
+  -- the tests of a section's line by itself
+  abbrev pub ownTests : Section → Network → List (List ℕ) → Tests
+  ownTests Events = eventTests sheet
+  ownTests Signals = signalTests sheet
+  ownTests Rules = ruleTests sheet
+  ownTests Reactions = reactionTests
+  ownTests Cases = labelTests sheet
 
   -- what a line with these fields holds
   abbrev pub entryOf : Section → Network → List (List ℕ) → Entry
@@ -79,7 +89,22 @@ module _ (sheet : List ℕ) where
   entryOf Signals Γ fs = E.Signal (getD (field 0 fs) 0 0) (Option·getD (eventOf sheet Γ (field 1 fs)) 0)
   entryOf Rules Γ fs = E.Rule (ruleOf Γ fs)
   entryOf Reactions Γ fs = E.Reaction (Option·getD (signalOf Γ (field 0 fs)) 0) (secondNumber fs)
+  entryOf Cases Γ fs = labelAs Γ (field 0 fs) (field 1 fs)
 
   -- the network with a line of these fields, which begins at the given place
   abbrev pub withLine : Section → Network → ℕ → List (List ℕ) → Network
   withLine s Γ at fs = added (entryOf s Γ fs) Γ at (length (field 0 fs))
+
+  -- a line of the section `cases`, with so many more behind it: 20 and 21 are "judged on and given with the section's
+  -- last line", and come "after 9"; where that line begins says nothing of its label
+  abbrev pub caseTests : ℕ → Network → List (List ℕ) → Tests
+  caseTests zero Γ fs = labelTests sheet Γ fs ++ wholeTests (withLine Cases Γ 0 fs)
+  caseTests (suc m) Γ fs = labelTests sheet Γ fs
+
+  -- the tests of a section's line, with so many more of the section behind it
+  abbrev pub testsOf : Section → ℕ → Network → List (List ℕ) → Tests
+  testsOf Events m = ownTests Events
+  testsOf Signals m = ownTests Signals
+  testsOf Rules m = ownTests Rules
+  testsOf Reactions m = ownTests Reactions
+  testsOf Cases m = caseTests m

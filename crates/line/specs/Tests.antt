@@ -13,7 +13,7 @@ use Rattle.text.specs.Number.{isNumber, inRange, magnitude}
 use Rattle.refusal.specs.declared.Cause.{Cause}
 use Rattle.refusal.specs.declared.Cause.the-variants as C
 use Rattle.network.specs.Limits as L
-use Rattle.network.specs.Build.{reactionStated}
+use Rattle.network.specs.Build.{reactionStated, isLabelled}
 use Rattle.network.specs.declared.Kind.{Kind}
 use Rattle.network.specs.declared.Kind.the-variants.{Max, Min, Fix}
 use Rattle.network.specs.declared.Network.{Network}
@@ -61,6 +61,11 @@ abbrev pub hasLine : Network → Option ℕ → Bool
 hasLine Γ none = false
 hasLine Γ (some p) = ltb 0 (reactionStated Γ p)
 
+-- a line has already said where the event happens, also one with the label `-`, where it is defined
+abbrev pub hasLabel : Network → Option ℕ → Bool
+hasLabel Γ none = false
+hasLabel Γ (some u) = isLabelled Γ u
+
 -- the signal whose letter the field is, if it is defined
 abbrev pub signalOf : Network → List ℕ → Option ℕ
 signalOf Γ f = placeOf (Γ .signals) (Γ .letters) (getD f 0 0)
@@ -89,6 +94,22 @@ module _ (sheet : List ℕ) (Γ : Network) where
       )
       ∷ (answers (eventOf (field 1 fs)), C.Undefined)
       ∷ []
+
+  -- an event and its label
+  unfoldable pub placedTests : List ℕ → List ℕ → Tests
+  placedTests name label =
+      (isName name && isLabel label, C.IllFormedName)
+      ∷ (not (hasLabel Γ (eventOf name)), C.Duplicate)
+      ∷ (
+        answers (eventOf name) && allDefined (Γ .signals) (Γ .letters) (lettersOf (labelOf label)),
+        C.Undefined,
+      )
+      ∷ (distinct (lettersOf (labelOf label)), C.RepeatedLetter)
+      ∷ []
+
+  -- `event,label`; "an event's second line is refused with 7" (02, point 6)
+  unfoldable pub labelTests : List (List ℕ) → Tests
+  labelTests fs = (eqb (length fs) 2, C.WrongFields) ∷ placedTests (field 0 fs) (field 1 fs)
 
   -- the ends and the label of a rule
   unfoldable pub endsTests : List ℕ → List ℕ → List ℕ → Tests

@@ -4,8 +4,8 @@ ghost use mathlib.Core.List.{List, []};
 ghost use Prim.Native.Nat.{ℕ, _≤_};
 ghost use Rattle.network.specs.Limits as L;
 ghost use Rattle.names.specs.Found.{NamesIn};
-ghost use Rattle.line.specs.Answers.{partsOf, endsAnswer, letterAnswer, entryBy, entryAt};
-ghost use Rattle.line.specs.declared.Section.the-variants.{Events, Signals, Rules, Reactions};
+ghost use Rattle.line.specs.Answers.{partsOf, endsAnswer, letterAnswer, placedAnswer, entryBy, entryAt};
+ghost use Rattle.line.specs.declared.Section.the-variants.{Events, Signals, Rules, Reactions, Cases};
 use super::Check;
 use super::HeadingLine;
 use super::KindField;
@@ -18,6 +18,7 @@ use names::lookup;
 use names::token;
 use network::Constraint;
 use network::Kind;
+use network::Label;
 use network::Network;
 use refusal::Cause;
 
@@ -27,6 +28,7 @@ pub enum Entry {
     Signal { letter: u8, observation: usize },
     Rule(Constraint),
     Reaction { signal: usize, minutes: u16 },
+    Label { event: usize, label: Label },
 }
 
 // A line behind a section's heading: why it is refused, or what it holds, and how long it is without its line feed.
@@ -45,7 +47,7 @@ fn event_fields<'a>(
 ) -> EntryLine
     requires { ⌜ NamesIn (now sheet) n (now starts) (now lengths) ⌝ }
     ensures { λ r. ⌜ r ≡ entryBy (now (line .entry)) Events (now (sheet .entry))
-        (partsOf n (now (starts .entry)) (now (lengths .entry)) 0 [] [] []) ⌝ }
+        (partsOf n (now (starts .entry)) (now (lengths .entry)) 0 [] [] [] []) ⌝ }
 {
     let cuts = text::cut(line);
     if cuts.count != 1 {
@@ -77,8 +79,8 @@ fn signal_fields<'a>(
 ) -> EntryLine
     requires { ⌜ NamesIn (now sheet) n (now starts) (now lengths) × (k ≤ L.signals) ⌝ }
     ensures { λ r. ⌜ r ≡ entryBy (now (line .entry)) Signals (now (sheet .entry))
-        (partsOf n (now (starts .entry)) (now (lengths .entry)) k (now (letters .entry)) (now (observations .entry)) [])
-        ⌝ }
+        (partsOf n (now (starts .entry)) (now (lengths .entry)) k (now (letters .entry)) (now (observations .entry)) []
+        []) ⌝ }
 {
     let cuts = text::cut(line);
     if cuts.count != 2 {
@@ -130,7 +132,8 @@ fn rule_ends<'a>(
 ) -> EntryLine
     requires { ⌜ NamesIn (now sheet) n (now starts) (now lengths) × (k ≤ L.signals) ⌝ }
     ensures { λ r. ⌜ r ≡ endsAnswer (now (sheet .entry)) (partsOf n (now (starts .entry)) (now (lengths .entry)) k
-        (now (letters .entry)) [] []) (now (from .entry)) (now (to .entry)) (now (label .entry)) kind bound length ⌝ }
+        (now (letters .entry)) [] [] []) (now (from .entry)) (now (to .entry)) (now (label .entry)) kind bound length
+        ⌝ }
 {
     let t = token::literals_of(label);
     let a = lookup::event_named(sheet, n, starts, lengths, from);
@@ -175,7 +178,7 @@ fn rule_fields<'a>(
 ) -> EntryLine
     requires { ⌜ NamesIn (now sheet) n (now starts) (now lengths) × (k ≤ L.signals) ⌝ }
     ensures { λ r. ⌜ r ≡ entryBy (now (line .entry)) Rules (now (sheet .entry))
-        (partsOf n (now (starts .entry)) (now (lengths .entry)) k (now (letters .entry)) [] []) ⌝ }
+        (partsOf n (now (starts .entry)) (now (lengths .entry)) k (now (letters .entry)) [] [] []) ⌝ }
 {
     let cuts = text::cut(line);
     if cuts.count != 5 {
@@ -216,7 +219,7 @@ fn reaction_letter<'a>(
     length: usize,
 ) -> EntryLine
     requires { ⌜ k ≤ L.signals ⌝ }
-    ensures { λ r. ⌜ r ≡ letterAnswer (partsOf 0 [] [] k (now (letters .entry)) [] (now (reactions .entry)))
+    ensures { λ r. ⌜ r ≡ letterAnswer (partsOf 0 [] [] k (now (letters .entry)) [] (now (reactions .entry)) [])
         (now (f .entry)) minutes length ⌝ }
 {
     let signal = lookup::place_of(k, letters, token::first(f));
@@ -254,7 +257,7 @@ fn reaction_fields<'a>(
 ) -> EntryLine
     requires { ⌜ k ≤ L.signals ⌝ }
     ensures { λ r. ⌜ ((sheet : List ℕ) → r ≡ entryBy (now (line .entry)) Reactions sheet
-        (partsOf 0 [] [] k (now (letters .entry)) [] (now (reactions .entry)))) ⌝ }
+        (partsOf 0 [] [] k (now (letters .entry)) [] (now (reactions .entry)) [])) ⌝ }
 {
     let cuts = text::cut(line);
     if cuts.count != 2 {
@@ -279,6 +282,87 @@ fn reaction_fields<'a>(
     }
 }
 
+// An event by its name, with its label.
+fn label_entry<'a>(
+    sheet: &[u8],
+    name: &[u8],
+    label: &[u8],
+    n: usize,
+    starts: &'a [usize; Network::EVENTS],
+    lengths: &'a [usize; Network::EVENTS],
+    k: usize,
+    letters: &'a [u8; Network::SIGNALS],
+    labelled: &'a [bool; Network::EVENTS],
+    length: usize,
+) -> EntryLine
+    requires { ⌜ NamesIn (now sheet) n (now starts) (now lengths) × (k ≤ L.signals) ⌝ }
+    ensures { λ r. ⌜ r ≡ placedAnswer (now (sheet .entry)) (partsOf n (now (starts .entry)) (now (lengths .entry)) k
+        (now (letters .entry)) [] [] (now (labelled .entry))) (now (name .entry)) (now (label .entry)) length ⌝ }
+{
+    if !field::is_placed(name, label) {
+        return EntryLine::Refused(Cause::IllFormedName);
+    }
+    let t = token::literals_of(label);
+    let event = lookup::event_named(sheet, n, starts, lengths, name);
+    let fresh = Test {
+        passes: field::is_unlabelled(labelled, event),
+        cause: Cause::Duplicate,
+    };
+    let known = Test {
+        passes: field::is_defined(event, t, k, letters),
+        cause: Cause::Undefined,
+    };
+    let unlike = Test {
+        passes: label::is_distinct(t),
+        cause: Cause::RepeatedLetter,
+    };
+    let check = field::first_failing(fresh, known, unlike);
+    match check {
+        Check::Refused(cause) => EntryLine::Refused(cause),
+        Check::Passed => EntryLine::Holds {
+            entry: Entry::Label {
+                event: lookup::place_or(event),
+                label: label::mask_of(k, letters, t),
+            },
+            length,
+        },
+    }
+}
+
+// `event,label`.
+fn label_fields<'a>(
+    sheet: &[u8],
+    line: &[u8],
+    n: usize,
+    starts: &'a [usize; Network::EVENTS],
+    lengths: &'a [usize; Network::EVENTS],
+    k: usize,
+    letters: &'a [u8; Network::SIGNALS],
+    labelled: &'a [bool; Network::EVENTS],
+) -> EntryLine
+    requires { ⌜ NamesIn (now sheet) n (now starts) (now lengths) × (k ≤ L.signals) ⌝ }
+    ensures { λ r. ⌜ r ≡ entryBy (now (line .entry)) Cases (now (sheet .entry))
+        (partsOf n (now (starts .entry)) (now (lengths .entry)) k (now (letters .entry)) [] [] (now (labelled .entry)))
+        ⌝ }
+{
+    let cuts = text::cut(line);
+    if cuts.count != 2 {
+        return EntryLine::Refused(Cause::WrongFields);
+    }
+    label_entry(
+        sheet,
+        text::field(line, cuts, 0),
+        text::field(line, cuts, 1),
+        n,
+        starts,
+        lengths,
+        k,
+        letters,
+        labelled,
+        line.len(),
+    )
+}
+
 // A line of a section.
 pub fn entry_at<'a>(
     section: Section,
@@ -291,11 +375,12 @@ pub fn entry_at<'a>(
     letters: &'a [u8; Network::SIGNALS],
     observations: &'a [usize; Network::SIGNALS],
     reactions: &'a [u16; Network::SIGNALS],
+    labelled: &'a [bool; Network::EVENTS],
 ) -> EntryLine
     requires { ⌜ NamesIn (now sheet) n (now starts) (now lengths) × (k ≤ L.signals) ⌝ }
     ensures { λ r. ⌜ r ≡ entryAt (now (rest .entry)) section (now (sheet .entry))
         (partsOf n (now (starts .entry)) (now (lengths .entry)) k (now (letters .entry)) (now (observations .entry))
-        (now (reactions .entry))) ⌝ }
+        (now (reactions .entry)) (now (labelled .entry))) ⌝ }
 {
     let e = text::until(rest, b'\n');
     if e == rest.len() {
@@ -316,5 +401,6 @@ pub fn entry_at<'a>(
         ),
         Section::Rules => rule_fields(sheet, line, n, starts, lengths, k, letters),
         Section::Reactions => reaction_fields(line, k, letters, reactions),
+        Section::Cases => label_fields(sheet, line, n, starts, lengths, k, letters, labelled),
     }
 }

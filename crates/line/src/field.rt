@@ -13,6 +13,7 @@ ghost use Rattle.names.specs.Found.{isFound};
 ghost use Rattle.names.specs.declared.Found.the-variants.{At};
 ghost use Rattle.line.specs.Tests.{countTests, kindOf};
 ghost use Rattle.line.specs.Answers.{checkOf, kindFound, limitOf, sectionAnswer, givesFound, statedFound};
+ghost use Rattle.line.specs.Answers.{labelledFound};
 use super::Check;
 use super::HeadingLine;
 use super::KindField;
@@ -148,6 +149,39 @@ pub(crate) fn is_unsaid(reactions: &[u16; Network::SIGNALS], signal: Found) -> b
         Found::At(p) => reactions[p] == 0,
         Found::Nothing => true,
     }
+}
+
+// No line has said yet where the event happens.
+pub(crate) fn is_unlabelled(labelled: &[bool; Network::EVENTS], event: Found) -> bool
+    requires { ⌜ ((u : ℕ) → event ≡ At u → u < L.events) ⌝ }
+    ensures { λ r. ⌜ r ≡ not (labelledFound (now (labelled .entry)) event) ⌝ }
+{
+    match event {
+        Found::At(u) => !labelled[u],
+        Found::Nothing => true,
+    }
+}
+
+// An event's name and its label are well formed.
+pub(crate) fn is_placed(name: &[u8], label: &[u8]) -> bool
+    ensures { λ r. ⌜ r ≡ isName (now (name .entry)) && isLabel (now (label .entry)) ⌝ }
+{
+    if !token::is_name(name) {
+        return false;
+    }
+    token::is_label(label)
+}
+
+// An event and the letters of its label are defined.
+pub(crate) fn is_defined(event: Found, t: &[u8], k: usize, letters: &[u8; Network::SIGNALS]) -> bool
+    requires { ⌜ k ≤ L.signals ⌝ }
+    ensures { λ r. ⌜ r ≡ isFound event && allDefined k (now (letters .entry)) (lettersOf (literals false
+        (now (t .entry)))) ⌝ }
+{
+    if !lookup::is_found(event) {
+        return false;
+    }
+    label::all_defined(t, k, letters)
 }
 
 // The ends and the label of a rule are well formed.

@@ -36,14 +36,16 @@ pub fn section_line(rest: &[u8], word: &[u8], lo: u32, hi: u32) -> HeadingLine
     section_fields(&rest[..e], word, lo, hi)
 }
 
-// The line that a section begins with.
-pub fn heading_of(section: Section, rest: &[u8]) -> HeadingLine
-    ensures { λ r. ⌜ r ≡ headingAt (now (rest .entry)) (headingOf section) ⌝ }
+// The line that a section begins with, on a sheet of n events.
+pub fn heading_of(section: Section, n: usize, rest: &[u8]) -> HeadingLine
+    requires { ⌜ n ≤ L.events ⌝ }
+    ensures { λ r. ⌜ r ≡ headingAt (now (rest .entry)) (headingOf n section) ⌝ }
 {
     match section {
         Section::Events => section_line(rest, b"events", 1, Network::EVENTS as u32),
         Section::Signals => section_line(rest, b"signals", 0, Network::SIGNALS as u32),
         Section::Rules => section_line(rest, b"rules", 0, Network::RULES as u32),
         Section::Reactions => section_line(rest, b"reactions", 0, Network::SIGNALS as u32),
+        Section::Cases => section_line(rest, b"cases", 0, n as u32),
     }
 }

@@ -2,6 +2,7 @@
 pub mod entry;
 mod field;
 pub mod heading;
+pub mod whole;
 
 use network::Kind;
 use refusal::Cause;
@@ -12,6 +13,7 @@ pub enum Section {
     Signals,
     Rules,
     Reactions,
+    Cases,
 }
 
 // A test with the cause of its failure, and what comes of several.
@@ -20,7 +22,7 @@ struct Test {
     cause: Cause,
 }
 
-enum Check {
+pub enum Check {
     Passed,
     Refused(Cause),
 }

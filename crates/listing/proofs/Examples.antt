@@ -43,8 +43,11 @@ examples =
     -- names of 1 byte and of 8; one digit and two
     ∷ example ("s" ∷ "overhaul" ∷ []) 0 (9 ∷ 10 ∷ []) ("case,s,overhaul" ∷ "-,9,10" ∷ [])
     -- one signal; the largest time that a table holds, and no time in order
-    ∷ example ("start" ∷ "call" ∷ "d2" ∷ []) 1 (0 ∷ 65535 ∷ 99 ∷ 10080 ∷ 1000 ∷ 100 ∷ [])
-    ("case,start,call,d2" ∷ "F,0,65535,99" ∷ "T,10080,1000,100" ∷ [])
+    ∷ example ("start" ∷ "call" ∷ "d2" ∷ []) 1 (0 ∷ 65534 ∷ 99 ∷ 10080 ∷ 1000 ∷ 100 ∷ [])
+    ("case,start,call,d2" ∷ "F,0,65534,99" ∷ "T,10080,1000,100" ∷ [])
+    -- 65,535 is a dash, in any cell
+    ∷ example ("start" ∷ "call" ∷ []) 1 (65535 ∷ 65535 ∷ 0 ∷ 65535 ∷ [])
+    ("case,start,call" ∷ "F,-,-" ∷ "T,0,-" ∷ [])
     -- two signals: the first has weight 1
     ∷ example ("start" ∷ []) 2 (0 ∷ 1 ∷ 2 ∷ 3 ∷ []) ("case,start" ∷ "FF,0" ∷ "TF,1" ∷ "FT,2" ∷ "TT,3" ∷ [])
     ∷ []

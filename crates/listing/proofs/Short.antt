@@ -1,7 +1,8 @@
 -- No listing of times of sixteen bits is longer than the limits of a sheet allow: a name has at most 8 bytes, a time at
--- most 5 digits. Assumes nothing.
+-- most 5 digits, and a blank one byte. The times of a good table have sixteen bits. Assumes nothing.
 use mathlib.Core.List.{List, [], _∷_}
 use mathlib.Core.Bool.{cond}
+use mathlib.Core.Logic.{inl, inr}
 use Prim.Native.Nat.{ℕ, zero, suc, _+_, _*_, _≤_, _<_}
 use Prim.Native.Char.{code}
 use native.Mathlib.Nat.{zero-mul, suc-mul}
@@ -11,19 +12,22 @@ use lib.ListN.{length, getD, drop, length-append, length-take}
 use lib.Pow.{pow-mono}
 use Rattle.prelude.specs.Bounded.{tabulate}
 use Rattle.prelude.proofs.Bounded.{length-tabulate}
-use Rattle.prelude.proofs.Tests.{by-test}
+use Rattle.prelude.proofs.Tests.{either, by-test}
 use Rattle.prelude.specs.Bytes.{ascii}
 use Rattle.text.specs.Lines.{comma, lineFeed, line}
-use Rattle.text.proofs.Decimal.{length-decimal-16}
 use Rattle.page.specs.Joined.{joinFrom}
+use Rattle.network.specs.Limits as L
 use Rattle.network.specs.Build.{nameOf, scenarios}
 use Rattle.network.specs.Scenario.{truth}
+use Rattle.network.specs.Happens.{happens}
 use Rattle.network.specs.Strategy.{time}
+use Rattle.network.specs.Solution.{Solution}
 use Rattle.network.specs.WellFormed.{WellFormed, Named}
 use Rattle.network.specs.declared.Network.{Network}
 use Rattle.listing.specs.Listing.{scenarioText, header, lineOver, timeTexts, listing}
 use Rattle.listing.specs.Line.{fieldsOf}
 use Rattle.listing.proofs.Fields.{line-tabulate}
+use Rattle.listing.proofs.Times.{length-timeText}
 use Rattle.listing.specs.Most.{mostHeader, mostLine, mostListing}
 
 length-join : (f : ℕ → List ℕ) (most i n : ℕ) → ((j : ℕ) → i ≤ j → j < i + n → length (f j) ≤ most)
@@ -68,7 +72,7 @@ module _ (sheet : List ℕ) (Γ : Network) (σ : List ℕ) (wf : WellFormed Γ) 
   header-short =
       omega (arith, wf .events, length-line (ascii "case") (Γ .events) 8 (nameOf Γ sheet) name-short)
 
-  module _ (times : (s u : ℕ) → s < scenarios Γ → u < Γ .events → time (Γ .events) σ s u ≤ 65535) where
+  module _ (times : (s u : ℕ) → s < scenarios Γ → u < Γ .events → time (Γ .events) σ s u ≤ L.blank) where
     abbrev texts : ℕ → ℕ → List ℕ
     texts = timeTexts (Γ .events) σ
 
@@ -79,7 +83,7 @@ module _ (sheet : List ℕ) (Γ : Network) (σ : List ℕ) (wf : WellFormed Γ) 
           wf .events,
           length-scenario (Γ .signals) s (wf .signals),
           length-line (scenarioText (Γ .signals) s) (Γ .events) 5 (texts s)
-              (λ u h. length-decimal-16 _ (times s u l h)),
+              (λ u h. length-timeText _ (times s u l h)),
         )
 
     pub listing-short : length (listing sheet Γ σ) ≤ mostListing
@@ -93,3 +97,13 @@ module _ (sheet : List ℕ) (Γ : Network) (σ : List ℕ) (wf : WellFormed Γ) 
           length-join rows mostLine 0 (scenarios Γ) (λ s a b. line-short s (omega arith)),
           pow-mono {i = Γ .signals} {j = 4} (wf .signals),
         )
+
+-- a cell of a good table is a minute within the horizon, or blank
+pub good-times : (Γ : Network) (σ : List ℕ) → WellFormed Γ → Solution Γ σ → (s u : ℕ) → s < scenarios Γ → u < Γ .events
+    → time (Γ .events) σ s u ≤ L.blank
+good-times Γ σ wf good s u l h =
+    let cell = good .on-time s u l h in
+    elim (either (happens Γ s u)) [
+      | inl p ↦ omega (arith, cell .placed p .in-horizon, wf .horizon)
+      | inr p ↦ omega (arith, cell .absent p)
+    ]

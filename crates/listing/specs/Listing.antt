@@ -10,6 +10,7 @@ use Rattle.prelude.specs.Bytes.{ascii}
 use Rattle.text.specs.Lines.{line}
 use Rattle.text.specs.Decimal.{decimal}
 use Rattle.page.specs.Joined.{joinFrom}
+use Rattle.network.specs.Limits as L
 use Rattle.network.specs.Build.{nameOf}
 use Rattle.network.specs.Scenario.{truth}
 use Rattle.network.specs.Strategy.{time}
@@ -27,9 +28,10 @@ scenarioText k s =
 abbrev pub header : List ℕ → Network → List ℕ
 header sheet Γ = line (ascii "case") (tabulate (Γ .events) (nameOf Γ sheet))
 
--- a minute as it is printed
+-- what a cell holds, as it is printed: a minute in decimal; of 65,535, which stands where the event does not happen,
+-- "that number is printed `-`" (02, point 6)
 abbrev pub timeText : ℕ → List ℕ
-timeText v = decimal v
+timeText v = cond (eqb v L.blank) (ascii "-") (decimal v)
 
 -- a listing over any texts in the places of its minutes, by scenario and event; it has k signals and n events
 module _ (k n : ℕ) (texts : ℕ → ℕ → List ℕ) where

@@ -1,5 +1,5 @@
--- How many bytes each part of a listing has at most, by the limits of a sheet: a name has at most 8, and a time 5
--- digits.
+-- How many bytes each part of a listing has at most, by the limits of a sheet: a name has at most 8, a time 5
+-- digits, and a blank is one dash.
 use Prim.Native.Nat.{ℕ, _+_, _*_, _^_}
 use Rattle.network.specs.Limits as L
 

@@ -70,13 +70,24 @@ pub fn push_truths(page: &mut [u8], at: usize, s: usize, signals: usize) -> usiz
     next
 }
 
-// A time, behind its comma.
+// What a cell holds: a time in decimal, or a dash where its event does not happen.
+fn push_cell(page: &mut [u8], at: usize, v: u16) -> usize
+    requires { ⌜ at + 5 ≤ length (now page) ⌝ }
+    ensures { λ r. ⌜ Appended 5 (now (page .entry)) at (timeText v) (now (page .exit)) r ⌝ }
+{
+    if v == Network::BLANK {
+        return page::push(page, at, b'-');
+    }
+    page::push_number(page, at, v)
+}
+
+// A cell, behind its comma.
 fn push_time(page: &mut [u8], at: usize, v: u16) -> usize
     requires { ⌜ at + 6 ≤ length (now page) ⌝ }
     ensures { λ r. ⌜ Appended 6 (now (page .entry)) at (comma ∷ timeText v) (now (page .exit)) r ⌝ }
 {
     let next = page::push(page, at, b',');
-    page::push_number(page, next, v)
+    push_cell(page, next, v)
 }
 
 // The times of all events in scenario s, and the line feed.

@@ -8,6 +8,7 @@ use native.Mathlib.Omega.{arith}
 use lib.ListN.{length, getD, set, length-set}
 use lib.Seq.{getD-set-same, getD-set-other}
 use Rattle.prelude.proofs.Tests.{eq-or-ne}
+use Rattle.network.specs.declared.Label.{Label}
 use Rattle.rows.specs.Rows.{Times, Wrote}
 use Rattle.moves.specs.Moves.{partOf, Placed, Between, Clipped}
 
@@ -64,23 +65,29 @@ between-next {t} {d} {o} {l} {least} {most} {i} B h = record {
 }
 
 -- rounds may go from a table that is placed, clipped or written from one that they may go from
-pub placed-times : {n c lo hi j h : ℕ} {t d o : List ℕ} → Times n c t → Times n c d
+pub placed-times : {n c lo hi j h : ℕ} {ls : List Label} {t d o : List ℕ} → Times n ls c t → Times n ls c d
     → Placed t d lo hi j h (c * 16) o → length o ≡ 256
-    → h ≤ 10080 → Times n c o
-placed-times {n} {c} {lo} {hi} {j} {h} {t} {d} {o} T D P z l = record {
+    → h ≤ 10080 → Times n ls c o
+placed-times {c = c} {lo} {hi} {j} {t = t} {d} {o} T D P z l = record {
   sized = z;
   few = λ s u hs hu. omega (arith, P .low (s * 16 + u) (omega arith));
-  beyond = λ s u hs hn hu.
-      let none : partOf lo hi (getD d (s * 16 + u) 0) ≡ 0 = omega (arith, D .beyond s u hs hn hu) in
-      let still : j * partOf lo hi (getD d (s * 16 + u) 0) ≡ 0 = rw none (mul-zero j) in
-      omega (arith, P .at (s * 16 + u) (omega arith), T .beyond s u hs hn hu);
+  beyond = λ s u hs hn hu. still (s * 16 + u) (omega arith) (T .beyond s u hs hn hu) (D .beyond s u hs hn hu);
+  absent = λ s u hs hu e. still (s * 16 + u) (omega arith) (T .absent s u hs hu e) (D .absent s u hs hu e);
 }
+  where
+    -- a cell at zero that does not rise
+    still : (i : ℕ) → i < c * 16 → getD t i 0 ≡ 0 → getD d i 0 ≡ 0 → getD o i 0 ≡ 0
+    still i b p q =
+        let none : partOf lo hi (getD d i 0) ≡ 0 = omega arith in
+        let stays : j * partOf lo hi (getD d i 0) ≡ 0 = rw none (mul-zero j) in
+        omega (arith, P .at i b)
 
-pub clipped-times : {n c : ℕ} {d o : List ℕ} → Times n c d → Clipped d (c * 16) o → Times n c o
+pub clipped-times : {n c : ℕ} {ls : List Label} {d o : List ℕ} → Times n ls c d → Clipped d (c * 16) o → Times n ls c o
 clipped-times D C = record {
   sized = C .sized;
   few = λ s u hs hu. C .low (s * 16 + u) (omega arith) (D .few s u hs hu);
   beyond = λ s u hs hn hu. C .none (s * 16 + u) (omega arith) (D .beyond s u hs hn hu);
+  absent = λ s u hs hu e. C .none (s * 16 + u) (omega arith) (D .absent s u hs hu e);
 }
 
 -- what is written from the start on
@@ -88,11 +95,13 @@ pub wrote-at : {e₀ e : List ℕ} {n : ℕ} {f : ℕ → ℕ} → Wrote e₀ e 
 wrote-at W i h = rw zero-add at (W .here i h)
 
 -- written so that no number is greater than another table's
-pub wrote-times : {n c : ℕ} {x e₀ e : List ℕ} (f : ℕ → ℕ) → Times n c x → length e₀ ≡ 256 → Wrote e₀ e 0 (c * 16) f
-    → ((i : ℕ) → f i ≤ getD x i 0) → Times n c e
+pub wrote-times : {n c : ℕ} {ls : List Label} {x e₀ e : List ℕ} (f : ℕ → ℕ) → Times n ls c x → length e₀ ≡ 256
+    → Wrote e₀ e 0 (c * 16) f → ((i : ℕ) → f i ≤ getD x i 0) → Times n ls c e
 wrote-times f X z W low = record {
   sized = W .sized ∙ z;
   few = λ s u hs hu. omega (arith, wrote-at W (s * 16 + u) (omega arith), low (s * 16 + u), X .few s u hs hu);
   beyond = λ s u hs hn hu. omega
       (arith, wrote-at W (s * 16 + u) (omega arith), low (s * 16 + u), X .beyond s u hs hn hu);
+  absent = λ s u hs hu e. omega
+      (arith, wrote-at W (s * 16 + u) (omega arith), low (s * 16 + u), X .absent s u hs hu e);
 }

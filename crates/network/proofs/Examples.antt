@@ -5,13 +5,16 @@ use mathlib.Core.List.{List, [], _∷_}
 use Prim.Native.Nat.{ℕ, suc}
 use lib.IntN.{ℤ, pos, negsuc}
 use lib.Dec.{eqb}
-use Rattle.network.specs.Build.{empty, withEvent, withSignal, withReaction, observation, scenarios, cells}
+use Rattle.network.specs.Build.{empty, withEvent, withSignal, withReaction, withLabel, observation, scenarios}
+use Rattle.network.specs.Build.{cells}
 use Rattle.network.specs.Scenario.{truth, agree, satisfies}
-use Rattle.network.specs.Constraint.{admits}
+use Rattle.network.specs.Happens.{happens, given, tells}
+use Rattle.network.specs.Constraint.{admits, covers}
 use Rattle.network.specs.Strategy.{reactionOf, knownFrom, known}
 use Rattle.network.specs.declared.Kind.{Kind}
 use Rattle.network.specs.declared.Kind.the-variants.{Max, Min, Fix}
 use Rattle.network.specs.declared.Label.{Label}
+use Rattle.network.specs.declared.Constraint.{Constraint}
 use Rattle.network.specs.declared.Network.{Network}
 
 abbrev all : List Bool → Bool
@@ -96,5 +99,43 @@ pub scenarios-and-signals :
     ∷ Bool·beq (known (withReaction small 0 3) (0 ∷ 9 ∷ 0 ∷ 5 ∷ []) 1 0 7) false
     ∷ Bool·beq (known (withReaction small 0 3) (0 ∷ 9 ∷ 0 ∷ 5 ∷ []) 1 0 8) true
     ∷ []) ≡ true
-unfolding satisfies reactionOf
+unfolding satisfies happens reactionOf
 scenarios-and-signals = refl
+
+-- the call, which gives the signal p, happens where q is true and r is false; the start gives q, and a third event r
+abbrev some-cases : Network
+some-cases =
+    withLabel
+    (withSignal (withSignal (withSignal (withEvent (withEvent (withEvent (empty 60) 0 5) 6 4) 11 4) 112 1) 113 0) 114 2)
+    1 (record { positive = 2; negative = 4 })
+
+-- a rule from the start to the call, for the cases where p is true
+abbrev to-the-call : Constraint
+to-the-call = record { kind = Max; from = 0; to = 1; bound = pos 5; label = record { positive = 1; negative = 0 } }
+
+-- minute 7 in each case in which the call happens, and 65,535 in the others, of which 0 and 2 are shown
+abbrev times : List ℕ
+times = 0 ∷ 65535 ∷ 0 ∷ 0 ∷ 65535 ∷ 0 ∷ 0 ∷ 7 ∷ 0 ∷ []
+
+pub labels-and-cases :
+    all
+    (Bool·beq (happens some-cases 0 0 && happens some-cases 7 0) true
+    ∷ Bool·beq (happens some-cases 2 1 && happens some-cases 3 1) true
+    ∷ Bool·beq (happens some-cases 0 1) false
+    ∷ Bool·beq (happens some-cases 6 1) false
+    ∷ Bool·beq (given some-cases 2 0) true
+    ∷ Bool·beq (given some-cases 0 0) false
+    -- p tells 2 from 3, where it is given, and does not tell 0 from 1
+    ∷ Bool·beq (tells some-cases 2 3 0) true
+    ∷ Bool·beq (tells some-cases 0 1 0) false
+    -- a rule's own label, and its events
+    ∷ Bool·beq (covers some-cases to-the-call 3) true
+    ∷ Bool·beq (covers some-cases to-the-call 2) false
+    ∷ Bool·beq (covers some-cases to-the-call 1) false
+    -- what is not given is never known, not even long after 65,535
+    ∷ Bool·beq (known some-cases times 2 0 7) false
+    ∷ Bool·beq (known some-cases times 2 0 8) true
+    ∷ Bool·beq (known some-cases times 0 0 70000) false
+    ∷ []) ≡ true
+unfolding satisfies happens reactionOf covers
+labels-and-cases = refl

@@ -3,23 +3,21 @@
 use mathlib.Core.Path.{_≡_, refl, _∙_}
 use mathlib.Core.Bool.{Bool, true, false, _&&_, _||_, not, Bool·beq}
 use Prim.Native.Nat.{ℕ, zero, suc, _/_, _^_, _<_}
-use lib.Bits.{bitAnd, bitXor}
+use lib.Bits.{bitAnd, bitOr, bitXor}
 use lib.Dec.{eqb}
 use Rattle.prelude.specs.Bounded.{allBelow}
 use Rattle.prelude.proofs.Tests.{beq-true}
 use Rattle.prelude.proofs.Bounded.{true-of-allBelow}
 use Rattle.network.specs.Scenario.{truth, agree, satisfies}
-use Rattle.network.specs.Constraint.{covers}
+use Rattle.network.specs.Happens.{mentions}
 use Rattle.network.specs.declared.Label.{Label}
-use Rattle.network.specs.declared.Constraint.{Constraint}
-use Rattle.network.specs.declared.Network.{Network}
 
 -- two tests that agree on all pairs below 16 are equal there
 module _ (f g : ℕ → ℕ → Bool) where
-  abbrev same : Bool
+  abbrev pub same : Bool
   same = allBelow 16 (λ a. allBelow 16 (λ b. Bool·beq (f a b) (g a b)))
 
-  sixteen : same ≡ true → (a b : ℕ) → a < 16 → b < 16 → f a b ≡ g a b
+  pub sixteen : same ≡ true → (a b : ℕ) → a < 16 → b < 16 → f a b ≡ g a b
   sixteen e a b h l =
       beq-true (f a b) (g a b)
       (true-of-allBelow (λ b. Bool·beq (f a b) (g a b)) 16
@@ -37,6 +35,20 @@ pub agree-bits : (s r p : ℕ) → s < 16 → r < 16 → p < 4 → same-bit p s 
 agree-bits s r p hs hr hp =
     sixteen (same-bit p) (λ s r. agree s r p)
     (true-of-allBelow (λ p. same (same-bit p) (λ s r. agree s r p)) 4 four p hp) s r hs hr
+
+-- the bit of a | b at p: a letter stands in either of a label's sums
+abbrev or-bit : ℕ → ℕ → ℕ → Bool
+or-bit p a b = eqb (bitAnd (bitOr a b / 2 ^ p) 1) 1
+
+four-or : allBelow 4 (λ p. same (or-bit p) (λ a b. truth a p || truth b p)) ≡ true
+four-or = refl
+
+pub mentions-bits : (ℓ : Label) (p : ℕ) → ℓ .positive < 16 → ℓ .negative < 16 → p < 4
+    → or-bit p (ℓ .positive) (ℓ .negative) ≡ mentions ℓ p
+mentions-bits ℓ p a b hp =
+    sixteen (or-bit p) (λ a b. truth a p || truth b p)
+    (true-of-allBelow (λ p. same (or-bit p) (λ a b. truth a p || truth b p)) 4 four-or p hp)
+    (ℓ .positive) (ℓ .negative) a b
 
 -- s has all the propositions of the mask m, or none of them
 abbrev has : ℕ → ℕ → ℕ → Bool
@@ -57,7 +69,7 @@ regroup true false true d = refl
 regroup true false false d = refl
 regroup false b c d = refl
 
-allBelow-and : (f g : ℕ → Bool) (n : ℕ) → allBelow n f && allBelow n g ≡ allBelow n (λ p. f p && g p)
+pub allBelow-and : (f g : ℕ → Bool) (n : ℕ) → allBelow n f && allBelow n g ≡ allBelow n (λ p. f p && g p)
 allBelow-and f g zero = refl
 allBelow-and f g (suc n) = regroup (allBelow n f) (f n) (allBelow n g) (g n) ∙ rw (allBelow-and f g n)
 
@@ -67,8 +79,3 @@ unfolding satisfies
 satisfies-bits s ℓ hs hp hn =
     rw (all-of s (ℓ .positive) hs hp, none-of s (ℓ .negative) hs hn)
     (allBelow-and (has s (ℓ .positive)) (lacks s (ℓ .negative)) 4)
-
--- a constraint covers the scenarios that satisfy its label
-pub covers-satisfies : (Γ : Network) (c : Constraint) (s : ℕ) → covers Γ c s ≡ satisfies s (c .label)
-unfolding covers
-covers-satisfies Γ c s = refl

@@ -1,16 +1,19 @@
 -- The reaction time, and what is known when. Proofs elsewhere use these laws, and not the text of `reactionOf` and
 -- `known`. Assumes nothing.
 use mathlib.Core.Path.{_≡_, refl, ap}
-use mathlib.Core.Bool.{true, false}
+use mathlib.Core.Bool.{Bool, true, false}
 use mathlib.Core.List.{List}
 use Prim.Native.Nat.{ℕ, zero, suc, _+_, _*_, _≤_, _<_}
 use native.Mathlib.Omega.{arith}
 use borrow.Author.Tests.{leb-true, leb-false, le-leb, lt-leb}
+use lib.Dec.{leb}
 use lib.ListN.{length}
 use lib.Seq.{getD-set-same, getD-set-other}
+use Rattle.prelude.proofs.Tests.{and-true, and-both, false-of-not-true}
 use Rattle.prelude.proofs.Cells.{cell-lt}
 use Rattle.network.specs.Limits as L
 use Rattle.network.specs.Build.{empty, withReaction, observation, reactionStated, scenarios, cells}
+use Rattle.network.specs.Happens.{given}
 use Rattle.network.specs.Strategy.{time, reactionOf, reaction, knownFrom, known}
 use Rattle.network.specs.declared.Network.{Network}
 
@@ -60,22 +63,23 @@ module _ (Γ : Network) (σ : List ℕ) (s p m : ℕ) where
   pub observed-before : time (Γ .events) σ s (observation Γ p) < knownFrom Γ σ s p
   observed-before = omega (arith, reaction-some Γ p)
 
+  pub given-known : known Γ σ s p m ≡ true → given Γ s p ≡ true
+  given-known e = and-true (given Γ s p) (leb (knownFrom Γ σ s p) m) e .0
+
   pub from-known : known Γ σ s p m ≡ true → knownFrom Γ σ s p ≤ m
-  from-known e = leb-true _ _ e
+  from-known e = leb-true _ _ (and-true (given Γ s p) (leb (knownFrom Γ σ s p) m) e .1)
 
-  pub from-unknown : known Γ σ s p m ≡ false → m < knownFrom Γ σ s p
-  from-unknown e = leb-false _ _ e
+  pub is-known : given Γ s p ≡ true → knownFrom Γ σ s p ≤ m → known Γ σ s p m ≡ true
+  is-known g h = and-both (given Γ s p) (leb (knownFrom Γ σ s p) m) g (le-leb _ _ h)
 
-  pub is-known : knownFrom Γ σ s p ≤ m → known Γ σ s p m ≡ true
-  is-known h = le-leb _ _ h
-
-  pub is-unknown : m < knownFrom Γ σ s p → known Γ σ s p m ≡ false
-  is-unknown h = lt-leb _ _ h
+  pub from-unknown : given Γ s p ≡ true → known Γ σ s p m ≡ false → m < knownFrom Γ σ s p
+  from-unknown g e = leb-false (knownFrom Γ σ s p) m (rw g at e)
 
 -- once known, known for good; so what is unknown was unknown before
 pub unknown-before : (Γ : Network) (σ : List ℕ) (s p i m : ℕ) → i ≤ m → known Γ σ s p m ≡ false
     → known Γ σ s p i ≡ false
-unknown-before Γ σ s p i m h e = is-unknown Γ σ s p i (omega (arith, from-unknown Γ σ s p m e))
+unknown-before Γ σ s p i m h e = false-of-not-true (known Γ σ s p i) (λ k.
+    omega (arith, from-known Γ σ s p i k, from-unknown Γ σ s p m (given-known Γ σ s p i k) e))
 
 -- what is observed at one time is known from one time on
 pub knownFrom-same : (Γ : Network) (σ : List ℕ) (s r p : ℕ)

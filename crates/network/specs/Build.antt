@@ -1,11 +1,13 @@
--- How a network is built: from its horizon, then event by event, signal by signal, rule by rule and reaction by
--- reaction, in the order of the sheet (004, Definition 2; labels on constraints only, as in 002).
+-- How a network is built: from its horizon, then event by event, signal by signal, rule by rule, reaction by reaction
+-- and label by label, in the order of the sheet (004, Definition 2).
+use mathlib.Core.Bool.{Bool, true, false}
 use mathlib.Core.List.{List}
 use Prim.Native.Nat.{ℕ, _+_, _*_, _^_}
 use lib.IntN.{pos}
 use lib.ListN.{getD, set, replicate, take, drop}
 use Rattle.network.specs.Limits as L
 use Rattle.network.specs.declared.Kind.the-variants.{Max}
+use Rattle.network.specs.declared.Label.{Label}
 use Rattle.network.specs.declared.Constraint.{Constraint}
 use Rattle.network.specs.declared.Network.{Network}
 use Rattle.network.specs.declared.Limits.{Limits}
@@ -19,11 +21,16 @@ limits = record {
   rules = L.rules;
   fastest = L.fastest;
   slowest = L.slowest;
+  blank = L.blank;
 }
+
+-- the label `-`, which asks for nothing
+abbrev pub noLabel : Label
+noLabel = record { positive = 0; negative = 0 }
 
 -- what stands where no constraint does
 abbrev pub noConstraint : Constraint
-noConstraint = record { kind = Max; from = 0; to = 0; bound = pos 0; label = record { positive = 0; negative = 0 } }
+noConstraint = record { kind = Max; from = 0; to = 0; bound = pos 0; label = noLabel }
 
 abbrev pub empty : ℕ → Network
 empty h = record {
@@ -37,6 +44,8 @@ empty h = record {
   reactions = replicate L.signals 0;
   rules = 0;
   constraints = replicate L.rules noConstraint;
+  labels = replicate L.events noLabel;
+  labelled = replicate L.events false;
 }
 
 module _ (Γ : Network) where
@@ -53,6 +62,8 @@ module _ (Γ : Network) where
     reactions = Γ .reactions;
     rules = Γ .rules;
     constraints = Γ .constraints;
+    labels = Γ .labels;
+    labelled = Γ .labelled;
   }
 
   -- one more signal: its letter, and the event that gives it
@@ -68,6 +79,8 @@ module _ (Γ : Network) where
     reactions = Γ .reactions;
     rules = Γ .rules;
     constraints = Γ .constraints;
+    labels = Γ .labels;
+    labelled = Γ .labelled;
   }
 
   -- one more rule
@@ -83,6 +96,8 @@ module _ (Γ : Network) where
     reactions = Γ .reactions;
     rules = Γ .rules + 1;
     constraints = set (Γ .constraints) (Γ .rules) c;
+    labels = Γ .labels;
+    labelled = Γ .labelled;
   }
 
   -- signal p is trusted after so many minutes
@@ -98,6 +113,25 @@ module _ (Γ : Network) where
     reactions = set (Γ .reactions) p minutes;
     rules = Γ .rules;
     constraints = Γ .constraints;
+    labels = Γ .labels;
+    labelled = Γ .labelled;
+  }
+
+  -- event u happens where this label holds; its line has been read
+  abbrev pub withLabel : ℕ → Label → Network
+  withLabel u ℓ = record {
+    horizon = Γ .horizon;
+    events = Γ .events;
+    starts = Γ .starts;
+    lengths = Γ .lengths;
+    signals = Γ .signals;
+    letters = Γ .letters;
+    observations = Γ .observations;
+    reactions = Γ .reactions;
+    rules = Γ .rules;
+    constraints = Γ .constraints;
+    labels = set (Γ .labels) u ℓ;
+    labelled = set (Γ .labelled) u true;
   }
 
   -- the name of event u, as a part of the sheet
@@ -115,6 +149,14 @@ module _ (Γ : Network) where
   -- after how many minutes the line of signal p says that it is trusted; 0 where it has no line
   abbrev pub reactionStated : ℕ → ℕ
   reactionStated p = getD (Γ .reactions) p 0
+
+  -- the label of event u: `-` where it has no line
+  abbrev pub eventLabel : ℕ → Label
+  eventLabel u = getD (Γ .labels) u noLabel
+
+  -- whether event u has a line in the section `cases`
+  abbrev pub isLabelled : ℕ → Bool
+  isLabelled u = getD (Γ .labelled) u false
 
   -- the rule at place c of the sheet
   abbrev pub constraint : ℕ → Constraint

@@ -4,6 +4,7 @@ use Prim.Native.Nat.{ℕ, suc, _+_}
 use lib.IntN.{ℤ, pos, negsuc}
 use lib.Dec.{leb}
 use Rattle.network.specs.Scenario.{satisfies}
+use Rattle.network.specs.Happens.{happens}
 use Rattle.network.specs.declared.Kind.{Kind}
 use Rattle.network.specs.declared.Kind.the-variants.{Max, Min, Fix}
 use Rattle.network.specs.declared.Constraint.{Constraint}
@@ -25,6 +26,7 @@ admits Max a b w = atMost a b w
 admits Min a b w = atLeast a b w
 admits Fix a b w = atMost a b w && atLeast a b w
 
--- the constraint counts in scenario s
+-- the constraint counts in scenario s: its label holds there, and "A rule covers a case only if both its events happen
+-- there" (02, point 6)
 unfoldable pub covers : Network → Constraint → ℕ → Bool
-covers Γ c s = satisfies s (c .label)
+covers Γ c s = satisfies s (c .label) && (happens Γ s (c .from) && happens Γ s (c .to))

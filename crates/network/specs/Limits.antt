@@ -1,6 +1,7 @@
--- The limits of a sheet (01, The sheet; of reactions 02, point 3), and what follows of bounds, cases and cells. The
--- code has the limits as constants of `Network`, whose contract `limits` pins them to these.
-use Prim.Native.Nat.{ℕ, _*_, _^_}
+-- The limits of a sheet (01, The sheet; of reactions 02, point 3), and what follows of bounds, cases and cells; what a
+-- cell without its event holds (02, point 6). The code has them as constants of `Network`, whose contract `limits` pins
+-- them to these.
+use Prim.Native.Nat.{ℕ, _+_, _*_, _^_}
 
 -- "H from 0 to 10,080", and the size of a rule's limit
 abbrev pub horizon : ℕ
@@ -29,9 +30,20 @@ slowest = 60
 abbrev pub bounds : ℕ
 bounds = 2 * rules
 
+-- and an event waits for as many signals as its label has letters: so many bounds may a case list, besides
+abbrev pub waits : ℕ
+waits = events * signals
+
+abbrev pub listed : ℕ
+listed = bounds + waits
+
 -- "There are 2^k cases", and a table has "n × 2^k in all"
 abbrev pub cases : ℕ
 cases = 2 ^ signals
 
 abbrev pub cells : ℕ
 cells = events * cases
+
+-- "A cell without its event holds 65,535" (02, point 6), which is no minute of any event
+abbrev pub blank : ℕ
+blank = 65535

@@ -6,8 +6,10 @@ use Prim.Native.Nat.{ℕ, zero, suc, _+_, _≤_, _<_}
 use lib.IntN.{ℤ, pos, negsuc}
 use lib.ListN.{length, getD}
 use Rattle.network.specs.Limits as L
-use Rattle.network.specs.Build.{observation, constraint, scenarios}
+use Rattle.network.specs.Build.{noLabel, observation, eventLabel, constraint, scenarios}
 use Rattle.network.specs.Strategy.{reaction}
+use Rattle.network.specs.Complete.{WellLabelled}
+use Rattle.network.specs.declared.Label.{Label}
 use Rattle.network.specs.declared.Constraint.{Constraint}
 use Rattle.network.specs.declared.Network.{Network}
 
@@ -16,13 +18,22 @@ abbrev pub InLimits : ℤ → Type 0
 InLimits (pos w) = w ≤ L.horizon
 InLimits (negsuc w) = suc w ≤ L.horizon
 
--- the ends are events, the limit is in range, and the label's letters are signals
+-- the label's letters are among four
+pub record FewLetters (ℓ : Label) : Type 0 where
+  pub positive : ℓ .positive < L.cases
+  pub negative : ℓ .negative < L.cases
+
+-- the label's letters are signals
+pub record Lettered (Γ : Network) (ℓ : Label) : Type 0 where
+  pub positive : ℓ .positive < scenarios Γ
+  pub negative : ℓ .negative < scenarios Γ
+
+-- of a rule: the ends are events, the limit is in range, and the label's letters are signals
 pub record Proper (Γ : Network) (c : Constraint) : Type 0 where
   pub from : c .from < Γ .events
   pub to : c .to < Γ .events
   pub bound : InLimits (c .bound)
-  pub positive : c .label .positive < scenarios Γ
-  pub negative : c .label .negative < scenarios Γ
+  pub label : Lettered Γ (c .label)
 
 -- the arrays are as long as the limits say
 pub record Arrays (Γ : Network) : Type 0 where
@@ -32,12 +43,27 @@ pub record Arrays (Γ : Network) : Type 0 where
   pub observations : length (Γ .observations) ≡ L.signals
   pub reactions : length (Γ .reactions) ≡ L.signals
   pub constraints : length (Γ .constraints) ≡ L.rules
+  pub labels : length (Γ .labels) ≡ L.events
+  pub labelled : length (Γ .labelled) ≡ L.events
+
+-- how far the labels of events are read: no line of theirs has been; some have, and more are to come; all have
+pub data Labelling : Type 0 where
+  Before : Labelling
+  Within : Labelling
+  Behind : Labelling
+
+-- what the labels keep so far: each is `-`; nothing, since what 20 and 21 ask is asked when all are read; that
+abbrev pub Labels : Labelling → Network → Type 0
+Labels Before Γ = (u : ℕ) → eventLabel Γ u ≡ noLabel
+Labels Within Γ = Unit {0}
+Labels Behind Γ = WellLabelled Γ
 
 -- how many of each are still to come, at most
 pub record ToCome : Type 0 where
   pub events : ℕ
   pub signals : ℕ
   pub rules : ℕ
+  pub labels : Labelling
 
 -- n and m more; by cases, since n + 0 does not compute to n
 abbrev pub andMore : ℕ → ℕ → ℕ
@@ -58,10 +84,12 @@ pub record Forming (t : ToCome) (Γ : Network) : Type 0 where
   pub proper : (c : ℕ) → c < Γ .rules → Proper Γ (constraint Γ c)
   -- "minutes from 1 to 60"; at least 1 it is by its definition
   pub in-range : (p : ℕ) → reaction Γ p ≤ L.slowest
+  pub lettered : (u : ℕ) → Lettered Γ (eventLabel Γ u)
+  pub labels : Labels (t .labels) Γ
 
 -- nothing is still to come
 abbrev pub WellFormed : Network → Type 0
-WellFormed Γ = Forming (record { events = 0; signals = 0; rules = 0 }) Γ
+WellFormed Γ = Forming (record { events = 0; signals = 0; rules = 0; labels = Behind }) Γ
 
 -- each event's name is a part of the sheet, of at most 8 bytes
 pub record Named (sheet : List ℕ) (Γ : Network) : Type 0 where

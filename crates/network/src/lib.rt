@@ -4,11 +4,11 @@ ghost use mathlib.Core.Path.{_≡_};
 ghost use Prim.Native.Nat.{_*_, _^_, _≤_, _<_};
 ghost use Rattle.network.specs.Limits as L;
 ghost use Rattle.network.specs.Scenario as S;
+ghost use Rattle.network.specs.Happens as E;
 ghost use Rattle.network.specs.Build.{limits, empty};
 ghost use Rattle.network.specs.WellFormed.{InLimits};
 ghost use Rattle.network.specs.Biased as B;
-ghost use Rattle.network.specs.Constraint as C;
-ghost use Rattle.network.specs.declared.Network.{Network};
+ghost use Rattle.network.specs.Joint.{join, jointOf};
 
 pub mod times;
 
@@ -39,7 +39,8 @@ pub struct Constraint {
 
 // Event u is named by the part of the sheet from starts[u] on, of lengths[u] bytes; event 0 is the origin.
 // Proposition p has the letter letters[p], the observation event observations[p] and in reactions[p] the reaction that
-// its line states, or 0 where it has none. Behind the counts the arrays hold what the empty network has.
+// its line states, or 0 where it has none. Event u happens where labels[u] holds, and labelled[u] says whether it has a
+// line. Behind the counts the arrays hold what the empty network has.
 pub struct Network {
     pub horizon: u16,
     pub events: usize,
@@ -51,9 +52,11 @@ pub struct Network {
     pub reactions: [u16; Network::SIGNALS],
     pub rules: usize,
     pub constraints: [Constraint; Network::RULES],
+    pub labels: [Label; Network::EVENTS],
+    pub labelled: [bool; Network::EVENTS],
 }
 
-// The most of each that a network holds, and the range of reactions.
+// The most of each that a network holds, the range of reactions, and what a cell without its event holds.
 pub struct Limits {
     pub horizon: u16,
     pub events: usize,
@@ -61,6 +64,7 @@ pub struct Limits {
     pub rules: usize,
     pub fastest: u16,
     pub slowest: u16,
+    pub blank: u16,
 }
 
 impl Network {
@@ -72,13 +76,18 @@ impl Network {
 
     pub const RULES: usize = 64;
 
-    // As many bounds between two times as the rules set at most.
+    // As many bounds between two times as the rules set at most; and as the rules and the waits for signals do.
     pub const BOUNDS: usize = 2 * Self::RULES;
+
+    pub const LISTED: usize = Self::BOUNDS + Self::EVENTS * Self::SIGNALS;
 
     // How many minutes after its event a signal is known, at least and at most.
     pub const FASTEST: u16 = 1;
 
     pub const SLOWEST: u16 = 60;
+
+    // What a cell of a table holds whose event does not happen in its case.
+    pub const BLANK: u16 = 65535;
 
     // As many cases as the signals make, and as many cells as a table then has.
     pub const CASES: usize = 1 << Self::SIGNALS;
@@ -96,6 +105,7 @@ impl Network {
             rules: Self::RULES,
             fastest: Self::FASTEST,
             slowest: Self::SLOWEST,
+            blank: Self::BLANK,
         }
     }
 
@@ -103,15 +113,16 @@ impl Network {
     pub fn empty(horizon: u16) -> Self
         ensures { λ r. ⌜ r ≡ empty horizon ⌝ }
     {
+        let label = Label {
+            positive: 0,
+            negative: 0,
+        };
         let c = Constraint {
             kind: Kind::Max,
             from: 0,
             to: 0,
             bound: 0,
-            label: Label {
-                positive: 0,
-                negative: 0,
-            },
+            label: label,
         };
         Network {
             horizon,
@@ -124,12 +135,14 @@ impl Network {
             reactions: [0; Self::SIGNALS],
             rules: 0,
             constraints: [c; Self::RULES],
+            labels: [label; Self::EVENTS],
+            labelled: [false; Self::EVENTS],
         }
     }
 }
 
 // Whether s satisfies the label: all of its true letters, and none of its false ones.
-fn satisfies(s: usize, label: Label) -> bool
+pub fn satisfies(s: usize, label: Label) -> bool
     requires { ⌜ (s < L.cases) × (label .positive < L.cases) × (label .negative < L.cases) ⌝ }
     ensures { λ r. ⌜ r ≡ S.satisfies s label ⌝ }
 {
@@ -141,13 +154,30 @@ fn satisfies(s: usize, label: Label) -> bool
     s & negative == 0
 }
 
-// Whether the constraint counts in s.
-pub fn covers(constraint: Constraint, s: usize) -> bool
-    requires { ⌜ (s < L.cases) × (constraint .label .positive < L.cases) × (constraint .label .negative < L.cases) ⌝ }
-    ensures { λ r. ⌜ ((Γ : Network) → r ≡ C.covers Γ constraint s) ⌝ }
+// Whether the letter of p stands in the label, with either sign.
+pub fn mentions(label: Label, p: usize) -> bool
+    requires { ⌜ (label .positive < L.cases) × (label .negative < L.cases) × (p < L.signals) ⌝ }
+    ensures { λ r. ⌜ r ≡ E.mentions label p ⌝ }
 {
-    let label = constraint.label;
-    satisfies(s, label)
+    let letters = label.positive as usize | label.negative as usize;
+    (letters >> p) & 1 == 1
+}
+
+// The letters of both labels.
+fn join(a: Label, b: Label) -> Label
+    ensures { λ r. ⌜ r ≡ join a b ⌝ }
+{
+    Label {
+        positive: a.positive | b.positive,
+        negative: a.negative | b.negative,
+    }
+}
+
+// The label under which a constraint counts: its own and those of its two events.
+pub fn joint(own: Label, from: Label, to: Label) -> Label
+    ensures { λ r. ⌜ r ≡ jointOf own from to ⌝ }
+{
+    join(own, join(from, to))
 }
 
 // How many scenarios so many propositions have.

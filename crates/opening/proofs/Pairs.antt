@@ -19,7 +19,7 @@ use Rattle.network.specs.declared.Network.{Network}
 use Rattle.sheet.specs.Reading.{read}
 use Rattle.sheet.specs.declared.Outcome.the-variants.{Accepted}
 use Rattle.sheet.proofs.WellFormed.{accepted-well-formed}
-use Rattle.solver.specs.Solve.{solve}
+use Rattle.solver.specs.Solve.{solve, found}
 use Rattle.solver.proofs.Least.{solve-least}
 use Rattle.listing.specs.Listing.{header}
 use Rattle.readback.proofs.RoundTrip.{length-recovered}
@@ -45,7 +45,7 @@ pub record Fills (sheet : List ℕ) : Type 0 where
 abbrev pub solver-fills : (sheet : List ℕ) → Fills sheet
 solver-fills sheet = record {
   tests = λ roomy Γ. (roomy, withoutLine BufferTooShort) ∷ (rests (solve Γ .end), withoutLine Inconsistent) ∷ [];
-  text = λ Γ. solve Γ .reached;
+  text = λ Γ. found Γ;
   sized = λ a roomy h.
       let Γ = read sheet .network in
       (solve-least Γ (accepted-well-formed sheet a .0) (rests-true (solve Γ .end) .0 (h .1 .0)) .solves .sized, h .0);

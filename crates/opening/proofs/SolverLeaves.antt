@@ -19,7 +19,7 @@ use Rattle.sheet.specs.declared.Outcome.{Outcome}
 use Rattle.sheet.specs.declared.Outcome.the-variants.{Accepted, Refused}
 use Rattle.sheet.specs.declared.Reading.{Reading}
 use Rattle.sheet.proofs.WellFormed.{accepted-well-formed}
-use Rattle.solver.specs.Solve.{solve}
+use Rattle.solver.specs.Solve.{solve, found}
 use Rattle.solver.specs.Solved.{solvedOf, tableAfter, SolvedIs}
 use Rattle.solver.specs.declared.Solved.{Solved}
 use Rattle.solver.specs.declared.Solved.the-variants.{Consistent, Inconsistent as None}
@@ -38,13 +38,13 @@ module _ (Γ : Network) (m x : List ℕ) (s : Solved) (is : SolvedIs Γ m x s) w
   consistent-not-none : (n k : ℕ) → _≡_ {A = Solved} (Consistent n) (None k) → ⊥
   consistent-not-none n k e = zero-is-one cc
 
-  consistent-rests : (n : ℕ) → s ≡ Consistent n → (solve Γ .end ≡ Rests) × (x ≡ inPlace m .after (solve Γ .reached))
+  consistent-rests : (n : ℕ) → s ≡ Consistent n → (solve Γ .end ≡ Rests) × (x ≡ inPlace m .after (found Γ))
   consistent-rests n q = by-end (solve Γ .end) refl
     where
       none-of : {A : Type 0} → solvedOf (solve Γ) ≡ None (solve Γ .rounds) → A
       none-of p = absurd (consistent-not-none n _ (sym q ∙ is .answer ∙ p))
 
-      by-end : (end : End) → solve Γ .end ≡ end → (solve Γ .end ≡ Rests) × (x ≡ inPlace m .after (solve Γ .reached))
+      by-end : (end : End) → solve Γ .end ≡ end → (solve Γ .end ≡ Rests) × (x ≡ inPlace m .after (found Γ))
       by-end Rests p = (p, is .table ∙ rw (p, tableAfter))
       by-end Passes p = none-of (rw (p, solvedOf))
       by-end Spent p = none-of (rw (p, solvedOf))
@@ -80,7 +80,7 @@ module _ {sheet m : List ℕ} {g : Reading} {n : ℕ} {o : Outcome} (t : Prepare
   solving-refused r p =
       kept m r
       (afterTest-refused (refusing (inPlace m)) sheet (λ Γ. leb (cells Γ) (length m)) BufferTooShort
-      (λ Γ. (rests (solve Γ .end), withoutLine Inconsistent) ∷ []) (λ Γ. writing (inPlace m) (solve Γ .reached)) r
+      (λ Γ. (rests (solve Γ .end), withoutLine Inconsistent) ∷ []) (λ Γ. writing (inPlace m) (found Γ)) r
       (sym outcome-is ∙ p))
 
   module _ (p : o ≡ Accepted) where
@@ -102,7 +102,7 @@ module _ {sheet m : List ℕ} {g : Reading} {n : ℕ} {o : Outcome} (t : Prepare
           let all : n ≡ cells net = t .counted ∙ ap (λ (y : Reading). cells (y .network)) (t .read-is) in
           leaves-as
           (call-works (refusing (inPlace m)) sheet (solvingTests (inPlace m))
-          (λ Γ. writing (inPlace m) (solve Γ .reached)) (read sheet) refl (passed .0) (passed .1, (rw (r .0), tt)))
+          (λ Γ. writing (inPlace m) (found Γ)) (read sheet) refl (passed .0) (passed .1, (rw (r .0), tt)))
           (record { answer = ap W.Count (all ∙ sym size); memory = r .1 })
 
       pub solving-none : (k : ℕ) → s ≡ None k → Leaves (solving sheet m) (W.Refused (withoutLine Inconsistent)) x
@@ -110,6 +110,6 @@ module _ {sheet m : List ℕ} {g : Reading} {n : ℕ} {o : Outcome} (t : Prepare
           let r = none-passes net m x s is-read k q in
           leaves-as
           (call-fails (refusing (inPlace m)) sheet (solvingTests (inPlace m))
-          (λ Γ. writing (inPlace m) (solve Γ .reached)) (read sheet) refl (passed .0) _
+          (λ Γ. writing (inPlace m) (found Γ)) (read sheet) refl (passed .0) _
           (inr (passed .1, inl (r .0, refl))))
           (record { answer = refl; memory = r .1 })

@@ -148,3 +148,15 @@ before-minWhere over f top t (suc n) l =
                   | inr d ↦ rw (e, d, le-ltb t (min m v) (omega (arith, ltb-false t m d)))
                 ]
           ]
+
+-- a value that does not count is as good as top
+pub minWhere-guarded : (guard test : ℕ → Bool) (f : ℕ → ℕ) (top n : ℕ)
+    → minWhere n (λ k. guard k && test k) f top ≡ minWhere n test (λ k. cond (guard k) (f k) top) top
+minWhere-guarded guard test f top zero = refl
+minWhere-guarded guard test f top (suc n) =
+    let rest = minWhere-guarded guard test f top n in
+    let low = minWhere-top test (λ k. cond (guard k) (f k) top) top n in
+    elim (either (guard n)) [
+      | inl g ↦ rw (g, rest)
+      | inr g ↦ elim (either (test n)) [ inl e ↦ rw (g, e) (omega (arith, rest, low)) | inr e ↦ rw (g, e) rest ]
+    ]

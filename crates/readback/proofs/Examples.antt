@@ -40,12 +40,14 @@ bad n k ls = bytesBad n k (lines ls)
 abbrev long : ℕ → List ℕ
 long n =
     lines ("case,start,call" ∷ []) ++ ascii "F," ++ replicate n (code "1") ++ ascii ",5"
-    ++ lineFeed ∷ lines ("T,0,65535" ∷ [])
+    ++ lineFeed ∷ lines ("T,0,65534" ∷ [])
 
 abbrev examples : List Example
 examples =
-    good ("case,start,call" ∷ "F,0,5" ∷ "T,0,65535" ∷ []) (0 ∷ 5 ∷ 0 ∷ 65535 ∷ [])
+    good ("case,start,call" ∷ "F,0,5" ∷ "T,0,65534" ∷ []) (0 ∷ 5 ∷ 0 ∷ 65534 ∷ [])
     ∷ good ("case,start,call" ∷ "F,10080,99" ∷ "T,1,0" ∷ []) (10080 ∷ 99 ∷ 1 ∷ 0 ∷ [])
+    -- a dash, in any cell, is 65,535
+    ∷ good ("case,start,call" ∷ "F,0,-" ∷ "T,-,-" ∷ []) (0 ∷ 65535 ∷ 65535 ∷ 65535 ∷ [])
     -- nothing; the header alone; no last line feed
     ∷ bytesBad 18 1 []
     ∷ bad 18 2 ("case,start,call" ∷ [])
@@ -76,7 +78,9 @@ examples =
     ∷ bad 19 2 ("case,start,call" ∷ "F,0, 5" ∷ "T,0,5" ∷ [])
     ∷ bad 19 2 ("case,start,call" ∷ "F,0," ∷ "T,0,5" ∷ [])
     ∷ bad 19 2 ("case,start,call" ∷ "F,,5" ∷ "T,0,5" ∷ [])
-    ∷ bad 19 2 ("case,start,call" ∷ "F,0,-" ∷ "T,0,5" ∷ [])
+    ∷ bad 19 2 ("case,start,call" ∷ "F,0,--" ∷ "T,0,5" ∷ [])
+    ∷ bad 19 2 ("case,start,call" ∷ "F,0,- " ∷ "T,0,5" ∷ [])
+    ∷ bad 19 3 ("case,start,call" ∷ "F,0,-" ∷ "T,0,65535" ∷ [])
     ∷ bad 19 2 ("case,start,call" ∷ "F,0,65536" ∷ "T,0,5" ∷ [])
     ∷ bad 19 2 ("case,start,call" ∷ "F,0,1234567890123456789012345678901234567890" ∷ "T,0,5" ∷ [])
     -- a carriage return

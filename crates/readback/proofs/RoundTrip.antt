@@ -11,14 +11,15 @@ use lib.Seq.{ext-getD}
 use Rattle.prelude.proofs.Tests.{lt-or-ge}
 use Rattle.prelude.proofs.Bounded.{length-tabulate, getD-tabulate}
 use Rattle.prelude.proofs.Cells.{cell-lt, row-of, column-of, by-cell}
+use Rattle.network.specs.Limits as L
 use Rattle.network.specs.Strategy.{time}
 use Rattle.listing.specs.Listing.{timeText, listingOver, timeTexts}
+use Rattle.listing.proofs.Times.{plain-timeText}
 use Rattle.listing.proofs.Same.{texts-same}
-use Rattle.readback.specs.Minute.{latest, minuteOf}
+use Rattle.readback.specs.Minute.{minuteOf}
 use Rattle.readback.specs.Form.{longestRead, Formed}
 use Rattle.readback.specs.Rows.{cellOf, rowsTable, textOf, misfit, unread, recovered}
-use Rattle.readback.proofs.Minutes.{isMinute-timeText, minuteOf-timeText, plain-timeText, timeText-minuteOf}
-use Rattle.readback.proofs.Minutes.{minuteOf-le}
+use Rattle.readback.proofs.Minutes.{isMinute-timeText, minuteOf-timeText, timeText-minuteOf, minuteOf-le}
 use Rattle.readback.proofs.Formed.{formed-iff, texts-read}
 use Rattle.readback.proofs.Unread.{minutes-read, minutes-iff}
 
@@ -37,11 +38,11 @@ module _ (head : List ℕ) (k n : ℕ) (bytes : List ℕ) where
       ∙ rw (row-of n s u g, column-of n s u g)
 
   module _ (q : unread head k n bytes ≡ none) where
-    pub recovered-short : (i : ℕ) → getD found i 0 ≤ latest
+    pub recovered-short : (i : ℕ) → getD found i 0 ≤ L.blank
     recovered-short i =
         elim (lt-or-ge i (n * 2 ^ k)) [
           | inl h ↦
-              by-cell n (2 ^ k) (λ j. getD found j 0 ≤ latest)
+              by-cell n (2 ^ k) (λ j. getD found j 0 ≤ L.blank)
               (λ s u l g. rw (cell-is s u l g) (minuteOf-le _ (minutes-read head k n bytes q s l u g))) i h
           | inr h ↦ omega (arith, List·getD-eq-default found 0 {n = i} (omega (arith, length-recovered)))
         ]
@@ -57,7 +58,7 @@ module _ (head : List ℕ) (k n : ℕ) (bytes : List ℕ) where
         ∙ sym (x .fitting .is)
 
 -- a table of times that can be printed, and whose listing is not too long
-module _ (head : List ℕ) (k n : ℕ) (σ : List ℕ) (short : (i : ℕ) → getD σ i 0 ≤ latest)
+module _ (head : List ℕ) (k n : ℕ) (σ : List ℕ) (short : (i : ℕ) → getD σ i 0 ≤ L.blank)
     (fits : length (listingOver k n (timeTexts n σ) head) ≤ longestRead) where
   abbrev printed : List ℕ
   printed = listingOver k n (timeTexts n σ) head

@@ -5,8 +5,9 @@ use mathlib.Core.Option.{Option, none, some}
 use mathlib.Core.List.{List, _++_}
 use Prim.Native.Nat.{ℕ, _+_, _*_, _^_, _≤_, _<_}
 use lib.ListN.{length, drop, getD, set}
+use Rattle.text.specs.Number.{magnitude}
 use Rattle.network.specs.Limits as N
-use Rattle.readback.specs.Minute.{isMinute, minuteOf}
+use Rattle.readback.specs.Minute.{inDigits, isMinute, minuteOf}
 use Rattle.readback.specs.Rows.{textIn, areMinutes, cellOf, rowsUnread, rowsTable, headerFits, misfit}
 use Rattle.readback.specs.declared.Answer.{Answer}
 use Rattle.readback.specs.declared.Answer.the-variants as A
@@ -17,6 +18,10 @@ use Rattle.readback.specs.declared.Minute.{Minute}
 use Rattle.readback.specs.declared.Minute.the-variants as M
 use Rattle.readback.specs.declared.Line.{Line}
 use Rattle.readback.specs.declared.Line.the-variants as L
+
+-- the minute that a text is in digits
+abbrev pub digitsIn : List ℕ → Minute
+digitsIn f = cond (inDigits f) (M.At (magnitude f)) M.IllFormed
 
 -- the minute that a text is
 abbrev pub minuteIn : List ℕ → Minute

@@ -12,15 +12,15 @@ ghost use Rattle.network.specs.WellFormed.{WellFormed, Named};
 ghost use Rattle.listing.specs.Listing.{scenarioText, header};
 ghost use Rattle.readback.specs.Form.{longestRead};
 ghost use Rattle.readback.specs.Rows.{isRow, rowsMisfit, lineNumber};
-ghost use Rattle.readback.specs.Answers.{minuteIn, faultAnswer, lineAnswer, MinutePut, RowRead, HeadIs};
-ghost use Rattle.readback.specs.Answers.{RowsRead, TimesRead, ReadIs};
+ghost use Rattle.readback.specs.Answers.{digitsIn, minuteIn, faultAnswer, lineAnswer, MinutePut};
+ghost use Rattle.readback.specs.Answers.{RowRead, HeadIs, RowsRead, TimesRead, ReadIs};
 use network::Network;
 use text::Number;
 
-// The most bytes of a listing that is read back, and the last minute that is printed.
+// The most bytes of a listing that is read back, and the last minute that is printed in digits.
 pub const LONGEST: usize = 4096;
 
-const LATEST: u32 = 65535;
+const LATEST: u32 = 65534;
 
 // So many minutes were written; or the first line of the listing that is not this sheet's, or that has a text that is
 // no minute; or the table is too short.
@@ -49,8 +49,9 @@ enum Minute {
     At(u16),
 }
 
-fn minute_in(f: &[u8]) -> Minute
-    ensures { λ r. ⌜ r ≡ minuteIn (now (f .entry)) ⌝ }
+// Of a text in digits.
+fn digits_in(f: &[u8]) -> Minute
+    ensures { λ r. ⌜ r ≡ digitsIn (now (f .entry)) ⌝ }
 {
     let n = text::read_number(f, LATEST);
     match n {
@@ -63,6 +64,16 @@ fn minute_in(f: &[u8]) -> Minute
             Minute::At(v as u16)
         }
     }
+}
+
+// Of any text: a dash stands where the event does not happen.
+fn minute_in(f: &[u8]) -> Minute
+    ensures { λ r. ⌜ r ≡ minuteIn (now (f .entry)) ⌝ }
+{
+    if text::equal(f, b"-") {
+        return Minute::At(Network::BLANK);
+    }
+    digits_in(f)
 }
 
 // Whether a text is the mark of scenario s.

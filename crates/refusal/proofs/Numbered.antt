@@ -25,3 +25,5 @@ numbered C.NeverHeard e = omega arith
 numbered C.TooManyRows e = omega arith
 numbered C.OtherForm e = omega arith
 numbered C.NoMinute e = omega arith
+numbered C.StartLabelled e = omega arith
+numbered C.IncompleteLabel e = omega arith

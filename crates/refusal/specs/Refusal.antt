@@ -27,9 +27,14 @@ numberOf C.NeverHeard = 16
 -- "17, more than 64 rows would be left" (02, point 2)
 numberOf C.TooManyRows = 17
 -- "18, the listing is longer than 4,096 bytes (line 1), or its header, cases, fields or line ends are not this
--- sheet's, a line missing or left over included; 19, a minute is ill-formed, negative or over 65,535" (02, point 4)
+-- sheet's, a line missing or left over included; 19, a minute is ill-formed, negative or over 65,535" (02, point 4),
+-- and "the digits 65535 are refused with 19" (point 6)
 numberOf C.OtherForm = 18
 numberOf C.NoMinute = 19
+-- "20, the start is given a label other than `-`; 21, an event's or rule's label lacks part of the label of an event
+-- whose signal it uses; both after 9" (02, point 6)
+numberOf C.StartLabelled = 20
+numberOf C.IncompleteLabel = 21
 
 -- a refusal with its line
 abbrev pub refusal : Cause → ℕ → Refusal

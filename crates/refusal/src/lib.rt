@@ -14,8 +14,8 @@ pub enum Cause {
     OutOfRange,
     // A name, letter or label is ill-formed.
     IllFormedName,
-    // A name or letter is defined a second time, its event already gives a signal, or the letter already has a line
-    // among the reactions.
+    // A name or letter is defined a second time, its event already gives a signal, or the letter or event already has a
+    // line among the reactions or cases.
     Duplicate,
     // An event or letter is used that is not defined.
     Undefined,
@@ -39,8 +39,12 @@ pub enum Cause {
     TooManyRows,
     // A listing is longer than 4,096 bytes, or its header, cases, fields or line ends are not the sheet's.
     OtherForm,
-    // A minute of a listing is ill-formed, negative or over 65,535.
+    // A minute of a listing is ill-formed, negative or over 65,534, and no dash.
     NoMinute,
+    // The start is given a label other than the dash.
+    StartLabelled,
+    // A label lacks part of the label of an event whose signal it uses.
+    IncompleteLabel,
 }
 
 // A line is counted from 1; 0 where the refusal concerns no line.
@@ -73,5 +77,7 @@ pub fn number(cause: Cause) -> u8
         Cause::TooManyRows => 17,
         Cause::OtherForm => 18,
         Cause::NoMinute => 19,
+        Cause::StartLabelled => 20,
+        Cause::IncompleteLabel => 21,
     }
 }

@@ -35,7 +35,6 @@ pub atLeast-to : (a b : ℕ) (w : ℤ) → leastTo a w ≤ b → atLeast a b w �
 atLeast-to a b (pos w) h = le-leb (a + w) b h
 atLeast-to a b (negsuc w) h = le-leb a (b + suc w) (omega arith)
 
--- later times ask no less
 -- a time that is at most e later asks for a time that is at most e later
 pub leastFrom-near : (e b c : ℕ) (w : ℤ) → b ≤ c + e → leastFrom b w ≤ leastFrom c w + e
 leastFrom-near e b c (pos w) h = omega arith
@@ -63,16 +62,19 @@ module _ (a b : ℕ) (w : ℤ) where
   halves Min f g = g refl
   halves Fix f g = and-both (atMost a b w) (atLeast a b w) (f refl) (g refl)
 
--- what is asked where a test holds, and nothing elsewhere
-pub cond-near : (e : ℕ) (t : Bool) (x y : ℕ) → x ≤ y + e → cond t x 0 ≤ cond t y 0 + e
-cond-near e true x y h = h
-cond-near e false x y h = omega arith
+-- what is asked where a test holds, and elsewhere, or nothing elsewhere
+pub either-near : (e : ℕ) (t : Bool) (x x′ y y′ : ℕ) → x ≤ y + e → x′ ≤ y′ + e → cond t x x′ ≤ cond t y y′ + e
+either-near e true x x′ y y′ h k = h
+either-near e false x x′ y y′ h k = k
 
-cond-le : (t : Bool) (x m : ℕ) → (t ≡ true → x ≤ m) → cond t x 0 ≤ m
+pub cond-near : (e : ℕ) (t : Bool) (x y : ℕ) → x ≤ y + e → cond t x 0 ≤ cond t y 0 + e
+cond-near e t x y h = either-near e t x 0 y 0 h (omega arith)
+
+pub cond-le : (t : Bool) (x m : ℕ) → (t ≡ true → x ≤ m) → cond t x 0 ≤ m
 cond-le true x m h = h refl
 cond-le false x m h = omega arith
 
-le-cond : (t : Bool) (x m : ℕ) → t ≡ true → cond t x 0 ≤ m → x ≤ m
+pub le-cond : (t : Bool) (x m : ℕ) → t ≡ true → cond t x 0 ≤ m → x ≤ m
 le-cond t x m e h = rw e at h
 
 module _ (Γ : Network) (σ : List ℕ) (s : ℕ) (c : Constraint) where

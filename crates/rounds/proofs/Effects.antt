@@ -16,7 +16,7 @@ use Rattle.fixpoint.proofs.Leads.{leads-one}
 use Rattle.network.specs.Build.{scenarios}
 use Rattle.network.specs.declared.Network.{Network}
 use Rattle.rows.specs.declared.Frame.{Frame}
-use Rattle.rows.specs.Rows.{Times}
+use Rattle.rows.specs.Rows.{Times, FrameTimes}
 use Rattle.rows.specs.Framed.{Framed}
 use Rattle.rows.proofs.Gapless.{length-gapless}
 use Rattle.rounds.specs.declared.Effect.{Effect}
@@ -48,9 +48,9 @@ pub rounded-as : {Γ : Network} {t t′ : List ℕ} {r r′ : Effect} → r ≡ 
 rounded-as e h = rw e at h
 
 -- times in the frame's terms
-pub times-framed : (Γ : Network) (frame : Frame) → Framed Γ frame → {t : List ℕ} → Times (Γ .events) (scenarios Γ) t
-    → Times (frame .events) (frame .scenarios) t
-times-framed Γ frame F T = rw (F .events, F .scenarios-are) T
+pub times-framed : (Γ : Network) (frame : Frame) → Framed Γ frame → {t : List ℕ}
+    → Times (Γ .events) (Γ .labels) (scenarios Γ) t → FrameTimes frame t
+times-framed Γ frame F T = rw (F .events, F .labels, F .scenarios-are) T
 
 module _ (Γ : Network) where
   pub length-held : (t : List ℕ) → length (held Γ t) ≡ length (cap Γ)

@@ -8,6 +8,7 @@ pub mod Rising
 pub mod Cap
 pub mod Differ
 pub mod Constrained
+pub mod Waits
 pub mod Raise
 pub mod Raised
 pub mod Usable

@@ -1,20 +1,24 @@
--- How a row is raised: by the bounds of its scenario, then by the other scenarios in the order of their differences.
--- Assumes nothing.
-use mathlib.Core.Path.{_≡_, _∙_, ap}
+-- How a row is raised: by the bounds of its scenario, then by the other scenarios in the order of their differences;
+-- and cleared where an event does not happen. Assumes nothing.
+use mathlib.Core.Path.{_≡_, refl, _∙_, ap}
+use mathlib.Core.Logic.{inl, inr}
+use mathlib.Core.Bool.{true, false, cond}
 use mathlib.Core.List.{List}
 use Prim.Native.Nat.{ℕ, _+_, _-_, _*_, _≤_, _<_, max, min}
 use native.Mathlib.Numerals.{add-one}
 use native.Mathlib.Omega.{arith}
 use lib.Bits.{bitXor, xor-zero-r}
-use lib.ListN.{getD}
+use lib.ListN.{length, getD}
 use Rattle.prelude.specs.Bounded.{maxBelow}
+use Rattle.prelude.proofs.Tests.{either}
 use Rattle.network.specs.Build.{scenarios}
-use Rattle.network.specs.Strategy.{knownFrom}
+use Rattle.network.specs.Happens.{happens}
 use Rattle.network.specs.declared.Network.{Network}
 use Rattle.rows.specs.declared.Frame.{Frame}
-use Rattle.rows.specs.Framed.{Framed}
-use Rattle.rows.specs.Rows.{rowOf, Row, Stored}
-use Rattle.rows.specs.Known.{FirstKnown}
+use Rattle.rows.specs.Framed.{present, Framed}
+use Rattle.rows.specs.Rows.{rowOf, Row, Stored, Times}
+use Rattle.rows.specs.Known.{knownIn, FirstKnown}
+use Rattle.rows.proofs.Framed.{present-happens, present-labels}
 use Rattle.rows.proofs.Gapless.{row-at}
 use Rattle.bounds.specs.Listed.{listAsks}
 use Rattle.bounds.proofs.Listed.{maxBelow-ext}
@@ -44,28 +48,43 @@ module _ (counts lists t : List ℕ) (s : ℕ) where
       → Row o′ (λ u. max (getD o₀ u 0) (across t first s (d + 1) u))
   across-next first o₀ d h i = record { sized = i .sized; is = λ u b. rw add-one (omega (arith, i .is u b, h .is u b)) }
 
-  -- a raised row is not below the row before
-  pub rises : {row o₀ o : List ℕ} (f : ℕ → ℕ) → row ≡ rowOf t s → Row o₀ ruled → Row o (λ u. max (getD o₀ u 0) (f u))
-      → (u : ℕ) → u < 16 → getD row u 0 ≤ getD o u 0
-  rises f e h i u l = rw e (omega (arith, h .is u l, i .is u l, row-at t s u l))
+  -- what is cleared where an event does not happen is not below the row before, which has zero there
+  pub rises : {row o₀ o o′ : List ℕ} (frame : Frame) {n c : ℕ} (f : ℕ → ℕ) → Times n (frame .labels) c t → s < c
+      → row ≡ rowOf t s → Row o₀ ruled → Row o (λ u. max (getD o₀ u 0) (f u))
+      → Row o′ (λ u. cond (present frame s u) (getD o u 0) 0) → (u : ℕ) → u < 16 → getD row u 0 ≤ getD o′ u 0
+  rises frame f T hs e h i j u l =
+      rw (e, j .is u l)
+      (elim (either (present frame s u)) [
+        | inl p ↦ rw p (omega (arith, h .is u l, i .is u l, row-at t s u l))
+        | inr p ↦ rw p (omega (arith, row-at t s u l, T .absent s u hs l (present-labels frame s u p)))
+      ])
 
-  pub raised-row : {first o₀ o : List ℕ} (Γ : Network) {frame : Frame} → Framed Γ frame
-      → FirstKnown (frame .signals) (knownFrom Γ (held Γ t) s) first → Row o₀ ruled
+  pub raised-row : {first o₀ o o′ : List ℕ} (Γ : Network) {frame : Frame} → Framed Γ frame
+      → FirstKnown (frame .signals) (knownIn Γ (held Γ t) s) first → Row o₀ ruled
       → Row o (λ u. max (getD o₀ u 0) (across t first s (frame .scenarios) u))
-      → Row o (λ u. raisedAt Γ counts lists t s u)
+      → Row o′ (λ u. cond (present frame s u) (getD o u 0) 0)
+      → Row o′ (λ u. raisedAt Γ counts lists t s u)
   unfolding raisedAt
-  raised-row Γ F k h i = record {
-    sized = i .sized;
+  raised-row Γ F k h i j = record {
+    sized = j .sized;
     is =
         λ u l.
-        omega (
+        j .is u l ∙
+        rw (present-happens F s u)
+        (ap (λ (x : ℕ). cond (happens Γ s u) x 0)
+        (omega (
           arith,
           (rw (F .scenarios-are) at i) .is u l,
           h .is u l,
           maxBelow-ext _ _ (scenarios Γ)
               (λ d m. ap (λ (x : ℕ). min (getD t (bitXor s d * 16 + u) 0) x) ((rw (F .signals) at k) .is d m)),
-        );
+        )));
   }
+
+-- where no event has a label, what is kept where events happen is the row
+pub kept-row : (frame : Frame) (s : ℕ) {o : List ℕ} → frame .labelled ≡ false → length o ≡ 16
+    → Row o (λ u. cond (present frame s u) (getD o u 0) 0)
+kept-row frame s e l = record { sized = l; is = λ u _. rw e }
 
 -- rows that are the same are stored the same
 pub stored-ext : {t t′ climb climb′ highest highest′ : List ℕ} {s : ℕ} (f f′ g g′ : ℕ → ℕ)

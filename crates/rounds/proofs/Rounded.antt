@@ -16,24 +16,26 @@ use Rattle.prelude.proofs.Bounded.{le-maxBelow, maxBelow-le}
 use Rattle.prelude.proofs.Bytes.{same-true, same-of-eq}
 use Rattle.prelude.proofs.Cells.{by-cell}
 use Rattle.fixpoint.specs.Run.{within}
-use Rattle.network.specs.Build.{scenarios, cells}
+use Rattle.network.specs.Build.{noLabel, eventLabel, scenarios, cells}
+use Rattle.network.specs.Scenario.{satisfies}
+use Rattle.network.specs.Happens.{happens}
 use Rattle.network.specs.declared.Network.{Network}
 use Rattle.rows.specs.declared.Frame.{Frame}
-use Rattle.rows.specs.Rows.{gapless, Times}
+use Rattle.rows.specs.Rows.{gapless, Times, FrameTimes}
 use Rattle.rows.proofs.Gapless.{length-gapless, gapless-at}
 use Rattle.rounds.specs.declared.Effect.{Effect}
 use Rattle.rounds.specs.declared.Effect.the-variants.{Passes, Rests, Rises}
 use Rattle.rounds.specs.Propagate.{propagate, raised}
-use Rattle.rounds.specs.Cap.{cap}
+use Rattle.rounds.specs.Cap.{fixed, cap}
 use Rattle.rounds.specs.Compiled.{Compiled}
 use Rattle.rounds.specs.Rounds.{raisedAt, effectOf, Rounded}
 use Rattle.rounds.proofs.Rounding.{Rounding, greatest, le-greatest, greatest-le}
-use Rattle.rounds.proofs.Raised.{raised-is, raised-beyond}
-use Rattle.rounds.proofs.Rising.{length-propagate, time-propagate}
+use Rattle.rounds.proofs.Raised.{raised-is, raised-beyond, raised-away}
+use Rattle.rounds.proofs.Rising.{length-propagate, time-propagate, raised-up}
 use Rattle.rounds.proofs.Cap.{cond-few, within-cap, cap-within}
 
 module _ {Γ : Network} {frame : Frame} {counts lists t new climb highest : List ℕ} (C : Compiled Γ frame counts lists)
-    (T : Times (Γ .events) (scenarios Γ) t)
+    (T : Times (Γ .events) (Γ .labels) (scenarios Γ) t)
     (R : Rounding (raisedAt Γ counts lists t) (scenarios Γ) t new climb highest (scenarios Γ)) where
   abbrev σ : List ℕ
   σ = gapless (Γ .events) (scenarios Γ) t
@@ -47,6 +49,9 @@ module _ {Γ : Network} {frame : Frame} {counts lists t new climb highest : List
 
   beyond : (s u : ℕ) → s < scenarios Γ → Γ .events ≤ u → u < 16 → made s u ≡ 0
   beyond s u h l m = raised-beyond Γ frame counts lists t C T s h u l m
+
+  away : (s u : ℕ) → s < scenarios Γ → happens Γ s u ≡ false → made s u ≡ 0
+  away s u h e = raised-away Γ frame counts lists t C T s h u e
 
   made-at : (s u : ℕ) → s < scenarios Γ → u < Γ .events → getD (propagate Γ σ) (s * Γ .events + u) 0 ≡ made s u
   made-at s u h l = time-propagate Γ σ s u h l ∙ sym (made-is s u h l)
@@ -75,22 +80,24 @@ module _ {Γ : Network} {frame : Frame} {counts lists t new climb highest : List
   origin-is = R .highest-is .is 0 (omega arith)
 
   within-is : greatest highest ≤ Γ .horizon → getD highest 0 0 ≤ 0 → within (cap Γ) (propagate Γ σ) ≡ true
-  within-is p q = within-cap Γ (propagate Γ σ) (λ s u h l. (
-    omega (arith, made-at s u h l, le-greatest _ _ (R .highest-is) s u h (omega (arith, sixteen-events))),
-    λ z.
+  within-is p q = within-cap Γ (propagate Γ σ) (λ s u h l. record {
+    in-horizon = omega
+        (arith, made-at s u h l, le-greatest _ _ (R .highest-is) s u h (omega (arith, sixteen-events)));
+    origin = λ z.
         let start : made s u ≤ 0 = rw z (omega (arith, origin-is, le-maxBelow (λ r. made r 0) (scenarios Γ) s h)) in
-        omega (arith, made-at s u h l),
-  ))
+        omega (arith, made-at s u h l);
+    absent = λ e. made-at s u h l ∙ away s u h e;
+  })
 
   limit-of : within (cap Γ) (propagate Γ σ) ≡ true → (s u : ℕ) → s < scenarios Γ → u < Γ .events
-      → made s u ≤ cond (eqb u 0) 0 (Γ .horizon)
+      → made s u ≤ cond (fixed Γ s u) 0 (Γ .horizon)
   limit-of e s u h l = omega (arith, cap-within Γ (propagate Γ σ) e s u h l, made-at s u h l)
 
   highest-of : within (cap Γ) (propagate Γ σ) ≡ true → greatest highest ≤ Γ .horizon
   highest-of e =
       greatest-le _ _ (R .highest-is) (Γ .horizon)
       (all-cells (λ s u. made s u ≤ Γ .horizon)
-      (λ s u h l. omega (arith, limit-of e s u h l, cond-few (eqb u 0) (Γ .horizon) (Γ .horizon) (omega arith)))
+      (λ s u h l. omega (arith, limit-of e s u h l, cond-few (fixed Γ s u) (Γ .horizon) (Γ .horizon) (omega arith)))
       (λ s u h l m. omega (arith, beyond s u h l m)))
 
   origin-of : within (cap Γ) (propagate Γ σ) ≡ true → getD highest 0 0 ≤ 0
@@ -103,7 +110,8 @@ module _ {Γ : Network} {frame : Frame} {counts lists t new climb highest : List
 
   -- whether anything rose
   above : (s u : ℕ) → s < scenarios Γ → u < Γ .events → getD t (s * 16 + u) 0 ≤ made s u
-  above s u h l = omega (arith, made-is s u h l, gapless-at (Γ .events) (scenarios Γ) t s u h l)
+  above s u h l =
+      omega (arith, made-is s u h l, raised-up Γ σ s u, gapless-at (Γ .events) (scenarios Γ) t s u h l)
 
   same-is : greatest climb ≡ 0 → same (propagate Γ σ) σ ≡ true
   same-is e =
@@ -138,8 +146,17 @@ module _ {Γ : Network} {frame : Frame} {counts lists t new climb highest : List
       in
       omega arith
 
+  -- an event whose label does not hold does not happen
+  happens-label : (s u : ℕ) → satisfies s (eventLabel Γ u) ≡ false → happens Γ s u ≡ false
+  unfolding happens
+  happens-label s u e = e
+
   -- the three ways
-  rounded : (r : Effect) → r ≡ effectOf Γ σ → (r ≡ Rises → Times (Γ .events) (scenarios Γ) new) → Rounded Γ t new r
+  rounded :
+      (r : Effect)
+      → r ≡ effectOf Γ σ
+      → (r ≡ Rises → Times (Γ .events) (Γ .labels) (scenarios Γ) new)
+      → Rounded Γ t new r
   rounded r e f = record { sized = R .sized; made = gapless-made; effect-is = e; times = f }
 
   pub ends-passing : (Γ .horizon < greatest highest) ⊎ (0 < getD highest 0 0) → Rounded Γ t new Passes
@@ -167,12 +184,14 @@ module _ {Γ : Network} {frame : Frame} {counts lists t new climb highest : List
               λ s u h l.
               omega (arith, R .done s u h l, le-greatest _ _ (R .highest-is) s u h l, C .formed .horizon);
           beyond = λ s u h l m. R .done s u h m ∙ beyond s u h l m;
+          absent = λ s u h m e. R .done s u h m ∙ away s u h (happens-label s u e);
         })
 
 -- what the code knows of its frame is known of the network
 module _ {Γ : Network} {frame : Frame} {counts lists t : List ℕ} (C : Compiled Γ frame counts lists) where
-  pub framed-times : Times (frame .events) (frame .scenarios) t → Times (Γ .events) (scenarios Γ) t
-  framed-times T = rw (C .framed .events, C .framed .scenarios-are) at T
+  pub framed-times : FrameTimes frame t
+      → Times (Γ .events) (Γ .labels) (scenarios Γ) t
+  framed-times T = rw (C .framed .events, C .framed .labels, C .framed .scenarios-are) at T
 
   pub framed-rounds : {made : ℕ → ℕ → ℕ} {new climb highest : List ℕ} {s : ℕ}
       → Rounding made (frame .scenarios) t new climb highest s → frame .scenarios ≤ s

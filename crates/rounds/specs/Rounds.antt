@@ -1,6 +1,6 @@
 -- What a round makes of a table, and what its effect is.
 use mathlib.Core.Path.{_≡_}
-use mathlib.Core.Bool.{Bool, true, false}
+use mathlib.Core.Bool.{Bool, true, false, cond}
 use mathlib.Core.List.{List}
 use Prim.Native.Nat.{ℕ, _+_, _-_, _*_, max, min}
 use lib.Bits.{bitXor}
@@ -10,10 +10,10 @@ use Rattle.prelude.specs.Bytes.{same}
 use Rattle.fixpoint.specs.Run.{within}
 use Rattle.network.specs.Limits as L
 use Rattle.network.specs.Build.{scenarios}
-use Rattle.network.specs.Strategy.{knownFrom}
+use Rattle.network.specs.Happens.{happens}
 use Rattle.network.specs.declared.Network.{Network}
 use Rattle.rows.specs.Rows.{gapless, rowOf, Times}
-use Rattle.rows.specs.Known.{firstOf}
+use Rattle.rows.specs.Known.{knownIn, firstOf}
 use Rattle.bounds.specs.Listed.{listAsks}
 use Rattle.rounds.specs.declared.Effect.{Effect}
 use Rattle.rounds.specs.declared.Effect.the-variants.{Passes, Rests, Rises}
@@ -24,13 +24,15 @@ use Rattle.rounds.specs.Cap.{cap}
 abbrev pub held : Network → List ℕ → List ℕ
 held Γ t = gapless (Γ .events) (scenarios Γ) t
 
--- what it makes of event u in scenario s: the other scenarios are told by the set d of propositions on which they
--- differ from s
+-- what it makes of event u in scenario s, where that happens: the other scenarios are told by the set d of propositions
+-- on which they differ from s. Elsewhere zero stays
 unfoldable pub raisedAt : Network → List ℕ → List ℕ → List ℕ → ℕ → ℕ → ℕ
 raisedAt Γ counts lists t s u =
-    max (max (getD t (s * 16 + u) 0) (listAsks counts lists s (rowOf t s) u - L.horizon))
+    cond (happens Γ s u)
+    (max (max (getD t (s * 16 + u) 0) (listAsks counts lists s (rowOf t s) u - L.horizon))
     (maxBelow (scenarios Γ)
-    (λ d. min (getD t (bitXor s d * 16 + u) 0) (firstOf (Γ .signals) (knownFrom Γ (held Γ t) s) d)))
+    (λ d. min (getD t (bitXor s d * 16 + u) 0) (firstOf (Γ .signals) (knownIn Γ (held Γ t) s) d))))
+    0
 
 -- by the two tests of a run: no time is over its limit; no time was raised
 abbrev pub effect : Bool → Bool → Effect
@@ -46,4 +48,4 @@ pub record Rounded (Γ : Network) (t t′ : List ℕ) (r : Effect) : Type 0 wher
   pub sized : length t′ ≡ 256
   pub made : held Γ t′ ≡ propagate Γ (held Γ t)
   pub effect-is : r ≡ effectOf Γ (held Γ t)
-  pub times : r ≡ Rises → Times (Γ .events) (scenarios Γ) t′
+  pub times : r ≡ Rises → Times (Γ .events) (Γ .labels) (scenarios Γ) t′

@@ -1,11 +1,11 @@
 // One round of value iteration (004, Theorem 1): every time from the table before it, in rows of sixteen times. The
-// constraints are first compiled into lists of difference bounds, one for each scenario.
+// constraints and waits are first compiled into lists of difference bounds, one for each scenario.
 ghost use mathlib.Core.Path.{_≡_};
 ghost use Prim.Native.Nat.{_+_, _*_, _<_};
 ghost use lib.ListN.{length, getD};
 ghost use Rattle.network.specs.Limits as L;
 ghost use Rattle.network.specs.declared.Network.{Network};
-ghost use Rattle.rows.specs.Rows.{Few, Times, Stored};
+ghost use Rattle.rows.specs.Rows.{Few, FrameTimes, Stored};
 ghost use Rattle.rounds.specs.Compiled.{Compiled, Usable};
 ghost use Rattle.rounds.specs.Rounds.{raisedAt, Rounded};
 use network::Network;
@@ -21,7 +21,8 @@ pub enum Effect {
     Rises,
 }
 
-// Row s of new: the times of scenario s in t, raised to what constraints and hyperarcs ask.
+// Row s of new: the times of scenario s in t, raised to what constraints, waits and hyperarcs ask, where their events
+// happen.
 fn raise_row(
     t: &[u16; Network::CELLS],
     new: &mut [u16; Network::CELLS],
@@ -33,7 +34,7 @@ fn raise_row(
     highest: &mut [u16; Network::EVENTS],
 )
     requires { ⌜ (s < frame .scenarios) × Usable frame (now counts) (now lists)
-        × Times (frame .events) (frame .scenarios) (now t) × (length (now new) ≡ L.cells)
+        × FrameTimes frame (now t) × (length (now new) ≡ L.cells)
         × (length (now climb) ≡ L.events) × Few 32767 (now climb)
         × (length (now highest) ≡ L.events) × Few 32767 (now highest) ⌝ }
     ensures { λ _. ⌜ ((Γ : Network) → Compiled Γ frame (now (counts .entry)) (now (lists .entry))
@@ -44,7 +45,7 @@ fn raise_row(
     let mut row: [u16; Network::EVENTS] = [0; Network::EVENTS];
     rows::read_row(t, s, &mut row);
     let mut first: [u16; Network::CASES] = [0; Network::CASES];
-    known::first_known(&row, frame, &mut first);
+    known::first_known(&row, frame, s, &mut first);
     let mut o: [u16; Network::EVENTS] = [0; Network::EVENTS];
     bounds::lift(&row, &mut o);
     bounds::raise_by_bounds(s, counts, lists, &row, &mut o);
@@ -54,6 +55,9 @@ fn raise_row(
     while d < scenarios {
         rows::raise_by_scenario(t, s ^ d, first[d], &mut o);
         d += 1;
+    }
+    if frame.labelled {
+        rows::clear_absent(frame, s, &mut o);
     }
     rows::store_row(new, s, &row, &o, climb, highest)
 }
@@ -66,7 +70,7 @@ pub fn round(
     counts: &[usize; Network::CASES],
     lists: &[u16; bounds::LIST],
 ) -> Effect
-    requires { ⌜ Usable frame (now counts) (now lists) × Times (frame .events) (frame .scenarios) (now t)
+    requires { ⌜ Usable frame (now counts) (now lists) × FrameTimes frame (now t)
         × (length (now new) ≡ L.cells) ⌝ }
     ensures { λ r. ⌜ ((Γ : Network) → Compiled Γ frame (now (counts .entry)) (now (lists .entry))
         → Rounded Γ (now (t .entry)) (now (new .exit)) r) ⌝ }

@@ -1,7 +1,7 @@
 -- Laws of first known times: the table by doubling, and known times by a row. Assumes nothing.
 use mathlib.Core.Path.{_≡_, refl, _∙_, ap, ap₂}
 use mathlib.Core.Logic.{inl, inr}
-use mathlib.Core.Bool.{true, false}
+use mathlib.Core.Bool.{true, false, cond}
 use mathlib.Core.List.{List}
 use Prim.Native.Nat.{ℕ, zero, suc, _+_, _-_, _/_, _%_, _^_, _≤_, _<_, min}
 use native.Mathlib.Nat.{pow-le-pow-right}
@@ -18,9 +18,10 @@ use Rattle.network.specs.Strategy.{knownFrom}
 use Rattle.network.specs.WellFormed.{WellFormed}
 use Rattle.network.specs.declared.Network.{Network}
 use Rattle.rows.specs.declared.Frame.{Frame}
-use Rattle.rows.specs.Framed.{WithinHour, Framed}
+use Rattle.rows.specs.Framed.{present, Framed}
 use Rattle.rows.specs.Rows.{RowIn}
-use Rattle.rows.specs.Known.{firstOf, FirstKnown, Doubled}
+use Rattle.rows.specs.Known.{knownIn, firstOf, FirstKnown, Doubled}
+use Rattle.rows.proofs.Framed.{present-happens}
 
 -- the digits of d, and of d with proposition i added
 top : (i d : ℕ) → i < 4 → d < 2 ^ i → (truth d i ≡ false) × (truth (2 ^ i + d) i ≡ true)
@@ -118,15 +119,12 @@ first-fewer f g k m F h l e = record {
 -- from when on p is known, by a row of its scenario; the remainder changes nothing, since observations are events
 pub known-in-row : (Γ : Network) (σ : List ℕ) (s : ℕ) {frame : Frame} {row : List ℕ} → WellFormed Γ → Framed Γ frame
     → RowIn Γ σ s row → (p : ℕ) → p < frame .signals
-    → getD row (getD (frame .observations) p 0 % 16) 0 + getD (frame .reactions) p 0 ≡ knownFrom Γ σ s p
+    → cond (present frame s (getD (frame .observations) p 0 % 16))
+    (getD row (getD (frame .observations) p 0 % 16) 0 + getD (frame .reactions) p 0) 32767
+    ≡ knownIn Γ σ s p
 known-in-row Γ σ s {frame} {row} W F R p l =
     let u = observation Γ p in
     let inside : u < Γ .events = W .observed p (omega (arith, F .signals)) in
     let seen : getD (frame .observations) p 0 ≡ u = ap (λ (xs : List ℕ). getD xs p 0) (F .observations) in
     let place : getD (frame .observations) p 0 % 16 ≡ u = omega (arith, W .events) in
-    ap₂ _+_ (ap (λ (v : ℕ). getD row v 0) place ∙ R .at u inside)
-    (F .reactions p (omega (arith, F .signals, W .signals)))
-
--- a frame's reactions are within their limit
-pub within-hour : {Γ : Network} {frame : Frame} → WellFormed Γ → Framed Γ frame → WithinHour frame
-within-hour W F p l = omega (arith, F .reactions p l, W .in-range p)
+    rw (place, present-happens F s u, R .at u inside, F .reactions p (omega (arith, F .signals, W .signals)))

@@ -1,10 +1,18 @@
 -- When a set of propositions has its first known truth. A set is a number: p is in d where `truth d p`.
 use mathlib.Core.Path.{_≡_}
+use mathlib.Core.Bool.{cond}
 use mathlib.Core.List.{List}
 use Prim.Native.Nat.{ℕ, _+_, _^_, _≤_, _<_, min}
 use lib.ListN.{length, getD}
 use Rattle.prelude.specs.Bounded.{minWhere}
 use Rattle.network.specs.Scenario.{truth}
+use Rattle.network.specs.Happens.{given}
+use Rattle.network.specs.Strategy.{knownFrom}
+use Rattle.network.specs.declared.Network.{Network}
+
+-- from when on p is known in s, or 32,767 where it is not given there
+abbrev pub knownIn : Network → List ℕ → ℕ → ℕ → ℕ
+knownIn Γ σ s p = cond (given Γ s p) (knownFrom Γ σ s p) 32767
 
 -- the least of f over those of the k first propositions that are in d, or 32,767, which is over every time and every
 -- known time

@@ -1,21 +1,24 @@
 // What rounds keep besides bounds: the frame of a network, and tables in rows of sixteen times, one row for each
 // scenario.
 ghost use mathlib.Core.Path.{_≡_};
+ghost use mathlib.Core.Bool.{false, cond};
 ghost use mathlib.Core.List.{_++_};
 ghost use Prim.Native.Nat.{ℕ, _+_, _-_, _*_, _≤_, _<_, max, min};
 ghost use lib.ListN.{length, getD, drop};
 ghost use Rattle.prelude.specs.Bounded.{maxBelow};
 ghost use Rattle.network.specs.Limits as L;
+ghost use Rattle.network.specs.Build.{noLabel, eventLabel};
 ghost use Rattle.network.specs.WellFormed.{WellFormed};
-ghost use Rattle.rows.specs.Framed.{Framed};
-ghost use Rattle.rows.specs.Rows.{Few, Row, Stored, Wrote, gapless};
+ghost use Rattle.rows.specs.Framed.{Safe, present, Framed};
+ghost use Rattle.rows.specs.Rows.{Few, Row, Stored, Wrote, handed};
+use network::Label;
 use network::Network;
 use network::times;
 
 pub mod known;
 
 // What rounds take of a network besides its constraints. A reaction here is at least 1, also where the sheet has no
-// line.
+// line. Where no event has a label, labelled is false, and no label is looked at.
 pub struct Frame {
     pub horizon: u16,
     pub events: usize,
@@ -23,6 +26,27 @@ pub struct Frame {
     pub signals: usize,
     pub observations: [usize; Network::SIGNALS],
     pub reactions: [u16; Network::SIGNALS],
+    pub labels: [Label; Network::EVENTS],
+    pub labelled: bool,
+}
+
+// Whether an event has a label other than `-`.
+fn is_labelled(network: Network) -> bool
+    requires { ⌜ WellFormed network ⌝ }
+    ensures { λ r. ⌜ (r ≡ false → (u : ℕ) → eventLabel network u ≡ noLabel) ⌝ }
+{
+    let mut u: usize = 0;
+    while u < Network::EVENTS {
+        let label = network.labels[u];
+        if label.positive != 0 {
+            return true;
+        }
+        if label.negative != 0 {
+            return true;
+        }
+        u += 1;
+    }
+    false
 }
 
 pub fn frame_of(network: Network) -> Frame
@@ -31,6 +55,7 @@ pub fn frame_of(network: Network) -> Frame
 {
     let observations = network.observations;
     let stated = network.reactions;
+    let labels = network.labels;
     Frame {
         horizon: network.horizon,
         events: network.events,
@@ -43,6 +68,38 @@ pub fn frame_of(network: Network) -> Frame
             times::reaction_of(stated[2]),
             times::reaction_of(stated[3]),
         ],
+        labels: labels,
+        labelled: is_labelled(network),
+    }
+}
+
+// x where event u happens in scenario s, and else y.
+pub fn where_present(frame: Frame, s: usize, u: usize, x: u16, y: u16) -> u16
+    requires { ⌜ Safe frame × (s < L.cases) × (u < L.events) ⌝ }
+    ensures { λ r. ⌜ r ≡ cond (present frame s u) x y ⌝ }
+{
+    if !frame.labelled {
+        return x;
+    }
+    let label = frame.labels[u];
+    if network::satisfies(s, label) {
+        return x;
+    }
+    y
+}
+
+// Zero in each cell of the row whose event does not happen in s: what raised it is of no matter.
+pub fn clear_absent(frame: Frame, s: usize, o: &mut [u16; Network::EVENTS])
+    requires { ⌜ Safe frame × (s < L.cases) × (length (now o) ≡ L.events) ⌝ }
+    ensures { λ _. ⌜ Row (now (o .exit)) (λ u. cond (present frame s u) (getD (now (o .entry)) u 0) 0) ⌝ }
+{
+    if !frame.labelled {
+        return;
+    }
+    let mut u: usize = 0;
+    while u < Network::EVENTS {
+        o[u] = where_present(frame, s, u, o[u], 0);
+        u += 1;
     }
 }
 
@@ -180,28 +237,33 @@ pub fn greatest(x: &[u16; Network::EVENTS]) -> u16
     m
 }
 
-// The first n times of scenario s, from place a on.
-fn copy_row(t: &[u16; Network::CELLS], s: usize, n: usize, a: usize, out: &mut [u16])
-    requires { ⌜ (s < L.cases) × (n ≤ L.events) × (a + n ≤ length (now out)) ⌝ }
-    ensures { λ _. ⌜ Wrote (now (out .entry)) (now (out .exit)) a n
-        (λ u. getD (now (t .entry)) (s * L.events + u) 0) ⌝ }
+// The times of scenario s from place a on, with a blank for each event that does not happen in it.
+fn copy_row(t: &[u16; Network::CELLS], frame: Frame, s: usize, a: usize, out: &mut [u16])
+    requires { ⌜ Safe frame × (s < L.cases) × (frame .events ≤ L.events) × (a + frame .events ≤ length (now out)) ⌝ }
+    ensures { λ _. ⌜ Wrote (now (out .entry)) (now (out .exit)) a (frame .events)
+        (λ u. cond (present frame s u) (getD (now (t .entry)) (s * L.events + u) 0) L.blank) ⌝ }
 {
+    let n = frame.events;
     let mut u: usize = 0;
     while u < n {
-        out[a + u] = t[s * Network::EVENTS + u];
+        out[a + u] = where_present(frame, s, u, t[s * Network::EVENTS + u], Network::BLANK);
         u += 1;
     }
 }
 
-// The times of n events in c scenarios, without gaps.
-pub fn copy_out(t: &[u16; Network::CELLS], n: usize, c: usize, out: &mut [u16])
-    requires { ⌜ (c ≤ L.cases) × (1 ≤ n) × (n ≤ L.events) × (n * c ≤ length (now out)) ⌝ }
-    ensures { λ _. ⌜ now (out .exit) ≡ gapless n c (now (t .entry)) ++ drop (n * c) (now (out .entry)) ⌝ }
+// The times of all events in all scenarios, without gaps and with blanks.
+pub fn copy_out(t: &[u16; Network::CELLS], frame: Frame, out: &mut [u16])
+    requires { ⌜ Safe frame × (frame .scenarios ≤ L.cases) × (1 ≤ frame .events) × (frame .events ≤ L.events)
+        × (frame .events * frame .scenarios ≤ length (now out)) ⌝ }
+    ensures { λ _. ⌜ now (out .exit) ≡ handed frame (now (t .entry))
+        ++ drop (frame .events * frame .scenarios) (now (out .entry)) ⌝ }
 {
+    let n = frame.events;
+    let c = frame.scenarios;
     let mut s: usize = 0;
     let mut a: usize = 0;
     while s < c {
-        copy_row(t, s, n, a, out);
+        copy_row(t, frame, s, a, out);
         a += n;
         s += 1;
     }

@@ -15,7 +15,7 @@ use Rattle.sheet.specs.Place.{NoMore, tests}
 use Rattle.sheet.specs.Fault.{FirstFault, Fault}
 use Rattle.sheet.specs.declared.Outcome.{Outcome}
 use Rattle.sheet.specs.declared.Outcome.the-variants.{Accepted, Refused}
-use Rattle.sheet.proofs.Whole.{toReactions, toEnd, by-length}
+use Rattle.sheet.proofs.Whole.{toCases, toEnd, by-length}
 use Rattle.sheet.proofs.Over.{all-hold}
 use Rattle.sheet.proofs.Comes.{At, Comes, stops, sections-come}
 
@@ -48,7 +48,7 @@ module _ (sheet : List ℕ) where
   answers =
       by-length sheet (λ p. Answers (answered p .outcome))
       (λ h. inl (h, refl))
-      (λ h. ended (toEnd sheet) h (then-ends (toReactions sheet) (sections-come sheet)))
+      (λ h. ended (toEnd sheet) h (then-ends (toCases sheet) (sections-come sheet)))
     where
       ended : (p : Progress) → length sheet ≤ longest → Ends p → Answers (answered p .outcome)
       ended (Stop r) l e = inr (l, e)

@@ -18,13 +18,13 @@ use Rattle.network.specs.declared.Network.{Network}
 use Rattle.line.specs.Tests.{Tests, secondNumber}
 use Rattle.line.specs.Sections.{withLine}
 use Rattle.line.specs.declared.Section.{Section}
-use Rattle.line.specs.declared.Section.the-variants.{Events, Signals, Rules, Reactions}
+use Rattle.line.specs.declared.Section.the-variants.{Events, Signals, Rules, Reactions, Cases}
 use Rattle.sheet.specs.Reading.{Progress, Stop, Go, stopOr, andThen, readEntries, readSection, readHorizon}
 use Rattle.sheet.specs.Reading.{follows, readOptional}
 use Rattle.sheet.specs.Place.{Expected, Horizon, Heading, Entry, NoMore, behind, entries, Place, testsAt}
 use Rattle.sheet.specs.Place.{expectedAfter, definedAfter, next, place, tests}
 use Rattle.sheet.specs.Fault.{FirstFault}
-use Rattle.sheet.proofs.Whole.{toEvents, toSignals, toRules, toReactions}
+use Rattle.sheet.proofs.Whole.{toEvents, toSignals, toRules, toReactions, toCases}
 
 module _ (sheet : List ℕ) where
   -- line k begins at this place, and the lines above it pass
@@ -113,19 +113,29 @@ module _ (sheet : List ℕ) where
   then-comes d e (Stop r) f c g = c
   then-comes d e (Go Γ at k) f c g = g Γ at k c
 
-  -- the reactions may be absent: where bytes follow they are expected, and otherwise no more
+  -- the last two sections may be absent: where bytes follow they are expected, and otherwise no more
   reactions-come : (Γ : Network) (at k : ℕ) → At (next-of Rules at) Γ at k
-      → Comes (λ at. NoMore) (readOptional sheet Reactions Γ at k)
-  reactions-come Γ at k a = by-bytes (follows sheet at) a
+      → Comes (next-of Reactions) (readOptional sheet Reactions Γ at k)
+  reactions-come Γ at k a = by-bytes (follows sheet at) refl a
     where
-      by-bytes : (more : Bool) → At (behind Rules more) Γ at k
-          → Comes (λ at. NoMore) (cond more (readSection sheet Reactions Γ at k) (Go Γ at k))
-      by-bytes true a = section-comes Reactions Γ at k a
+      by-bytes : (more : Bool) → follows sheet at ≡ more → At (behind Rules more) Γ at k
+          → Comes (next-of Reactions) (cond more (readSection sheet Reactions Γ at k) (Go Γ at k))
+      by-bytes true e a = section-comes Reactions Γ at k a
+      by-bytes false e a = rw e a
+
+  cases-come : (Γ : Network) (at k : ℕ) → At (next-of Reactions at) Γ at k
+      → Comes (λ at. NoMore) (readOptional sheet Cases Γ at k)
+  cases-come Γ at k a = by-bytes (follows sheet at) a
+    where
+      by-bytes : (more : Bool) → At (behind Reactions more) Γ at k
+          → Comes (λ at. NoMore) (cond more (readSection sheet Cases Γ at k) (Go Γ at k))
+      by-bytes true a = section-comes Cases Γ at k a
       by-bytes false a = a
 
-  pub sections-come : Comes (λ at. NoMore) (toReactions sheet)
+  pub sections-come : Comes (λ at. NoMore) (toCases sheet)
   sections-come =
-      then-comes (next-of Rules) (λ at. NoMore) (toRules sheet) (readOptional sheet Reactions)
+      then-comes (next-of Reactions) (λ at. NoMore) (toReactions sheet) (readOptional sheet Cases)
+      (then-comes (next-of Rules) (next-of Reactions) (toRules sheet) (readOptional sheet Reactions)
       (then-comes (λ at. Heading Rules) (next-of Rules) (toSignals sheet) (readSection sheet Rules)
       (then-comes (λ at. Heading Signals) (λ at. Heading Rules) (toEvents sheet) (readSection sheet Signals)
       (then-comes (λ at. Heading Events) (λ at. Heading Signals) (readHorizon sheet) (readSection sheet Events)
@@ -133,4 +143,5 @@ module _ (sheet : List ℕ) where
       (section-comes Events))
       (section-comes Signals))
       (section-comes Rules))
-      reactions-come
+      reactions-come)
+      cases-come

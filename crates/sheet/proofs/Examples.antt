@@ -1,5 +1,5 @@
--- Sheets and what reading them answers: refusals 1 to 10 with their lines, and sheets that are accepted. One table,
--- which one theorem covers by computation. Assumes nothing.
+-- Sheets and what reading them answers: refusals 1 to 10, 20 and 21 with their lines, and sheets that are accepted. One
+-- table, which one theorem covers by computation. Assumes nothing.
 use mathlib.Core.Path.{_≡_, refl}
 use mathlib.Core.Bool.{Bool, true, _&&_}
 use mathlib.Core.List.{List, [], _∷_, _++_}
@@ -12,6 +12,8 @@ use Rattle.text.specs.Lines.{lineFeed}
 use Rattle.text.specs.Number.{isNumber, inRange}
 use Rattle.refusal.specs.Refusal.{numberOf}
 use Rattle.line.specs.Tests.{sectionTests, eventTests, signalTests, endsTests, ruleTests, letterTests, reactionTests}
+use Rattle.line.specs.Tests.{placedTests, labelTests}
+use Rattle.line.specs.Labelling.{wholeTests}
 use Rattle.sheet.specs.Reading.{Progress, Stop, Go, progress}
 
 -- lines of text, each with its line feed
@@ -54,6 +56,16 @@ rule r = sheetOf hour two one ("rules,1" ∷ r ∷ [])
 -- no rule, and then these lines, from line 8 on
 abbrev reactions : List String → List ℕ
 reactions r = sheetOf hour two one ("rules,0" ∷ r)
+
+-- two signals, one rule and no reaction, and then these lines, from line 12 on
+abbrev labels : String → List String → List ℕ
+labels r c =
+    lines (hour ++ ("events,3" ∷ "start" ∷ "door" ∷ "lock" ∷ []) ++ ("signals,2" ∷ "p,door" ∷ "q,lock" ∷ [])
+    ++ ("rules,1" ∷ r ∷ "reactions,0" ∷ c))
+
+-- the same with a rule that holds in every case
+abbrev cases : List String → List ℕ
+cases c = labels "max,start,door,5,-" c
 
 abbrev examples : List Example
 examples =
@@ -119,10 +131,33 @@ examples =
     ∷ refused 6 9 (reactions ("reactions,1" ∷ "P,2" ∷ []))
     ∷ refused 7 10 (reactions ("reactions,2" ∷ "p,1" ∷ "p,2" ∷ []))
     ∷ refused 8 9 (reactions ("reactions,1" ∷ "q,2" ∷ []))
+    -- cases: bytes behind the reactions begin their section, which does not follow the rules
+    ∷ refused 3 9 (reactions ("reactions,0" ∷ "" ∷ []))
+    ∷ refused 2 10 (reactions ("reactions,1" ∷ "p,60" ∷ []) ++ ascii "x")
+    ∷ refused 3 9 (reactions ("reactions,0" ∷ "reactions,0" ∷ []))
+    ∷ refused 3 8 (reactions ("cases,0" ∷ []))
+    ∷ refused 4 9 (reactions ("reactions,0" ∷ "cases,00" ∷ []))
+    ∷ refused 5 9 (reactions ("reactions,0" ∷ "cases,3" ∷ []))
+    ∷ refused 2 13 (cases ("cases,1" ∷ []))
+    ∷ refused 3 13 (cases ("cases,1" ∷ "door" ∷ []))
+    ∷ refused 6 13 (cases ("cases,1" ∷ "door,p!" ∷ []))
+    ∷ refused 7 14 (cases ("cases,2" ∷ "door,-" ∷ "door,-" ∷ []))
+    ∷ refused 8 13 (cases ("cases,1" ∷ "door,r" ∷ []))
+    ∷ refused 9 13 (cases ("cases,1" ∷ "door,qq" ∷ []))
+    -- 20, 21: with the section's last line, behind its other faults and before bytes that follow
+    ∷ refused 20 13 (cases ("cases,1" ∷ "start,p" ∷ []))
+    ∷ refused 20 14 (cases ("cases,2" ∷ "start,p" ∷ "lock,-" ∷ []))
+    ∷ refused 20 14 (labels "max,start,door,5,p" ("cases,2" ∷ "start,p" ∷ "door,q" ∷ []))
+    ∷ refused 7 14 (cases ("cases,2" ∷ "start,p" ∷ "start,-" ∷ []))
+    ∷ refused 2 14 (cases ("cases,2" ∷ "start,p" ∷ []))
+    ∷ refused 21 13 (labels "max,start,door,5,p" ("cases,1" ∷ "door,q" ∷ []))
+    ∷ refused 21 13 (labels "max,start,door,5,p!q" ("cases,1" ∷ "door,q" ∷ []))
+    ∷ refused 21 14 (cases ("cases,2" ∷ "lock,p" ∷ "door,q" ∷ []))
+    ∷ refused 21 13 (labels "max,start,door,5,p" ("cases,1" ∷ "door,q" ∷ []) ++ ascii "x")
     -- 10: bytes behind the last section
-    ∷ refused 10 9 (reactions ("reactions,0" ∷ "" ∷ []))
-    ∷ refused 10 10 (reactions ("reactions,1" ∷ "p,60" ∷ []) ++ ascii "x")
-    ∷ refused 10 9 (reactions ("reactions,0" ∷ "reactions,0" ∷ []))
+    ∷ refused 10 13 (cases ("cases,0" ∷ "" ∷ []))
+    ∷ refused 10 14 (cases ("cases,1" ∷ "door,-" ∷ []) ++ ascii "x")
+    ∷ refused 10 13 (cases ("cases,0" ∷ "cases,0" ∷ []))
     -- two faults on one line: the lowest number; on two lines: the first
     ∷ refused 3 8 (rule "most,start,lock,010,p!p")
     ∷ refused 4 8 (rule "max,start,lock,010,p!p")
@@ -141,6 +176,12 @@ examples =
     ∷ accepted (reactions ("reactions,0" ∷ []))
     ∷ accepted (reactions ("reactions,1" ∷ "p,1" ∷ []))
     ∷ accepted (reactions ("reactions,1" ∷ "p,60" ∷ []))
+    -- labels: none, `-` of the start, the event's own signal, parts that are there, a ring
+    ∷ accepted (cases ("cases,0" ∷ []))
+    ∷ accepted (cases ("cases,1" ∷ "start,-" ∷ []))
+    ∷ accepted (cases ("cases,1" ∷ "door,p" ∷ []))
+    ∷ accepted (labels "max,start,lock,5,!pq" ("cases,1" ∷ "lock,!p" ∷ []))
+    ∷ accepted (cases ("cases,2" ∷ "door,pq" ∷ "lock,qp" ∷ []))
     ∷ accepted (sheetOf hour two one ("rules,2" ∷ "fix,start,door,5,p" ∷ "fix,start,door,5,p" ∷ []))
     ∷ []
 
@@ -154,5 +195,6 @@ allEnd [] = true
 allEnd (x ∷ xs) = ends (progress (x .sheet)) (x .number) (x .line) && allEnd xs
 
 pub examples-end : allEnd examples ≡ true
-unfolding isNumber inRange sectionTests eventTests signalTests endsTests ruleTests letterTests reactionTests progress
+unfolding isNumber inRange sectionTests eventTests signalTests endsTests ruleTests letterTests reactionTests placedTests
+    labelTests wholeTests progress
 examples-end = refl

@@ -5,10 +5,13 @@ pub mod ReadLine
 pub mod Whole
 pub mod Arrays
 pub mod Stages
+pub mod EventStage
 pub mod SignalStage
 pub mod RuleStage
 pub mod ReactionStage
+pub mod LabelStage
 pub mod EntriesLeft
+pub mod Held
 pub mod Lines
 pub mod WellFormed
 pub mod Sections

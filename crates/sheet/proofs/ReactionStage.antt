@@ -63,8 +63,7 @@ module _ (sheet : List ℕ) (Γ : Network) (at k : ℕ) where
                 from = x .from;
                 to = x .to;
                 bound = x .bound;
-                positive = x .positive;
-                negative = x .negative;
+                label = record { positive = x .label .positive; negative = x .label .negative };
               };
           in-range = λ r.
               elim (eq-or-ne r q) [
@@ -73,6 +72,10 @@ module _ (sheet : List ℕ) (Γ : Network) (at k : ℕ) where
                     (reactionOf-most minutes most)
                 | inr n ↦ rw (reaction-other Γ q minutes r n) (w .in-range r)
               ];
+          lettered = λ u.
+              let x = w .lettered u in
+              record { positive = x .positive; negative = x .negative };
+          labels = w .labels;
         };
         named = record { inside = g .named .inside; short = g .named .short };
         inside = line-inside sheet at (p .ends);

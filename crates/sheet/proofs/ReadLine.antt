@@ -79,7 +79,7 @@ module _ (sheet : List ℕ) (at k : ℕ) (ts : List (List ℕ) → Tests) where
 module _ (sheet : List ℕ) (s : Section) (P : ℕ → Network → ℕ → ℕ → Type 0) where
   abbrev pub Keeps : Type 0
   Keeps =
-      (m : ℕ) (Γ : Network) (at k : ℕ) → P (suc m) Γ at k → Passes sheet at k (testsOf sheet s Γ)
+      (m : ℕ) (Γ : Network) (at k : ℕ) → P (suc m) Γ at k → Passes sheet at k (testsOf sheet s m Γ)
       → P m (withLine sheet s Γ at (fields (lineAt sheet at))) (afterLine sheet at) (suc k)
 
   pub entries-keep : Keeps → (m : ℕ) (Γ Δ : Network) (at k b j : ℕ) → P m Γ at k → readEntries sheet s m Γ at k
@@ -90,7 +90,7 @@ module _ (sheet : List ℕ) (s : Section) (P : ℕ → Network → ℕ → ℕ �
       let line : k ≡ j = cc in
       rw (← network, ← place, ← line) h
   entries-keep keep (suc m) Γ Δ at k b j h e =
-      let w = went sheet at k (testsOf sheet s Γ)
+      let w = went sheet at k (testsOf sheet s m Γ)
       (λ fs. readEntries sheet s m (withLine sheet s Γ at fs) (afterLine sheet at) (suc k)) Δ b j e in
       entries-keep keep m (withLine sheet s Γ at (fields (lineAt sheet at))) Δ (afterLine sheet at) (suc k) b j
       (keep m Γ at k h (w .passed)) (w .then)

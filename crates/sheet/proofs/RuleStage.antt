@@ -76,8 +76,10 @@ module _ (sheet : List ℕ) {m : ℕ} {Γ : Network} {at k : ℕ} where
                       from = finds-answer (isNamed sheet Γ (field 1 fs)) (Γ .events) 0 (ends .0) .index-lt;
                       to = finds-answer (isNamed sheet Γ (field 2 fs)) (Γ .events) 0 (rest .0) .index-lt;
                       bound = limits-of (field 3 fs) (leb-true (magnitude (field 3 fs)) L.horizon (holds 2));
-                      positive = sum-is (Γ .signals) (Γ .letters) true ls few (rest .1) (holds 5) .below;
-                      negative = sum-is (Γ .signals) (Γ .letters) false ls few (rest .1) (holds 5) .below;
+                      label = record {
+                        positive = sum-is (Γ .signals) (Γ .letters) true ls few (rest .1) (holds 5) .below;
+                        negative = sum-is (Γ .signals) (Γ .letters) false ls few (rest .1) (holds 5) .below;
+                      };
                     })
                 | inr x ↦
                     let y = w .proper d (omega arith) in
@@ -86,12 +88,14 @@ module _ (sheet : List ℕ) {m : ℕ} {Γ : Network} {at k : ℕ} where
                       from = y .from;
                       to = y .to;
                       bound = y .bound;
-                      positive = y .positive;
-                      negative = y
-                          .negative;
+                      label = record { positive = y .label .positive; negative = y .label .negative };
                     })
               ];
           in-range = w .in-range;
+          lettered = λ u.
+              let x = w .lettered u in
+              record { positive = x .positive; negative = x .negative };
+          labels = w .labels;
         };
         named = record { inside = g .named .inside; short = g .named .short };
         inside = line-inside sheet at (p .ends);

@@ -19,7 +19,7 @@ use Rattle.line.specs.Sections.{Heading, headingOf, horizonHeading, headingTest
 use Rattle.line.specs.Answers.{sectionAnswer, headingAt}
 use Rattle.line.specs.declared.Section.{Section}
 use Rattle.line.proofs.Answered.{section-answer-refused, section-answer}
-use Rattle.line.specs.declared.Section.the-variants.{Events, Signals, Rules, Reactions}
+use Rattle.line.specs.declared.Section.the-variants.{Events, Signals, Rules, Reactions, Cases}
 use Rattle.line.specs.declared.HeadingLine.the-variants as S
 use Rattle.sheet.specs.Reading.{Progress, Stop, Go, andThen, readLine, readEntries, readSection, readHorizon}
 use Rattle.sheet.specs.Reading.{readOptional, readEnd, longest, answered, read}
@@ -78,9 +78,9 @@ module _ (sheet : List ℕ) (s : Section) (at k : ℕ) (rest : List ℕ) (is : r
   abbrev lines : List (List ℕ) → Progress
   lines fs = readEntries sheet s (secondNumber fs) Γ (afterLine sheet at) (suc k)
 
-  pub section-stops : (c : Cause) → headingAt rest (headingOf s) ≡ S.Refused c → Stop (refusal c k)
+  pub section-stops : (c : Cause) → headingAt rest (headingOf (Γ .events) s) ≡ S.Refused c → Stop (refusal c k)
       ≡ readSection sheet s Γ at k
-  section-stops c e = section-stop sheet at k (headingOf s) rest is lines c e
+  section-stops c e = section-stop sheet at k (headingOf (Γ .events) s) rest is lines c e
 
   -- its line passes, with count m and of length n, and then m lines are read
   pub record SectionGoes (m n : ℕ) : Type 0 where
@@ -88,9 +88,9 @@ module _ (sheet : List ℕ) (s : Section) (at k : ℕ) (rest : List ℕ) (is : r
     pub goes : readEntries sheet s m Γ (at + n + 1) (k + 1) ≡ readSection sheet s Γ at k
     pub stage : Stage sheet (whole s) Γ at k → Stage sheet (toCome s m) Γ (at + n + 1) (k + 1)
 
-  pub section-goes : (m n : ℕ) → headingAt rest (headingOf s) ≡ S.Count m n → SectionGoes m n
+  pub section-goes : (m n : ℕ) → headingAt rest (headingOf (Γ .events) s) ≡ S.Count m n → SectionGoes m n
   section-goes m n e =
-      let w = section-read sheet at k (headingOf s) rest is lines m n e in
+      let w = section-read sheet at k (headingOf (Γ .events) s) rest is lines m n e in
       let count = w .count in
       let after = w .after in
       record {
@@ -133,5 +133,6 @@ module _ (sheet : List ℕ) where
   pub read-whole : (a b c d e : Progress) → length sheet ≤ longest → a ≡ readHorizon sheet → b
       ≡ andThen a (readSection sheet Events)
       → c ≡ andThen b (readSection sheet Signals) → d ≡ andThen c (readSection sheet Rules)
-      → e ≡ andThen d (readOptional sheet Reactions) → answered (andThen e (readEnd sheet)) ≡ read sheet
+      → e ≡ andThen (andThen d (readOptional sheet Reactions)) (readOptional sheet Cases)
+      → answered (andThen e (readEnd sheet)) ≡ read sheet
   read-whole a b c d e h i j k l m = rw (in-length sheet h, m, l, k, j, i)

@@ -82,10 +82,16 @@ module _ (sheet : List ℕ) {m : ℕ} {Γ : Network} {at k : ℕ} where
                 from = x .from;
                 to = x .to;
                 bound = x .bound;
-                positive = omega (arith, x .positive);
-                negative = omega (arith, x .negative);
+                label = record {
+                  positive = omega (arith, x .label .positive);
+                  negative = omega (arith, x .label .negative);
+                };
               };
           in-range = w .in-range;
+          lettered = λ v.
+              let x = w .lettered v in
+              record { positive = omega (arith, x .positive); negative = omega (arith, x .negative) };
+          labels = w .labels;
         };
         named = record { inside = g .named .inside; short = g .named .short };
         inside = line-inside sheet at (p .ends);

@@ -21,17 +21,18 @@ use Rattle.line.specs.Tests.{secondNumber}
 use Rattle.line.specs.Sections.{headingOf, horizonHeading, headingTests}
 use Rattle.network.proofs.Strategy.{reaction-empty}
 use Rattle.line.specs.declared.Section.{Section}
-use Rattle.line.specs.declared.Section.the-variants.{Events, Signals, Rules, Reactions}
+use Rattle.line.specs.declared.Section.the-variants.{Events, Signals, Rules, Reactions, Cases}
 use Rattle.sheet.specs.Reading.{Progress, Stop, Go, stopOr, andThen, readEntries, readSection, readHorizon}
 use Rattle.sheet.specs.Reading.{follows, readOptional, endTests, readEnd, progress, read, answered}
 use Rattle.sheet.specs.Stage.{toCome, whole, Stage}
 use Rattle.sheet.specs.Reached.{Ready}
 use Rattle.sheet.specs.declared.Outcome.the-variants.{Accepted}
 use Rattle.sheet.proofs.ReadLine.{stop-not-go, came, went, entries-keep}
-use Rattle.sheet.proofs.Whole.{toEvents, toSignals, toRules, toReactions, within-length}
+use Rattle.sheet.proofs.Whole.{toEvents, toSignals, toRules, toReactions, toCases, within-length}
 use Rattle.sheet.proofs.Arrays.{arrays-empty}
 use Rattle.sheet.proofs.Passing.{counted}
-use Rattle.sheet.proofs.Stages.{stage-section}
+use Rattle.sheet.proofs.Stages.{stage-section, stage-absent}
+use Rattle.sheet.proofs.LabelStage.{label-empty}
 use Rattle.sheet.proofs.EntriesLeft.{Before, stage-keeps}
 
 module _ (sheet : List ℕ) where
@@ -49,6 +50,8 @@ module _ (sheet : List ℕ) where
       one-signal = λ p q a c e. absurd (omega arith);
       proper = λ c q. absurd (omega arith);
       in-range = λ p. omega (arith, reaction-empty h p);
+      lettered = λ u. rw (label-empty h u) (record { positive = omega arith; negative = omega arith });
+      labels = label-empty h;
     };
     named = record { inside = λ u q. absurd (omega arith); short = λ u q. absurd (omega arith) };
     inside = i;
@@ -75,9 +78,9 @@ module _ (sheet : List ℕ) where
   pub section-ready : (s : Section) (p q : Progress) → q ≡ andThen p (readSection sheet s) → Ready sheet (whole s) p
       → Ready sheet (toCome s 0) q
   section-ready s p q i h Δ b j e =
-      let head = headingOf s in
       let c = came p (readSection sheet s) Δ b j (sym i ∙ e) in
       let Γ = c .network in
+      let head = headingOf (Γ .events) s in
       let at = c .at in
       let k = c .line in
       let fs = fields (lineAt sheet at) in
@@ -109,17 +112,18 @@ module _ (sheet : List ℕ) where
       by-refusal none e = cc
 
   -- the sections one behind the other
-  sections-ready : Ready sheet (toCome Reactions 0) (toReactions sheet)
+  sections-ready : Ready sheet (toCome Cases 0) (toCases sheet)
   sections-ready =
-      optional-ready Reactions (toRules sheet) (toReactions sheet) refl (λ Γ at k g. g)
+      optional-ready Cases (toReactions sheet) (toCases sheet) refl (λ Γ at k g. stage-absent sheet g)
+      (optional-ready Reactions (toRules sheet) (toReactions sheet) refl (λ Γ at k g. g)
       (section-ready Rules (toSignals sheet) (toRules sheet) refl
       (section-ready Signals (toEvents sheet) (toSignals sheet) refl
-      (section-ready Events (readHorizon sheet) (toEvents sheet) refl (horizon-ready (readHorizon sheet) refl))))
+      (section-ready Events (readHorizon sheet) (toEvents sheet) refl (horizon-ready (readHorizon sheet) refl)))))
 
   read-stage : (Γ : Network) (at k : ℕ) → progress sheet ≡ Go Γ at k → (b : ℕ) × (j : ℕ)
-      × Stage sheet (toCome Reactions 0) Γ b j
+      × Stage sheet (toCome Cases 0) Γ b j
   read-stage Γ at k e =
-      let w = came (toReactions sheet) (readEnd sheet) Γ at k (within-length sheet Γ at k e .1) in
+      let w = came (toCases sheet) (readEnd sheet) Γ at k (within-length sheet Γ at k e .1) in
       let same = ended (w .network) Γ (w .at) (w .line) at k (w .then) in
       (w .at, w .line, rw same at (sections-ready (w .network) (w .at) (w .line) (w .first)))
 

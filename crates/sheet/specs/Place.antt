@@ -1,5 +1,5 @@
 -- What is expected on each line of a sheet, and the tests of that place (01, The sheet and Refused sheets and calls;
--- 02, point 3).
+-- 02, points 3 and 6).
 use mathlib.Core.Bool.{Bool, true, false}
 use mathlib.Core.List.{List}
 use Prim.Native.Nat.{ℕ, zero, suc}
@@ -10,7 +10,7 @@ use Rattle.network.specs.declared.Network.{Network}
 use Rattle.line.specs.Tests.{Tests, lineTests, secondNumber}
 use Rattle.line.specs.Sections.{headingOf, horizonHeading, headingTests, testsOf, withLine}
 use Rattle.line.specs.declared.Section.{Section}
-use Rattle.line.specs.declared.Section.the-variants.{Events, Signals, Rules, Reactions}
+use Rattle.line.specs.declared.Section.the-variants.{Events, Signals, Rules, Reactions, Cases}
 use Rattle.sheet.specs.Reading.{follows, endTests}
 
 -- what is expected on a line: the horizon, the word and the count of a section, a line of a section with so many more
@@ -22,14 +22,16 @@ pub data Expected : Type 0 where
   NoMore : Expected
 
 -- "Sections stand in this order, each after its count" (01, The sheet). What is expected behind a section is told
--- whether bytes follow: the reactions may be absent, and "Any byte after the last rule begins this section" (02,
--- point 3)
+-- whether bytes follow: the last two may be absent, "Any byte after the last rule begins" the reactions (02, point 3),
+-- and "any byte after `reactions` begins" the cases (point 6)
 abbrev pub behind : Section → Bool → Expected
 behind Events more = Heading Signals
 behind Signals more = Heading Rules
 behind Rules true = Heading Reactions
 behind Rules false = NoMore
-behind Reactions more = NoMore
+behind Reactions true = Heading Cases
+behind Reactions false = NoMore
+behind Cases more = NoMore
 
 -- so many lines of a section, and then what is behind it
 abbrev pub entries : Section → Bool → ℕ → Expected
@@ -57,8 +59,8 @@ module _ (sheet : List ℕ) where
   -- the tests of what is expected; behind the last section no byte follows
   abbrev pub testsAt : Expected → Network → ℕ → Tests
   testsAt Horizon Γ at = lineTests (drop at sheet) (headingTests horizonHeading)
-  testsAt (Heading s) Γ at = lineTests (drop at sheet) (headingTests (headingOf s))
-  testsAt (Entry s m) Γ at = lineTests (drop at sheet) (testsOf sheet s Γ)
+  testsAt (Heading s) Γ at = lineTests (drop at sheet) (headingTests (headingOf (Γ .events) s))
+  testsAt (Entry s m) Γ at = lineTests (drop at sheet) (testsOf sheet s m Γ)
   testsAt NoMore Γ at = endTests sheet at
 
   -- what is defined behind a line with these fields that begins here

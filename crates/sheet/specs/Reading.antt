@@ -1,4 +1,5 @@
--- The whole sheet: its sections in order, and the first line at fault (01, The sheet and Refused sheets; 02, point 3).
+-- The whole sheet: its sections in order, and the first line at fault (01, The sheet and Refused sheets; 02, points
+-- 3 and 6).
 use mathlib.Core.Bool.{Bool, true, false, not, cond}
 use mathlib.Core.Option.{Option, none, some}
 use mathlib.Core.List.{List, [], _∷_}
@@ -16,7 +17,7 @@ use Rattle.network.specs.declared.Network.{Network}
 use Rattle.line.specs.Tests.{Tests, lineTests, secondNumber}
 use Rattle.line.specs.Sections.{headingOf, horizonHeading, headingTests, testsOf, withLine}
 use Rattle.line.specs.declared.Section.{Section}
-use Rattle.line.specs.declared.Section.the-variants.{Events, Signals, Rules, Reactions}
+use Rattle.line.specs.declared.Section.the-variants.{Events, Signals, Rules, Reactions, Cases}
 use Rattle.sheet.specs.declared.Outcome.the-variants.{Accepted, Refused}
 use Rattle.sheet.specs.declared.Reading.{Reading}
 
@@ -43,16 +44,18 @@ module _ (sheet : List ℕ) where
   abbrev pub readLine : ℕ → ℕ → (List (List ℕ) → Tests) → (List (List ℕ) → Progress) → Progress
   readLine at k ts next = stopOr k (firstFailing (lineTests (drop at sheet) ts)) (next (fields (lineAt sheet at)))
 
-  -- so many lines of a section
+  -- so many lines of a section, each told how many more stand behind it
   abbrev pub readEntries : Section → ℕ → Network → ℕ → ℕ → Progress
   readEntries s zero Γ at k = Go Γ at k
   readEntries s (suc m) Γ at k =
-      readLine at k (testsOf sheet s Γ) (λ fs. readEntries s m (withLine sheet s Γ at fs) (afterLine sheet at) (suc k))
+      readLine at k (testsOf sheet s m Γ)
+      (λ fs. readEntries s m (withLine sheet s Γ at fs) (afterLine sheet at) (suc k))
 
   -- a section: its heading, and then as many lines as that counts
   abbrev pub readSection : Section → Network → ℕ → ℕ → Progress
   readSection s Γ at k =
-      readLine at k (headingTests (headingOf s)) (λ fs. readEntries s (secondNumber fs) Γ (afterLine sheet at) (suc k))
+      readLine at k (headingTests (headingOf (Γ .events) s))
+      (λ fs. readEntries s (secondNumber fs) Γ (afterLine sheet at) (suc k))
 
   -- the horizon, which is the first line
   abbrev pub readHorizon : Progress
@@ -79,9 +82,11 @@ module _ (sheet : List ℕ) where
       elim (leb (length sheet) longest) [
         | false ↦ Stop (refusal C.TooLong 0)
         | true ↦
-            andThen (andThen (andThen (andThen (andThen readHorizon (readSection Events)) (readSection Signals))
+            andThen (andThen (andThen (andThen (andThen (andThen readHorizon (readSection Events))
+            (readSection Signals))
             (readSection Rules))
             (readOptional Reactions))
+            (readOptional Cases))
             readEnd
       ]
 

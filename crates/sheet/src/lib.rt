@@ -48,6 +48,6 @@ pub fn read(sheet: &[u8]) -> Reading
     let events = section::read_after(Section::Events, sheet, horizon);
     let signals = section::read_after(Section::Signals, sheet, events);
     let rules = section::read_after(Section::Rules, sheet, signals);
-    let reactions = section::read_optional(Section::Reactions, sheet, rules);
-    section::end_of(sheet, reactions)
+    let last = section::read_last(sheet, rules);
+    section::end_of(sheet, last)
 }

@@ -4,6 +4,7 @@ ghost use mathlib.Core.Path.{_≡_};
 ghost use Prim.Native.Nat.{_≤_};
 ghost use lib.ListN.{length, drop};
 ghost use Rattle.refusal.specs.Refusal.{refusal};
+ghost use Rattle.line.specs.declared.Section.the-variants.{Reactions, Cases};
 ghost use Rattle.sheet.specs.Reading.{longest, Stop, andThen, readEntries, readSection, readHorizon, readEnd};
 ghost use Rattle.sheet.specs.Reading.{readOptional, answered};
 ghost use Rattle.sheet.specs.Stage.{Stage, toCome, whole};
@@ -12,18 +13,20 @@ use super::Outcome;
 use super::Reached;
 use super::Reading;
 use super::Step;
+use line::Check;
 use line::HeadingLine;
 use line::Section;
 use line::entry;
 use line::entry::Entry;
 use line::entry::EntryLine;
 use line::heading;
+use line::whole;
 use network::Network;
 use refusal::Cause;
 use refusal::Refusal;
 
 // The m lines of a section, from line k on, which begins at this place. What a line holds is stored in place: a
-// function of the network by value would copy it at each line.
+// function of the network by value would copy it at each line. With the last label all of them are tested.
 fn read_entries(
     section: Section,
     sheet: &[u8],
@@ -50,6 +53,7 @@ fn read_entries(
             &network.letters,
             &network.observations,
             &network.reactions,
+            &network.labelled,
         );
         match read {
             EntryLine::Refused(cause) => {
@@ -79,6 +83,19 @@ fn read_entries(
                     }
                     Entry::Reaction { signal, minutes } => {
                         network.reactions[signal] = minutes;
+                    }
+                    Entry::Label { event, label } => {
+                        network.labels[event] = label;
+                        network.labelled[event] = true;
+                        if left == 1 {
+                            let check = whole::whole_of(network);
+                            match check {
+                                Check::Refused(cause) => {
+                                    return refused(cause, line, network);
+                                }
+                                Check::Passed => {}
+                            }
+                        }
                     }
                 }
                 place = place + length + 1;
@@ -132,7 +149,7 @@ fn read_section(
         (whole section) network at k ⌝ }
     ensures { λ r. ⌜ progressOf r ≡ readSection (now (sheet .entry)) section network at k ⌝ }
 {
-    let read = heading::heading_of(section, rest);
+    let read = heading::heading_of(section, network.events, rest);
     match read {
         HeadingLine::Refused(cause) => refused(cause, k, network),
         HeadingLine::Count { count, length } => read_entries(
@@ -172,6 +189,27 @@ pub(crate) fn read_optional(section: Section, sheet: &[u8], reached: Reached) ->
                 return reached;
             }
             read_after(section, sheet, reached)
+        }
+    }
+}
+
+// The reactions and the cases. Cases stand only behind reactions, so that a sheet that ends with its rules is asked
+// once whether bytes follow.
+pub(crate) fn read_last(sheet: &[u8], reached: Reached) -> Reached
+    requires { ⌜ (length (now sheet) ≤ longest) × Ready (now sheet) (whole Reactions) (progressOf reached) ⌝ }
+    ensures { λ r. ⌜ progressOf r ≡ andThen (andThen (progressOf reached)
+        (readOptional (now (sheet .entry)) Reactions)) (readOptional (now (sheet .entry)) Cases) ⌝ }
+{
+    let step = reached.step;
+    match step {
+        Step::Refused(_) => reached,
+        Step::Next { at, .. } => {
+            let more = at < sheet.len();
+            if !more {
+                return reached;
+            }
+            let reactions = read_after(Section::Reactions, sheet, reached);
+            read_optional(Section::Cases, sheet, reactions)
         }
     }
 }

@@ -7,8 +7,9 @@ use lib.IntN.{ℤ, pos, negsuc}
 use lib.Dec.{eqb}
 use Rattle.prelude.specs.Bytes.{same}
 use Rattle.fixpoint.specs.Run.{Run, End, Rests, Passes, Spent, runFrom}
-use Rattle.network.specs.Build.{empty, withEvent, withSignal, withRule}
+use Rattle.network.specs.Build.{empty, withEvent, withSignal, withRule, withReaction, withLabel}
 use Rattle.network.specs.Scenario.{satisfies}
+use Rattle.network.specs.Happens.{happens}
 use Rattle.network.specs.Constraint.{covers}
 use Rattle.network.specs.Strategy.{reactionOf}
 use Rattle.network.specs.declared.Kind.{Kind}
@@ -17,7 +18,8 @@ use Rattle.network.specs.declared.Constraint.{Constraint}
 use Rattle.network.specs.declared.Network.{Network}
 use Rattle.rounds.specs.Propagate.{leastFrom, leastTo, propagate}
 use Rattle.rounds.specs.Cap.{cap}
-use Rattle.solver.specs.Solve.{floor, solve}
+use Rattle.solver.specs.Masked.{masked}
+use Rattle.solver.specs.Solve.{floor, solve, found}
 
 abbrev all : List Bool → Bool
 all [] = true
@@ -47,6 +49,18 @@ ring h =
 abbrev alone : ℤ → Network
 alone w = withRule (withEvent (empty 60) 0 0) (rule Max 0 0 w 0 0)
 
+-- the same with a key that turns where p is true, p trusted after three minutes: it waits for p
+abbrev duress : Network
+duress =
+    withLabel (withReaction
+    (withRule (withSignal (withEvent (withEvent (withEvent (empty 60) 0 0) 0 0) 0 0) 112 1) (rule Min 0 1 (pos 5) 0 0))
+    0 3)
+    2 (record { positive = 1; negative = 0 })
+
+-- the call labelled with its own signal: it would have to wait for itself
+abbrev own-signal : Network
+own-signal = withLabel duress 1 (record { positive = 1; negative = 0 })
+
 -- how a run ended: 0 at rest, 1 past a limit, 2 stopped
 abbrev ended : End → ℕ
 ended Rests = 0
@@ -74,7 +88,11 @@ pub rounds-and-runs :
     ∷ isRun (solve (alone (pos 0))) 1 0 (0 ∷ [])
     ∷ isRun (solve (alone (negsuc 0))) 1 1 (1 ∷ [])
     -- a budget that is used up leaves the floor reached so far
+    -- a cell without its event stays at zero, and is handed out as a blank
+    ∷ isRun (solve duress) 3 0 (0 ∷ 5 ∷ 0 ∷ 0 ∷ 5 ∷ 8 ∷ [])
+    ∷ same (found duress) (0 ∷ 5 ∷ 65535 ∷ 0 ∷ 5 ∷ 8 ∷ [])
+    ∷ eqb (ended (solve own-signal .end)) 1
     ∷ isRun (runFrom (propagate (ring 4)) (cap (ring 4)) 0 3 (floor (ring 4))) 3 2 (0 ∷ 2 ∷ 1 ∷ [])
     ∷ []) ≡ true
-unfolding satisfies covers reactionOf propagate solve
+unfolding satisfies happens covers reactionOf propagate masked solve
 rounds-and-runs = refl

@@ -12,7 +12,7 @@ use Rattle.fixpoint.specs.Run.{Run, ran, runFrom}
 use Rattle.fixpoint.specs.Run as run
 use Rattle.network.specs.declared.Network.{Network}
 use Rattle.rows.specs.declared.Frame.{Frame}
-use Rattle.rows.specs.Rows.{Times, Wrote}
+use Rattle.rows.specs.Rows.{FrameTimes, Wrote}
 use Rattle.rounds.specs.declared.Effect.{Effect}
 use Rattle.rounds.specs.declared.Effect.the-variants.{Passes, Rests, Rises}
 use Rattle.rounds.specs.Propagate.{propagate}
@@ -92,7 +92,7 @@ pub underway-turn : {frame : Frame} {counts lists t base base′ a b a′ : List
 underway-turn G U e R c W K =
     underway-kept (underway-round G U (λ Γ C. rounded-as e (R Γ C)) (rw c at W)) (rw c at K)
 
-pub underway-start : {frame : Frame} {counts lists t : List ℕ} → Times (frame .events) (frame .scenarios) t
+pub underway-start : {frame : Frame} {counts lists t : List ℕ} → FrameTimes frame t
     → Underway frame counts lists t t t 0 0
 underway-start T =
     let e : 0 - 0 ≡ 0 = omega arith in

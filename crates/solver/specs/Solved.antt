@@ -7,7 +7,7 @@ use Rattle.fixpoint.specs.Run.{Run, Rests, Passes, Spent}
 use Rattle.network.specs.declared.Network.{Network}
 use Rattle.solver.specs.declared.Solved.{Solved}
 use Rattle.solver.specs.declared.Solved.the-variants.{Consistent, Inconsistent}
-use Rattle.solver.specs.Solve.{solve}
+use Rattle.solver.specs.Solve.{solve, found}
 
 -- a run that rests has found the least solution, and any other has found that there is none
 abbrev pub solvedOf : Run → Solved
@@ -19,9 +19,9 @@ solvedOf ρ =
     ]
 
 -- "the written part has exactly its stated contents and everything behind it is unaltered"
-abbrev pub tableAfter : Run → List ℕ → List ℕ
-tableAfter ρ t = elim (ρ .end) [ Rests ↦ ρ .reached ++ drop (length (ρ .reached)) t | Passes ↦ t | Spent ↦ t ]
+abbrev pub tableAfter : Network → List ℕ → List ℕ
+tableAfter Γ t = elim (solve Γ .end) [ Rests ↦ found Γ ++ drop (length (found Γ)) t | Passes ↦ t | Spent ↦ t ]
 
 pub record SolvedIs (Γ : Network) (entry exit : List ℕ) (r : Solved) : Type 0 where
   pub answer : r ≡ solvedOf (solve Γ)
-  pub table : exit ≡ tableAfter (solve Γ) entry
+  pub table : exit ≡ tableAfter Γ entry

@@ -7,7 +7,7 @@ ghost use lib.ListN.{length};
 ghost use Rattle.network.specs.Limits as L;
 ghost use Rattle.network.specs.Build.{cells};
 ghost use Rattle.network.specs.WellFormed.{WellFormed};
-ghost use Rattle.rows.specs.Rows.{Times};
+ghost use Rattle.rows.specs.Rows.{FrameTimes};
 ghost use Rattle.rounds.specs.Compiled.{Compiled, Usable};
 ghost use Rattle.solver.specs.Solved.{SolvedIs};
 ghost use Rattle.solver.specs.Run.{RunIs, Kept};
@@ -69,7 +69,7 @@ pub fn run(
     counts: &[usize; Network::CASES],
     lists: &[u16; bounds::LIST],
 ) -> Ended
-    requires { ⌜ Usable frame (now counts) (now lists) × Times (frame .events) (frame .scenarios) (now a) ⌝ }
+    requires { ⌜ Usable frame (now counts) (now lists) × FrameTimes frame (now a) ⌝ }
     ensures { λ r. ⌜ (length (now (a .exit)) ≡ L.cells) ×
         ((Γ : Network) → Compiled Γ frame (now (counts .entry)) (now (lists .entry))
         → RunIs Γ budget (now (a .entry)) (now (a .exit)) r) ⌝ }
@@ -139,14 +139,14 @@ pub fn solve(network: Network, table: &mut [u16]) -> Solved
     let frame = rows::frame_of(network);
     let mut counts: [usize; Network::CASES] = [0; Network::CASES];
     let mut lists: [u16; bounds::LIST] = [0; bounds::LIST];
-    rounds::compile::list_constraints(network, frame, &mut counts, &mut lists);
+    rounds::compile::compile(network, frame, &mut counts, &mut lists);
     let mut a: [u16; Network::CELLS] = [0; Network::CELLS];
     let ended = run(&mut a, BUDGET, frame, &counts, &lists);
     match ended {
         Ended::Passes { rounds, turns: _ } => Solved::Inconsistent { rounds: rounds },
         Ended::Spent { rounds, turns: _ } => Solved::Inconsistent { rounds: rounds },
         Ended::Rests { rounds, turns: _ } => {
-            rows::copy_out(&a, network.events, frame.scenarios, table);
+            rows::copy_out(&a, frame, table);
             Solved::Consistent { rounds: rounds }
         }
     }

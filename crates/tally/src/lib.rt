@@ -109,7 +109,7 @@ fn tally(sheet: &[u8], plain: bool) -> Count {
             let frame = rows::frame_of(network);
             let mut counts: [usize; Network::CASES] = [0; Network::CASES];
             let mut lists: [u16; bounds::LIST] = [0; bounds::LIST];
-            rounds::compile::list_constraints(network, frame, &mut counts, &mut lists);
+            rounds::compile::compile(network, frame, &mut counts, &mut lists);
             if plain {
                 return by_rounds(frame, &counts, &lists);
             }

@@ -1,8 +1,9 @@
 -- The rules hold in a table exactly where their upper bounds do: a rule admits two times exactly when each of them
--- does, and covers the scenarios that they cover. Assumes nothing.
-use mathlib.Core.Path.{_≡_, sym, _∙_}
+-- does, and covers the scenarios that they cover, since they have its label and its events, in either order. Assumes
+-- nothing.
+use mathlib.Core.Path.{_≡_, refl, sym, _∙_, ap}
 use mathlib.Core.Logic.{inl, inr}
-use mathlib.Core.Bool.{true}
+use mathlib.Core.Bool.{Bool, true, _&&_, and-comm}
 use mathlib.Core.List.{List, [], _∷_}
 use Prim.Native.Nat.{ℕ, _<_}
 use native.Mathlib.Omega.{arith}
@@ -11,10 +12,11 @@ use Rattle.prelude.proofs.Tests.{either, clash, and-true, and-both}
 use Rattle.prelude.proofs.Parts.{each-cons, each-one}
 use Rattle.prelude.proofs.Lists.{each-mono}
 use Rattle.network.specs.Build.{noConstraint, constraint}
+use Rattle.network.specs.Scenario.{satisfies}
+use Rattle.network.specs.Happens.{happens}
 use Rattle.network.specs.Constraint.{covers, atMost, atLeast, admits}
 use Rattle.network.specs.Strategy.{time}
 use Rattle.network.specs.Solution.{Holds}
-use Rattle.network.proofs.Masks.{covers-satisfies}
 use Rattle.network.proofs.Bounds.{atMost-neg}
 use Rattle.network.specs.declared.Kind.{Kind}
 use Rattle.network.specs.declared.Kind.the-variants.{Max, Min, Fix}
@@ -68,10 +70,10 @@ module _ (Γ : Network) (σ : List ℕ) (s : ℕ) where
     pub kept : covers Γ r s ≡ true → Admits (time (Γ .events) σ s) r
 
   covers-uppers : (k : Kind) (c : Constraint) → Each (λ r. covers Γ r s ≡ covers Γ c s) (uppers k c) noConstraint
+  unfolding covers
   covers-uppers k c =
-      uppers-each (λ r. covers Γ r s ≡ covers Γ c s) k c
-      (covers-satisfies Γ (forward c) s ∙ sym (covers-satisfies Γ c s))
-      (covers-satisfies Γ (backward c) s ∙ sym (covers-satisfies Γ c s))
+      uppers-each (λ r. covers Γ r s ≡ covers Γ c s) k c refl
+      (ap (λ (b : Bool). satisfies s (c .label) && b) (and-comm (happens Γ s (c .to)) (happens Γ s (c .from))))
 
   kept-of-holds : (c : Constraint) → Holds Γ σ s c → Each Kept (uppers (c .kind) c) noConstraint
   kept-of-holds c h =

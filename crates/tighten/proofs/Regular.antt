@@ -76,17 +76,11 @@ upper-unique {x} {y} h l k b =
 module _ (Γ : Network) (w : WellFormed Γ) where
   module _ (c : Constraint) (h : Proper Γ c) where
     forward-proper : Proper Γ (forward c)
-    forward-proper =
-        record { from = h .from; to = h .to; bound = h .bound; positive = h .positive; negative = h .negative }
+    forward-proper = record { from = h .from; to = h .to; bound = h .bound; label = h .label }
 
     backward-proper : Proper Γ (backward c)
-    backward-proper = record {
-      from = h .to;
-      to = h .from;
-      bound = neg-limit (c .bound) (h .bound);
-      positive = h .positive;
-      negative = h .negative;
-    }
+    backward-proper =
+        record { from = h .to; to = h .from; bound = neg-limit (c .bound) (h .bound); label = h .label }
 
     pub proper-encodable : Encodable (c .from) (c .to) (c .bound) (c .label)
     proper-encodable =
@@ -94,8 +88,8 @@ module _ (Γ : Network) (w : WellFormed Γ) where
         record {
           from-few = omega (arith, h .from, w .events);
           to-few = omega (arith, h .to, w .events);
-          positive-few = omega (arith, h .positive);
-          negative-few = omega (arith, h .negative);
+          positive-few = omega (arith, h .label .positive);
+          negative-few = omega (arith, h .label .negative);
           bound = h .bound;
         }
 

@@ -1,23 +1,24 @@
 -- Which tables keep the upper bounds: of networks that agree in all but names, letters and rules, a table that solves
 -- the first solves the second where each upper bound of the second has one as tight among those of the first. So they
 -- have the same solutions where the same ones remain. Assumes nothing.
-use mathlib.Core.Path.{_≡_, sym, _∙_, ap}
+use mathlib.Core.Path.{_≡_, sym, _∙_, ap, ap₂}
 use mathlib.Core.Logic.{_↔_}
-use mathlib.Core.Bool.{true}
+use mathlib.Core.Bool.{true, _&&_}
 use mathlib.Core.List.{List}
-use Prim.Native.Nat.{ℕ, _^_, _<_}
+use Prim.Native.Nat.{ℕ, _<_}
 use native.Mathlib.Omega.{arith}
 use lib.Signed.{_≤ℤ_}
 use Rattle.prelude.specs.Lists.{Each}
 use Rattle.prelude.proofs.Lists.{each-in, each-mono}
-use Rattle.network.specs.Build.{noConstraint, observation, cells, scenarios}
+use Rattle.network.specs.Build.{noConstraint, scenarios}
 use Rattle.network.specs.Scenario.{satisfies}
+use Rattle.network.specs.Happens.{mentions, happens}
 use Rattle.network.specs.Constraint.{covers}
-use Rattle.network.specs.Strategy.{time, reaction, knownFrom}
-use Rattle.network.specs.Solution.{OnTime, Alike, Solution}
+use Rattle.network.specs.Strategy.{time, known}
+use Rattle.network.specs.Solution.{Waits, OnTime, Alike, Solution}
 use Rattle.network.specs.WellFormed.{WellFormed}
-use Rattle.network.proofs.Masks.{covers-satisfies}
 use Rattle.network.proofs.Bounds.{atMost-mono}
+use Rattle.network.specs.declared.Label.{Label}
 use Rattle.network.specs.declared.Constraint.{Constraint}
 use Rattle.network.specs.declared.Network.{Network}
 use Rattle.tighten.specs.Upper.{uppersOf}
@@ -28,56 +29,57 @@ use Rattle.tighten.proofs.Keys.{key-from, key-to, key-label}
 use Rattle.tighten.proofs.Stays.{among}
 use Rattle.tighten.proofs.Remains.{remaining-is}
 use Rattle.tighten.proofs.Kept.{Admits, Kept, uppers-kept, rules-hold}
-
--- Γ and Δ may differ in names, letters and rules only
-pub record Agree (Γ Δ : Network) : Type 0 where
-  pub horizon : Γ .horizon ≡ Δ .horizon
-  pub events : Γ .events ≡ Δ .events
-  pub signals : Γ .signals ≡ Δ .signals
-  pub observations : (p : ℕ) → p < Γ .signals → observation Γ p ≡ observation Δ p
-  pub reactions : (p : ℕ) → p < Γ .signals → reaction Γ p ≡ reaction Δ p
-
-pub agree-sym : {Γ Δ : Network} → Agree Γ Δ → Agree Δ Γ
-agree-sym a = record {
-  horizon = sym (a .horizon);
-  events = sym (a .events);
-  signals = sym (a .signals);
-  observations = λ p h. sym (a .observations p (omega (arith, a .signals)));
-  reactions = λ p h. sym (a .reactions p (omega (arith, a .signals)));
-}
+use Rattle.tighten.proofs.Agree.{Agree, agree-sym, scenarios-agree, cells-agree, happens-agree}
+use Rattle.tighten.proofs.Agree.{time-agree, knownFrom-agree, known-agree}
 
 module _ {Γ Δ : Network} (a : Agree Γ Δ) where
   -- upper bounds of one key cover the same scenarios
   covers-agree : (x y : Constraint) → keyOf x ≡ keyOf y → (s : ℕ) → covers Γ x s ≡ covers Δ y s
-  covers-agree x y e s = covers-satisfies Γ x s ∙ ap (satisfies s) (key-label x y e) ∙ sym (covers-satisfies Δ y s)
+  unfolding covers
+  covers-agree x y e s =
+      ap₂ _&&_ (ap (satisfies s) (key-label x y e))
+      (ap₂ _&&_ (ap (happens Γ s) (key-from x y e) ∙ happens-agree a s (y .from))
+      (ap (happens Γ s) (key-to x y e) ∙ happens-agree a s (y .to)))
 
-  pub scenarios-agree : scenarios Γ ≡ scenarios Δ
-  scenarios-agree = ap (λ (k : ℕ). 2 ^ k) (a .signals)
-
-  pub cells-agree : cells Γ ≡ cells Δ
-  cells-agree = rw (a .events, a .signals)
+  -- a scenario of one is one of the other
+  there-too : {s : ℕ} → s < scenarios Δ → s < scenarios Γ
+  there-too l = omega (arith, scenarios-agree a)
 
   module _ (σ : List ℕ) where
-    pub time-agree : (s u : ℕ) → time (Γ .events) σ s u ≡ time (Δ .events) σ s u
-    time-agree s u = ap (λ (n : ℕ). time n σ s u) (a .events)
-
-    pub knownFrom-agree : (s p : ℕ) → p < Γ .signals → knownFrom Γ σ s p ≡ knownFrom Δ σ s p
-    knownFrom-agree s p h = rw (a .reactions p h, a .events, a .observations p h)
+    waits-agree : (s u : ℕ) → Waits Γ σ s u → Waits Δ σ s u
+    waits-agree s u w = record {
+      waited = λ p h e.
+          let l : p < Γ .signals = omega (arith, a .signals) in
+          omega (
+            arith,
+            w .waited p l (ap (λ (ℓ : Label). mentions ℓ p) (a .labels u) ∙ e),
+            knownFrom-agree a σ s p l,
+            time-agree a σ s u,
+          );
+    }
 
     on-time-agree : (s u : ℕ) → OnTime Γ σ s u → OnTime Δ σ s u
     on-time-agree s u o = record {
-      in-horizon = omega (arith, o .in-horizon, time-agree s u, a .horizon);
-      origin = λ e. sym (time-agree s u) ∙ o .origin e;
+      absent = λ e. sym (time-agree a σ s u) ∙ o .absent (happens-agree a s u ∙ e);
+      placed = λ e.
+          let w = o .placed (happens-agree a s u ∙ e) in
+          record {
+            in-horizon = omega (arith, w .in-horizon, time-agree a σ s u, a .horizon);
+            origin = λ start. sym (time-agree a σ s u) ∙ w .origin start;
+            waits = waits-agree s u (w .waits);
+          };
     }
 
     alike-agree : (s r u : ℕ) → Alike Γ σ s r u → Alike Δ σ s r u
     alike-agree s r u w = record {
-      alike = λ i.
-          sym (time-agree s u)
-          ∙ w .alike (record {
-            unknown = λ p h e. rw (knownFrom-agree s p h, time-agree s u) (i .unknown p (omega (arith, a .signals)) e);
+      alike = λ here there i.
+          sym (time-agree a σ s u)
+          ∙ w .alike (happens-agree a s u ∙ here) (happens-agree a r u ∙ there) (record {
+            unknown = λ p h e.
+                known-agree a σ s p (time (Γ .events) σ s u) h ∙ ap (known Δ σ s p) (time-agree a σ s u)
+                ∙ i .unknown p (omega (arith, a .signals)) e;
           })
-          ∙ time-agree r u;
+          ∙ time-agree a σ r u;
     }
 
     -- an upper bound holds where one of its key with no greater limit holds
@@ -91,24 +93,27 @@ module _ {Γ Δ : Network} (a : Agree Γ Δ) where
             let h = q .kept (covers-agree x y p s ∙ e) .admitted in
             let t = time (Γ .events) σ s in
             record {
-              admitted = rw (← (time-agree s (y .from)), ← (time-agree s (y .to)), ← (key-from x y p), ← (key-to x y p))
+              admitted = rw (
+                ← (time-agree a σ s (y .from)),
+                ← (time-agree a σ s (y .to)),
+                ← (key-from x y p),
+                ← (key-to x y p),
+              )
                   (atMost-mono (t (x .from)) (t (x .to)) (x .bound) (y .bound) l h);
             }
 
   pub solution-by-uppers : Each (Stays (uppersOf Γ)) (uppersOf Δ) noConstraint → (σ : List ℕ) → Solution Γ σ
       → Solution Δ σ
   solution-by-uppers stay σ h = record {
-    sized = h .sized ∙ cells-agree;
-    on-time =
-        λ s u l m. on-time-agree σ s u (h .on-time s u (omega (arith, scenarios-agree)) (omega (arith, a .events)));
+    sized = h .sized ∙ cells-agree a;
+    on-time = λ s u l m. on-time-agree σ s u (h .on-time s u (there-too l) (omega (arith, a .events)));
     viable = λ s c l m.
         rules-hold Δ σ s
-        (each-mono (kept-agree σ s (uppers-kept Γ σ s (λ c m. h .viable s c (omega (arith, scenarios-agree)) m))) stay)
+        (each-mono (kept-agree σ s (uppers-kept Γ σ s (λ c m. h .viable s c (there-too l) m))) stay)
         c
         m;
     dynamic = λ s r u l m n.
-        alike-agree σ s r u
-        (h .dynamic s r u (omega (arith, scenarios-agree)) (omega (arith, scenarios-agree)) (omega (arith, a .events)));
+        alike-agree σ s r u (h .dynamic s r u (there-too l) (there-too m) (omega (arith, a .events)));
   }
 
 pub same-solutions : {Γ Δ : Network} → Agree Γ Δ → Each (Stays (uppersOf Γ)) (uppersOf Δ) noConstraint

@@ -1,4 +1,4 @@
--- Each turn lists the bound for one scenario where the constraint counts in it. The invariant: it is listed for the
+-- Each turn lists the bound for one scenario where the label holds in it. The invariant: it is listed for the
 -- first s (`Added`). Assumes nothing.
 use mathlib.Core.Logic.{⊎-elim}
 use mathlib.Core.Path.{_≡_, sym, _∙_}
@@ -11,11 +11,11 @@ use Rattle.bounds.proofs.list_bound.Statement.{statement}
 use Rattle.bounds.proofs.list_bound.Tie as tie
 
 abbrev Inv-loop : tie.InvT-loop
-Inv-loop constraint target source weight counts₀ lists₀ scenarios s₀ counts lists s =
-    (s ≤ scenarios) × Added constraint target source weight counts₀ lists₀ counts lists s
+Inv-loop label target source weight counts₀ lists₀ scenarios s₀ counts lists s =
+    (s ≤ scenarios) × Added label target source weight counts₀ lists₀ counts lists s
 
 abbrev μ-loop : tie.MeasureT-loop
-μ-loop constraint target source weight counts₀ lists₀ scenarios s₀ counts lists s = scenarios - s
+μ-loop label target source weight counts₀ lists₀ scenarios s₀ counts lists s = scenarios - s
 
 -- the lists so far, and the scenario of a turn
 lists-are : (c : tie.In-loop Inv-loop μ-loop)
@@ -31,8 +31,8 @@ scenario-in c = omega (arith, c .loop-test .taken, c .before .before .pre .0 .sc
 loop-holds : tie.Need-loop-holds Inv-loop μ-loop
 loop-holds c = (omega arith, added-none _ _ _ _ _ _)
 
-covers-requires : tie.Need-covers-requires Inv-loop μ-loop
-covers-requires c κs =
+satisfies-requires : tie.Need-satisfies-requires Inv-loop μ-loop
+satisfies-requires c κs =
     (scenario-in c, c .before .before .pre .0 .label .positive, c .before .before .pre .0 .label .negative)
 
 append-requires : tie.Need-append-requires Inv-loop μ-loop
@@ -54,14 +54,14 @@ loop-again c =
     let l = c .before .before in
     let z = l .before .before in
     let i = l .before .loop .inv .1 in
-    let e = c .before .covers .ensures in (
+    let e = c .before .satisfies .ensures in (
       omega (arith, l .loop-test .taken),
       ⊎-elim
           (λ w.
           rw (w .4, w .5, w .3 .ensures .0, w .3 .ensures .1)
           (added-one _ _ _ _ _ _ i (z .args .frame .events) (lists-are l) (z .pre .2) (scenario-in l)
-          (λ Γ. sym (e Γ) ∙ w .0 .taken)))
-          (λ w. rw (w .1, w .2) (added-skip _ _ _ _ _ _ i (λ Γ. sym (e Γ) ∙ w .0 .left)))
+          (sym e ∙ w .0 .taken)))
+          (λ w. rw (w .1, w .2) (added-skip _ _ _ _ _ _ i (sym e ∙ w .0 .left)))
           (c .if1 .came),
     )
 
@@ -73,5 +73,5 @@ returns c =
 pub list-bound-spec : {M : Type 1} → statement M
 list-bound-spec =
     tie.close
-    (tie.spec Inv-loop μ-loop loop-holds covers-requires append-requires (λ c. search needs) (λ c. search needs)
+    (tie.spec Inv-loop μ-loop loop-holds satisfies-requires append-requires (λ c. search needs) (λ c. search needs)
     loop-again returns)

@@ -7,8 +7,8 @@ use Rattle.bounds.proofs.list_lower.Tie as tie
 
 list-bound-requires : tie.Need-list-bound-requires
 list-bound-requires c κs =
-    let lower-weight = c .before .before .lower-weight in
-    let z = c .before .before .before .before in
+    let lower-weight = c .before .before .before .lower-weight in
+    let z = c .before .before .before .before .before in
     let k = z .args .c in (
       rw (lower-read (k .bound) (z .pre .0 .bound) (lower-weight .ensures))
           (lower-bound (z .args .frame) k (z .pre .0)),
@@ -18,8 +18,8 @@ list-bound-requires c κs =
 
 returns : tie.Need-returns
 returns c =
-    let lower-weight = c .before .before .before .lower-weight in
-    let z = c .before .before .before .before .before in
+    let lower-weight = c .before .before .before .before .lower-weight in
+    let z = c .before .before .before .before .before .before in
     rw (lower-read (z .args .c .bound) (z .pre .0 .bound) (lower-weight .ensures)) at (c .list-bound .ensures)
 
 pub list-lower-spec : {M : Type 1} → statement M

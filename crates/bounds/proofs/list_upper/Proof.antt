@@ -7,8 +7,8 @@ use Rattle.bounds.proofs.list_upper.Tie as tie
 
 list-bound-requires : tie.Need-list-bound-requires
 list-bound-requires c κs =
-    let upper-weight = c .before .before .upper-weight in
-    let z = c .before .before .before .before in
+    let upper-weight = c .before .before .before .upper-weight in
+    let z = c .before .before .before .before .before in
     let k = z .args .c in (
       rw (upper-read (k .bound) (z .pre .0 .bound) (upper-weight .ensures))
           (upper-bound (z .args .frame) k (z .pre .0)),
@@ -18,8 +18,8 @@ list-bound-requires c κs =
 
 returns : tie.Need-returns
 returns c =
-    let upper-weight = c .before .before .before .upper-weight in
-    let z = c .before .before .before .before .before in
+    let upper-weight = c .before .before .before .before .upper-weight in
+    let z = c .before .before .before .before .before .before in
     rw (upper-read (z .args .c .bound) (z .pre .0 .bound) (upper-weight .ensures)) at (c .list-bound .ensures)
 
 pub list-upper-spec : {M : Type 1} → statement M

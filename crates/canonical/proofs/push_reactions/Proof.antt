@@ -1,28 +1,32 @@
--- `canonical::push_reactions` meets its contract: nothing where none is listed. Otherwise the invariant: behind the
--- section's first line, the lines of the signals below p are written. The measure is the count of signals left. Assumes
--- nothing.
+-- `canonical::push_reactions` meets its contract: nothing where none is listed and no label follows.
+-- Otherwise the invariant: behind the section's first line, the lines of the signals below p are written. The measure
+-- is the count of signals left. Assumes nothing.
 use mathlib.Core.Path.{_≡_, refl, sym, _∙_, ap}
+use mathlib.Core.Logic.{inl, inr}
 use Prim.Native.Nat.{ℕ, _-_, _≤_}
 use native.Mathlib.Omega.{arith}
 use denote.Ref.{now}
 use borrow.Author.Needs.{needs}
+use borrow.Author.Tests.{eqb-true, eqb-false}
 use Rattle.page.proofs.Append.{append-nothing, append-as}
 use Rattle.page.proofs.Join.{Joining, join-none, join-next, join-all}
 use Rattle.network.specs.Build.{letter}
-use Rattle.canonical.specs.House.{slowBy, slowAt}
+use Rattle.layout.specs.Layout.{reactionLine}
+use Rattle.canonical.specs.Listed.{slowBy, slowAt}
 use Rattle.canonical.specs.Most.{mostReaction}
 use Rattle.canonical.proofs.Slow.{slow-few}
-use Rattle.canonical.proofs.SlowLines.{slowText, none-slow, slow-appended}
+use Rattle.canonical.proofs.Gathered.{lineBy}
+use Rattle.canonical.proofs.SlowLines.{none-slow, slow-appended}
 use Rattle.canonical.proofs.push_reactions.Statement.{statement}
 use Rattle.canonical.proofs.push_reactions.Tie as tie
 
 abbrev Inv-loop : tie.InvT-loop
-Inv-loop page₀ at network count next₀ p₀ p-end page next p =
-    Joining mostReaction (λ i. slowText (slowAt network i)) (network .signals) page₀ next₀ p page next
+Inv-loop page₀ at labelled network count next₀ p₀ p-end page next p =
+    Joining mostReaction (λ i. lineBy reactionLine (slowAt network i)) (network .signals) page₀ next₀ p page next
     × (p-end ≡ network .signals)
 
 abbrev μ-loop : tie.MeasureT-loop
-μ-loop page₀ at network count next₀ p₀ p-end page next p = network .signals - p
+μ-loop page₀ at labelled network count next₀ p₀ p-end page next p = network .signals - p
 
 -- where the function begins, seen from behind the count
 abbrev start : tie.After-slow-count Inv-loop μ-loop → tie.Start Inv-loop μ-loop
@@ -33,8 +37,11 @@ few c = omega (arith, c .slow-count .ensures, slow-few (start c .args .t3), star
 
 returns : tie.Need-returns Inv-loop μ-loop
 returns c =
-    let z = start (c .before) in
-    append-as (none-slow (z .args .t3) (sym (c .before .slow-count .ensures) ∙ c .if1 .taken))
+    let counted = c .before .before in
+    let z = start counted in
+    append-as
+    (none-slow (z .args .t3) (z .args .labelled) (sym (counted .slow-count .ensures) ∙ c .before .if1 .taken)
+    (eqb-true (z .args .labelled) 0 (c .if2 .taken)))
     (append-nothing (now (z .args .page)) (z .args .at) (omega arith)) (omega arith)
 
 cast-push-count : tie.Need-cast-push-count Inv-loop μ-loop
@@ -71,7 +78,7 @@ loop-again c =
     let here = reacts .before .before in
     let Γ = start (counted here) .args .t3 in
     let loop = here .before .loop in
-    let text = ap (λ (x : ℕ). slowText (slowBy (letter Γ (loop .p)) x)) (reacts .reaction-of .ensures) in (
+    let text = ap (λ (x : ℕ). lineBy reactionLine (slowBy (letter Γ (loop .p)) x)) (reacts .reaction-of .ensures) in (
       join-next (loop .inv .0) {j = mostReaction} (omega arith)
           (append-as text (pushed .push-reaction .ensures) (omega arith)) (omega arith),
       loop .inv .1,
@@ -84,7 +91,10 @@ returns-2 c =
     let branch = pushed .before .before .before in
     let Γ = start (branch .before) .args .t3 in
     let count = branch .before .slow-count in
-    slow-appended Γ (count .result) (count .ensures) (branch .if1 .left) (pushed .push-count .ensures)
+    let labelled = start (branch .before) .args .labelled in
+    let listed : count .result ≡ 0 → labelled ≡ 0 → ⊥ =
+    elim (branch .if1 .came) [ inl w ↦ λ e f. eqb-false labelled 0 (w .1 .left) f | inr w ↦ λ e f. w .left e ] in
+    slow-appended Γ labelled (count .result) (count .ensures) listed (pushed .push-count .ensures)
     (join-all (loop .inv .0) (omega arith)) (omega (arith, start (branch .before) .pre .0 .signals))
 
 pub push-reactions-spec : {M : Type 1} → statement M

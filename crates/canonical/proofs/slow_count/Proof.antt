@@ -6,14 +6,15 @@ use Prim.Native.Nat.{_-_, _≤_}
 use native.Mathlib.Omega.{arith}
 use borrow.Author.Needs.{needs}
 use Rattle.prelude.proofs.Gather.{length-gather}
-use Rattle.canonical.specs.House.{slowAt}
-use Rattle.canonical.proofs.SlowLines.{listedBelow, slow-more, slow-skip}
+use Rattle.canonical.specs.Listed.{slowAt}
+use Rattle.canonical.proofs.Gathered.{countBelow}
+use Rattle.canonical.proofs.SlowLines.{slow-more, slow-skip}
 use Rattle.canonical.proofs.slow_count.Statement.{statement}
 use Rattle.canonical.proofs.slow_count.Tie as tie
 
 abbrev Inv-loop : tie.InvT-loop
 Inv-loop network count₀ p₀ p-end count p =
-    (count ≡ listedBelow network p) × (p ≤ network .signals) × (p-end ≡ network .signals)
+    (count ≡ countBelow (slowAt network) p) × (p ≤ network .signals) × (p-end ≡ network .signals)
 
 abbrev μ-loop : tie.MeasureT-loop
 μ-loop network count₀ p₀ p-end count p = network .signals - p

@@ -11,6 +11,7 @@ use borrow.Author.Tests.{not-true, not-false}
 use denote.Ref.{now}
 use Rattle.prelude.specs.Search.{unless}
 use Rattle.network.specs.Build.{constraint}
+use Rattle.network.specs.WellFormed.{Proper}
 use Rattle.network.specs.declared.Network.{Network}
 use Rattle.checker.specs.Verdict.{doesHold, brokenIn, verdictOf}
 use Rattle.checker.specs.declared.Breach.{Breach}
@@ -36,13 +37,25 @@ Inv-broken σ Γ n m k scenarios found₀ s₀ found s = Seeking (brokenIn Γ σ
 abbrev μ-broken : tie.MeasureT-broken
 μ-broken σ Γ n m k scenarios found₀ s₀ found s = 2 ^ k - s
 
+-- the places of the two loops, each from the next
+abbrev start : tie.In-broken Inv-loop μ-loop Inv-broken μ-broken → tie.Start Inv-loop μ-loop Inv-broken μ-broken
+start c = c .before .before .before .before
+
+abbrev outer : tie.In-loop Inv-loop μ-loop Inv-broken μ-broken → tie.In-broken Inv-loop μ-loop Inv-broken μ-broken
+outer c = c .before .before
+
+-- the ends of the constraint, which are events
+proper : (c : tie.In-loop Inv-loop μ-loop Inv-broken μ-broken)
+    → let Γ = start (outer c) .args .t1 in Proper Γ (constraint Γ (c .before .loop .c))
+proper c = start (outer c) .pre .0 .proper (c .before .loop .c) (c .loop-test .taken)
+
 -- the code's test of a constraint
 tested : (c : tie.After-keeps Inv-loop μ-loop Inv-broken μ-broken)
-    → let a = c .before .before .before .before .before .before .before .before .args in
-    let s = c .before .before .before .before .before .broken .s in
-    c .keeps .result ≡ doesHold (a .t1) (now (a .table)) s (constraint (a .t1) (c .before .before .before .loop .c))
-tested c =
-    c .keeps .ensures (c .before .before .before .before .before .before .before .before .args .t1) refl
+    → let in-loop = c .before .before .before .before in
+    let a = start (outer in-loop) .args in
+    let s = outer in-loop .before .broken .s in
+    c .keeps .result ≡ doesHold (a .t1) (now (a .table)) s (constraint (a .t1) (in-loop .before .loop .c))
+tested c = c .keeps .ensures (start (outer (c .before .before .before .before)) .args .t1) refl refl refl
 
 scenario-count-requires : tie.Need-scenario-count-requires Inv-loop μ-loop Inv-broken μ-broken
 scenario-count-requires c κs = c .before .pre .0 .signals
@@ -54,25 +67,41 @@ loop-holds : tie.Need-loop-holds Inv-loop μ-loop Inv-broken μ-broken
 loop-holds c = seeking-start _ _ (c .before .broken .inv .nothing)
 
 mul-constraint : tie.Need-mul-constraint Inv-loop μ-loop Inv-broken μ-broken
-mul-constraint c = omega (arith, c .before .before .before .before .before .before .pre .0 .rules)
+mul-constraint c = omega (arith, start (outer c) .pre .0 .rules)
 
 element-copy-out-constraint :
     tie.Need-element-copy-out-constraint Inv-loop μ-loop Inv-broken μ-broken
 element-copy-out-constraint c =
-    let good = c .before .before .before .before .before .before .pre .0 in
-    omega (arith, good .rules, good .arrays .constraints)
+    let W = start (outer c) .pre .0 in
+    omega (arith, W .rules, W .arrays .constraints)
+
+mul-from : tie.Need-mul-from Inv-loop μ-loop Inv-broken μ-broken
+mul-from c = omega (arith, proper (c .before) .from, start (outer (c .before)) .pre .0 .events)
+
+element-copy-out-from : tie.Need-element-copy-out-from Inv-loop μ-loop Inv-broken μ-broken
+element-copy-out-from c =
+    let W = start (outer (c .before)) .pre .0 in
+    omega (arith, proper (c .before) .from, W .events, W .arrays .labels)
+
+mul-to : tie.Need-mul-to Inv-loop μ-loop Inv-broken μ-broken
+mul-to c = omega (arith, proper (c .before .before) .to, start (outer (c .before .before)) .pre .0 .events)
+
+element-copy-out-to : tie.Need-element-copy-out-to Inv-loop μ-loop Inv-broken μ-broken
+element-copy-out-to c =
+    let W = start (outer (c .before .before)) .pre .0 in
+    omega (arith, proper (c .before .before) .to, W .events, W .arrays .labels)
 
 keeps-requires : tie.Need-keeps-requires Inv-loop μ-loop Inv-broken μ-broken
 keeps-requires c κs =
-    let in-loop = c .before in
-    let s = c .before .before .before .before .broken .s in
-    let start = c .before .before .before .before .before .before .before in
-    in-reach (start .args .t1) (now (start .args .table)) (start .pre) s (in-loop .before .loop .c) (omega arith)
+    let in-loop = c .before .before .before in
+    let z = start (outer in-loop) in
+    let s = outer in-loop .before .broken .s in
+    in-reach (z .pre .0) (now (z .args .table)) (z .pre .1) s (in-loop .before .loop .c) (omega arith)
     (in-loop .loop-test .taken)
 
 loop-again : tie.Need-loop-again Inv-loop μ-loop Inv-broken μ-broken
 loop-again c =
-    let in-loop = c .before .before .before in
+    let in-loop = c .before .before .before .before .before in
     let kept = sym (tested (c .before)) ∙ not-false _ (c .if1 .left) in
     seeking-on (in-loop .before .loop .inv) (in-loop .loop-test .taken) (rw kept)
 
@@ -85,15 +114,15 @@ returns c = nothing-found (c .before .broken .inv) (omega arith)
 
 returns-2 : tie.Need-returns-2 Inv-loop μ-loop Inv-broken μ-broken
 returns-2 c =
-    let in-loop = c .before .before .before in
-    let at-broken = in-loop .before .before .before in
+    let in-loop = c .before .before .before .before .before in
     let broken = sym (tested (c .before)) ∙ not-true _ (c .if1 .taken) in
-    let at = row-hit (at-broken .broken .inv) (in-loop .before .loop .inv) refl in
+    let at = row-hit (outer in-loop .before .broken .inv) (in-loop .before .loop .inv) refl in
     ap verdictOf (sym (at _ (omega arith) (in-loop .loop-test .taken) (rw broken)))
 
 pub first-broken-spec : {M : Type 1} → statement M
 first-broken-spec =
     tie.close
     (tie.spec Inv-loop μ-loop Inv-broken μ-broken scenario-count-requires broken-holds loop-holds mul-constraint
-    element-copy-out-constraint keeps-requires (λ c. search needs) (λ c. search needs) loop-again (λ c. search needs)
-    (λ c. search needs) broken-again returns returns-2)
+    element-copy-out-constraint mul-from element-copy-out-from mul-to element-copy-out-to keeps-requires
+    (λ c. search needs) (λ c. search needs) loop-again (λ c. search needs) (λ c. search needs) broken-again returns
+    returns-2)

@@ -1,5 +1,5 @@
 -- `on_time` meets its contract: the origin's limit is 0, and that of any other event the horizon. Assumes nothing.
-use Rattle.checker.proofs.Plain.{onTime-origin, onTime-other}
+use Rattle.checker.proofs.Placed.{onTime-origin, onTime-other}
 use Rattle.checker.proofs.on_time.Statement.{statement}
 use Rattle.checker.proofs.on_time.Tie as tie
 

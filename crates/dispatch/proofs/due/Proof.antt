@@ -9,15 +9,15 @@ use denote.Ref.{now}
 use Rattle.prelude.proofs.Search.{searching-start}
 use Rattle.network.specs.Build.{scenarios}
 use Rattle.dispatch.specs.declared.Dispatched.the-variants.{Events}
-use Rattle.dispatch.proofs.Core.{row-in, misnamed-on, Hearing, hearing-on, heard-on, never-on}
+use Rattle.dispatch.proofs.Core.{misnamed-on, Hearing, hearing-on, heard-on, never-on}
 use Rattle.dispatch.proofs.due.Statement.{statement}
 use Rattle.dispatch.proofs.due.Tie as tie
 
 abbrev Inv-loop : tie.InvT-loop
-Inv-loop Γ σ m x n k cases s₀ s = Hearing Γ σ m x s
+Inv-loop Γ σ m x k cases s₀ s = Hearing Γ σ m x s
 
 abbrev μ-loop : tie.MeasureT-loop
-μ-loop Γ σ m x n k cases s₀ s = scenarios Γ - s
+μ-loop Γ σ m x k cases s₀ s = scenarios Γ - s
 
 returns : tie.Need-returns Inv-loop μ-loop
 returns c =
@@ -38,11 +38,8 @@ loop-holds c =
 due-in-requires : tie.Need-due-in-requires Inv-loop μ-loop
 due-in-requires c κs =
     let at-loop = c .before .before .before in
-    let start = at-loop .before .before .before .before .before in (
-      start .pre .0 .events,
-      row-in (start .args .network) (now (start .args .table)) (start .pre .1) (at-loop .loop .s)
-          (omega arith),
-    )
+    let start = at-loop .before .before .before .before .before in
+    (start .pre .0, start .pre .1, omega arith)
 
 returns-2 : tie.Need-returns-2 Inv-loop μ-loop
 returns-2 c =

@@ -1,6 +1,6 @@
 -- `due_in` meets its contract. The invariant: `due` is the sum for the events passed. The measure is what is left of
 -- them. Assumes nothing.
-use mathlib.Core.Path.{refl, sym, _∙_}
+use mathlib.Core.Path.{refl}
 use mathlib.Core.Logic.{⊎-elim}
 use Prim.Native.Nat.{_-_}
 use native.Mathlib.Omega.{arith}
@@ -10,10 +10,10 @@ use Rattle.dispatch.proofs.due_in.Statement.{statement}
 use Rattle.dispatch.proofs.due_in.Tie as tie
 
 abbrev Inv-loop : tie.InvT-loop
-Inv-loop σ n m s due₀ u₀ due u = Summing n σ m s due u
+Inv-loop Γ σ m s n due₀ u₀ due u = Summing Γ σ m s due u
 
 abbrev μ-loop : tie.MeasureT-loop
-μ-loop σ n m s due₀ u₀ due u = n - u
+μ-loop Γ σ m s n due₀ u₀ due u = Γ .events - u
 
 loop-holds : tie.Need-loop-holds Inv-loop μ-loop
 loop-holds c = record { within = omega arith; sum = refl }
@@ -25,10 +25,11 @@ loop-again : tie.Need-loop-again Inv-loop μ-loop
 loop-again c =
     let in-loop = c .before .before in
     let inv = in-loop .before .loop .inv in
-    let timed = c .before .time-of .ensures in
     ⊎-elim
-    (λ w. rw (w .1) (summing-bit inv (omega arith) (in-loop .loop-test .taken) (sym timed ∙ w .0 .taken)))
-    (λ w. rw (w .1) (summing-none inv (in-loop .loop-test .taken) (λ e. w .0 .left (timed ∙ e))))
+    (λ w.
+    rw (w .1)
+    (summing-bit inv (omega arith) (in-loop .loop-test .taken) (rw (← c .before .is-due .ensures) (w .0 .taken))))
+    (λ w. rw (w .1) (summing-none inv (in-loop .loop-test .taken) (rw (← c .before .is-due .ensures) (w .0 .left))))
     (c .if1 .came)
 
 returns : tie.Need-returns Inv-loop μ-loop

@@ -5,8 +5,6 @@ use Prim.Native.Nat.{_-_}
 use borrow.Author.Needs.{needs}
 use borrow.Author.Tests.{not-true, not-false}
 use denote.Ref.{now}
-use Rattle.network.specs.Build.{observation}
-use Rattle.network.proofs.Strategy.{cell-in}
 use Rattle.dispatch.specs.Due.{asHeard}
 use Rattle.dispatch.specs.Said.{saidOn}
 use Rattle.prelude.proofs.Bounded.{Passing, passing-start, passing-on, failed-at, passed-all}
@@ -15,14 +13,14 @@ use Rattle.dispatch.proofs.has_heard.Statement.{statement}
 use Rattle.dispatch.proofs.has_heard.Tie as tie
 
 abbrev Inv-loop : tie.InvT-loop
-Inv-loop σ m x s Γ n k p₀ p = Passing (asHeard Γ σ m (saidOn x) s) (Γ .signals) p
+Inv-loop σ m x s Γ k p₀ p = Passing (asHeard Γ σ m (saidOn x) s) (Γ .signals) p
 
 abbrev μ-loop : tie.MeasureT-loop
-μ-loop σ m x s Γ n k p₀ p = Γ .signals - p
+μ-loop σ m x s Γ k p₀ p = Γ .signals - p
 
 -- the turn of the loop in which a signal is asked for
 abbrev in-loop : tie.After-as-said Inv-loop μ-loop → tie.In-loop Inv-loop μ-loop
-in-loop c = c .before .before .before .before .before .before
+in-loop c = c .before .before .before .before
 
 -- the code's test of a signal
 tested : (c : tie.After-as-said Inv-loop μ-loop)
@@ -30,31 +28,19 @@ tested : (c : tie.After-as-said Inv-loop μ-loop)
     let a = at-loop .before .before .args in
     c .as-said .result ≡ asHeard (a .t1) (now (a .table)) (a .minute) (saidOn (a .said)) (a .s) (at-loop .loop .p)
 tested c =
-    let at-known = c .before .before in
     let at-loop = in-loop c .before in
     let a = at-loop .before .before .args in
-    let p = at-loop .loop .p in
-    let known = at-known .known-after in
+    let known = c .before .before .is-known in
     c .as-said .ensures
-    ∙ as-heard-is (a .t1) (now (a .table)) (a .minute) (a .said) (a .s) p (known .result) _
+    ∙ as-heard-is (a .t1) (now (a .table)) (a .minute) (a .said) (a .s) (at-loop .loop .p) (known .result) _
     (known .ensures) (c .before .has .ensures)
 
 loop-holds : tie.Need-loop-holds Inv-loop μ-loop
 loop-holds c = passing-start _ _
 
-known-after-requires : tie.Need-known-after-requires Inv-loop μ-loop
-known-after-requires c κs =
-    let here = c .before .before .before in
-    let start = here .before .before .before in
-    let a = start .args in
-    let asked = start .pre in
-    let p = here .before .loop .p in
-    cell-in (a .t1) (now (a .table)) (asked .1) (a .s) (observation (a .t1) p) (asked .3)
-    (asked .0 .observed p (here .loop-test .taken))
-
 as-said-requires : tie.Need-as-said-requires Inv-loop μ-loop
 as-said-requires c κs =
-    let here = c .before .before .before .before .before in
+    let here = c .before .before .before in
     here .before .before .before .pre .2 .lower (here .before .loop .p) (here .loop-test .taken)
 
 returns : tie.Need-returns Inv-loop μ-loop
@@ -75,6 +61,5 @@ returns-2 c = sym (passed-all (c .before .loop .inv) (c .loop-test .left))
 pub has-heard-spec : {M : Type 1} → statement M
 has-heard-spec =
     tie.close
-    (tie.spec Inv-loop μ-loop loop-holds (λ c. search needs) (λ c. search needs) (λ c. search needs)
-    (λ c. search needs) (λ c. search needs) known-after-requires (λ c. search needs) (λ c κs. search needs)
-    as-said-requires returns (λ c. search needs) (λ c. search needs) loop-again returns-2)
+    (tie.spec Inv-loop μ-loop loop-holds (λ c. search needs) (λ c κs. search needs) (λ c. search needs)
+    (λ c κs. search needs) as-said-requires returns (λ c. search needs) (λ c. search needs) loop-again returns-2)

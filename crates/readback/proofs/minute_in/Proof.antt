@@ -1,37 +1,20 @@
--- `readback::minute_in` meets its contract: each answer of `read_number` says which minute the text is, or that it is
--- none. Assumes nothing.
-use mathlib.Core.Path.{_≡_, sym, _∙_}
-use native.Mathlib.Omega.{arith}
+-- `readback::minute_in` meets its contract: a dash is compared, and every other text is read as digits. Assumes
+-- nothing.
+use mathlib.Core.Path.{sym, _∙_}
 use borrow.Author.Needs.{needs}
-use Rattle.text.specs.ReadNumber.{readNumber}
-use Rattle.text.specs.declared.Number.the-variants.{Plus}
-use Rattle.readback.specs.Minute.{latest}
-use Rattle.readback.proofs.Minutes.{minute-ill, minute-minus, minute-beyond, minute-at}
+use Rattle.readback.proofs.Minutes.{minute-blank, minute-digits}
 use Rattle.readback.proofs.minute_in.Statement.{statement}
 use Rattle.readback.proofs.minute_in.Tie as tie
 
--- the text is this number
-number : (d : tie.After-known-told)
-    → let at-read = d .before .before .before in
-    readNumber latest (at-read .before .before .args .f .now) ≡ Plus (d .before .n .given .0 .0)
-number d =
-    let at-read = d .before .before .before in
-    sym (at-read .read-number .ensures) ∙ d .before .n .given .1
-
 returns : tie.Need-returns
-returns c = minute-beyond _ _ (number (c .before)) (omega (arith, c .if1 .taken))
+returns c = minute-blank _ (sym (c .before .equal .ensures) ∙ c .if1 .taken)
 
 returns-2 : tie.Need-returns-2
-returns-2 c = minute-ill _ (sym (c .before .before .read-number .ensures) ∙ c .enum-told .given .1)
-
-returns-3 : tie.Need-returns-3
-returns-3 c = minute-minus _ _ (sym (c .before .before .read-number .ensures) ∙ c .enum-told2 .given .1)
-
-returns-4 : tie.Need-returns-4
-returns-4 c = minute-at _ _ (number (c .before)) (omega arith)
+returns-2 c =
+    let other = c .before in
+    c .digits-in .ensures ∙ minute-digits _ (sym (other .before .equal .ensures) ∙ other .if1 .left)
 
 pub minute-in-spec : {M : Type 1} → statement M
 minute-in-spec =
     tie.close
-    (tie.spec (λ c κs. search needs) (λ c. search needs) (λ c. search needs) (λ c. search needs) returns
-    (λ c. search needs) returns-2 returns-3 returns-4)
+    (tie.spec (λ c. search needs) (λ c κs. search needs) returns (λ c κs. search needs) returns-2)

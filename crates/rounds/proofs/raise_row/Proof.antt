@@ -2,34 +2,37 @@
 -- invariant: the row is raised by the first d differences; difference 0, which is s itself, asks nothing new. Assumes
 -- nothing.
 use mathlib.Core.Path.{_≡_, refl}
+use mathlib.Core.Logic.{⊎-elim}
+use mathlib.Core.Bool.{cond}
 use mathlib.Core.List.{List}
 use Prim.Native.Nat.{ℕ, _+_, _-_, _*_, _≤_, _<_, max}
 use native.Mathlib.Omega.{arith}
 use borrow.Author.Needs.{needs}
 use lib.ListN.{getD}
 use Rattle.network.specs.Build.{scenarios}
-use Rattle.network.specs.Strategy.{knownFrom}
 use Rattle.network.specs.declared.Network.{Network}
-use Rattle.rows.specs.Known.{FirstKnown}
+use Rattle.rows.specs.Known.{knownIn, FirstKnown}
 use Rattle.rows.specs.Rows.{Few, Row, rowOf}
 use Rattle.rows.proofs.Gapless.{row-is}
 use Rattle.rows.proofs.FirstKnown.{first-few}
+use Rattle.rows.specs.Framed.{present}
 use Rattle.rounds.specs.Compiled.{Compiled}
 use Rattle.rounds.specs.Rounds.{held, raisedAt}
 use Rattle.rounds.proofs.Raise.{across, ruled, ruled-is, across-start, across-next, rises, raised-row}
-use Rattle.rounds.proofs.Raise.{stored-ext}
+use Rattle.rounds.proofs.Bounds.{cond-le}
+use Rattle.rounds.proofs.Raise.{kept-row, stored-ext}
 use Rattle.rounds.proofs.Raised.{row-in}
-use Rattle.rounds.proofs.Usable.{powers, signals-in, hour-in, scenarios-in, lists-in, short-in}
+use Rattle.rounds.proofs.Usable.{powers, signals-in, safe-in, scenarios-in, lists-in, short-in}
 use Rattle.rounds.proofs.Usable.{other-in, row-few, raising-few}
 use Rattle.rounds.proofs.raise_row.Statement.{statement}
 use Rattle.rounds.proofs.raise_row.Tie as tie
 
 abbrev Inv-loop : tie.InvT-loop
-Inv-loop t new s counts lists climb highest row first o₀ scenarios d₀ o d =
+Inv-loop t new s frame counts lists climb highest row first o₀ scenarios d₀ o d =
     (1 ≤ d) × (d ≤ scenarios) × Row o (λ u. max (getD o₀ u 0) (across t first s d u))
 
 abbrev μ-loop : tie.MeasureT-loop
-μ-loop t new s counts lists climb highest row first o₀ scenarios d₀ o d = scenarios - d
+μ-loop t new s frame counts lists climb highest row first o₀ scenarios d₀ o d = scenarios - d
 
 s-in : (c : tie.Start Inv-loop μ-loop) → c .args .s < 16
 s-in c = omega (arith, c .pre .0, scenarios-in (c .pre .1))
@@ -54,17 +57,17 @@ read-few : (c : tie.After-read-row Inv-loop μ-loop) → Few 10080 (read c)
 read-few c = let z = c .before .before in rw (row-of c) (row-few (z .pre .1) (z .pre .2) (z .args .s) (z .pre .0))
 
 abbrev firsts : tie.After-lower Inv-loop μ-loop → List ℕ
-firsts c = c .before .before .before .before .before .before .before .before .first-known .last .1 .1 .0
+firsts c = c .before .before .before .before .before .before .before .before .first-known .last .1 .1 .1 .0
 
 known-first : (c : tie.After-lower Inv-loop μ-loop) (Γ : Network)
     → Compiled Γ (start c .args .frame) (start c .args .counts .now) (start c .args .lists .now)
     → FirstKnown (start c .args .frame .signals)
-    (knownFrom Γ (held Γ (start c .args .t .now)) (start c .args .s)) (firsts c)
+    (knownIn Γ (held Γ (start c .args .t .now)) (start c .args .s)) (firsts c)
 known-first c Γ C =
     let a = start c .args in
     let in-s : a .s < scenarios Γ = omega (arith, start c .pre .0, C .framed .scenarios-are) in
     let first-known = c .before .before .before .before .before .before .before .before .first-known in
-    first-known .ensures Γ (held Γ (a .t .now)) (a .s) (C .formed) (C .framed)
+    first-known .ensures Γ (held Γ (a .t .now)) (C .formed) (C .framed)
     (row-in C (a .t .now) (a .s) in-s (row-of (reading c)))
 
 by-bounds : (c : tie.After-lower Inv-loop μ-loop)
@@ -93,7 +96,7 @@ read-row-requires c κs = (s-in (c .before), refl)
 first-known-requires : tie.Need-first-known-requires Inv-loop μ-loop
 first-known-requires c κs =
     let U = c .before .before .before .before .pre .1 in
-    (signals-in U, read-few (c .before .before), refl, hour-in U)
+    (signals-in U, read-few (c .before .before), refl, safe-in U, s-in (c .before .before .before .before))
 
 lift-requires : tie.Need-lift-requires Inv-loop μ-loop
 lift-requires c κs = (read-few (c .before .before .before .before .before), refl)
@@ -161,18 +164,44 @@ loop-again c =
           (loop .inv .2) (c .raise-by-scenario .ensures),
     )
 
+clear-absent-requires : tie.Need-clear-absent-requires Inv-loop μ-loop
+clear-absent-requires c κs =
+    let l = c .before .before .before in
+    let z = start (l .before) in
+    (safe-in (z .pre .1), s-in z, l .loop .inv .2 .sized)
+
+-- where no event has a label nothing is cleared, and each happens
+cleared : (c : tie.Joined1 Inv-loop μ-loop)
+    → let z = start (c .before .before .before) in
+    Row (c .if1 .o) (λ u. cond (present (z .args .frame) (z .args .s) u) (getD (c .before .before .loop .o) u 0) 0)
+cleared c =
+    let l = c .before .before in
+    let z = start (l .before) in
+    ⊎-elim
+    (λ w. rw (w .3) (w .2 .ensures))
+    (λ w. rw (w .1) (kept-row (z .args .frame) (z .args .s) (w .0 .left) (l .loop .inv .2 .sized)))
+    (c .if1 .came)
+
+-- what is cleared can be compared, too
+cleared-few : (c : tie.Joined1 Inv-loop μ-loop) → Few 32767 (c .if1 .o)
+cleared-few c u l =
+    let at-loop = c .before .before in
+    let z = start (at-loop .before) in
+    rw (cleared c .is u l) (cond-le (present (z .args .frame) (z .args .s) u) _ 32767 (λ _. o-few at-loop u l))
+
 store-row-requires : tie.Need-store-row-requires Inv-loop μ-loop
 store-row-requires c κs =
-    let l = c .before .before .before .before .before .before in
+    let joined = c .before .before .before .before .before in
+    let l = joined .before .before in
     let loop = l .loop in
     let z = start (l .before) in
     let a = z .args in (
       s-in z,
       z .pre .3,
-      rises (a .counts .now) (a .lists .now) (a .t .now) (a .s)
-          (across (a .t .now) (firsts (l .before)) (a .s) (loop .d))
-          (row-of (reading (l .before))) (by-bounds (l .before)) (loop .inv .2),
-      o-few l,
+      rises (a .counts .now) (a .lists .now) (a .t .now) (a .s) (a .frame)
+          (across (a .t .now) (firsts (l .before)) (a .s) (loop .d)) (z .pre .2) (z .pre .0)
+          (row-of (reading (l .before))) (by-bounds (l .before)) (loop .inv .2) (cleared joined),
+      cleared-few joined,
       z .pre .4,
       z .pre .5,
       z .pre .6,
@@ -181,18 +210,18 @@ store-row-requires c κs =
 
 returns : tie.Need-returns Inv-loop μ-loop
 returns c =
-    let l = c .before .before .before .before .before .before .before in
-    let test = c .before .before .before .before .before .before .loop-test in
+    let joined = c .before .before .before .before .before .before in
+    let l = joined .before .before in
     let loop = l .loop in
     let z = start (l .before) in
     let a = z .args in
-    let e : loop .d ≡ a .frame .scenarios = omega (arith, test .left) in
+    let e : loop .d ≡ a .frame .scenarios = omega (arith, joined .before .loop-test .left) in
     λ Γ C.
     let made = raised-row (a .counts .now) (a .lists .now) (a .t .now) (a .s) Γ (C .framed)
-    (known-first (l .before) Γ C) (by-bounds (l .before)) (rw e at (loop .inv .2))
+    (known-first (l .before) Γ C) (by-bounds (l .before)) (rw e at (loop .inv .2)) (cleared joined)
     in
     stored-ext (λ u. getD (read (reading (l .before))) u 0) (λ u. getD (a .t .now) (a .s * 16 + u) 0)
-    (λ u. getD (loop .o) u 0)
+    (λ u. getD (joined .if1 .o) u 0)
     (λ u. raisedAt Γ (a .counts .now) (a .lists .now) (a .t .now) (a .s) u)
     (reading (l .before) .read-row .ensures .is)
     (made .is) (c .store-row .ensures)
@@ -202,4 +231,4 @@ raise-row-spec =
     tie.close
     (tie.spec Inv-loop μ-loop read-row-requires first-known-requires lift-requires raise-by-bounds-requires
     lower-requires loop-holds mul-raise-by-scenario array-read-raise-by-scenario raise-by-scenario-requires add-d
-    (λ c. search needs) loop-again store-row-requires returns)
+    (λ c. search needs) loop-again clear-absent-requires store-row-requires returns)

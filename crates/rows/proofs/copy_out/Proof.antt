@@ -1,13 +1,15 @@
 -- Each turn writes one row behind the others. The invariant: the first s rows of n are there, and the rest is
 -- unaltered. Assumes nothing.
 use mathlib.Core.Path.{_≡_}
+use mathlib.Core.Bool.{cond}
 use Prim.Native.Nat.{ℕ, _+_, _-_, _*_, _/_, _%_, _≤_, _<_}
 use native.Mathlib.Omega.{arith}
 use native.Mathlib.Nat.{mul-comm, mul-le-mul, mul-le-mul-right}
 use borrow.Author.Needs.{needs}
 use lib.ListN.{getD}
 use Rattle.prelude.proofs.Cells.{row-of, column-of}
-use Rattle.rows.specs.Rows.{gapless, Wrote}
+use Rattle.rows.specs.Framed.{present}
+use Rattle.rows.specs.Rows.{handed, Wrote}
 use Rattle.rows.proofs.Wrote.{wrote-none, wrote-join, wrote-all}
 use Rattle.rows.proofs.copy_out.Statement.{statement}
 use Rattle.rows.proofs.copy_out.Tie as tie
@@ -20,11 +22,12 @@ ends : (s c n a : ℕ) → a ≡ s * n → s ≡ c → a ≡ n * c
 ends s c n a e f = rw (e, f) (mul-comm c n)
 
 abbrev Inv-loop : tie.InvT-loop
-Inv-loop t n c out₀ s₀ a₀ out s a =
-    (s ≤ c) × (a ≡ s * n) × Wrote out₀ out 0 a (λ i. getD t (i / n * 16 + i % n) 0)
+Inv-loop t frame out₀ n c s₀ a₀ out s a =
+    (s ≤ c) × (a ≡ s * n) × Wrote out₀ out 0 a
+    (λ i. cond (present frame (i / n) (i % n)) (getD t (i / n * 16 + i % n) 0) 65535)
 
 abbrev μ-loop : tie.MeasureT-loop
-μ-loop t n c out₀ s₀ a₀ out s a = c - s
+μ-loop t frame out₀ n c s₀ a₀ out s a = c - s
 
 loop-holds : tie.Need-loop-holds Inv-loop μ-loop
 loop-holds c = (omega arith, omega arith, wrote-none _ _ _)
@@ -35,14 +38,15 @@ copy-row-requires c κs =
     let pre = c .before .before .before .before .pre in
     let z = c .before .before .before .before in
     let i = loop .inv in (
-      omega (arith, pre .0, c .before .loop-test .taken),
-      pre .2,
+      pre .0,
+      omega (arith, pre .1, c .before .loop-test .taken),
+      pre .3,
       omega (
         arith,
         i .1,
         i .2 .sized,
-        pre .3,
-        row-end (loop .s) (z .args .c) (z .args .n)
+        pre .4,
+        row-end (loop .s) (z .args .frame .scenarios) (z .args .frame .events)
             (c .before .loop-test .taken),
       ),
     )
@@ -53,14 +57,15 @@ add-a c =
     let loop = c .before .before .before .before .before .loop in
     let test = c .before .before .before .before .loop-test in
     let z = c .before .before .before .before .before .before .before in
-    let few : z .args .n * z .args .c ≤ 256 = mul-le-mul (pre .2) (pre .0) in
-    omega (arith, loop .inv .1, row-end (loop .s) (z .args .c) (z .args .n) (test .taken), few)
+    let few : z .args .frame .events * z .args .frame .scenarios ≤ 256 = mul-le-mul (pre .3) (pre .1) in
+    let rest = row-end (loop .s) (z .args .frame .scenarios) (z .args .frame .events) (test .taken) in
+    omega (arith, loop .inv .1, rest, few)
 
 add-s : tie.Need-add-s Inv-loop μ-loop
 add-s c =
     let pre = c .before .before .before .before .before .before .before .pre in
     let test = c .before .before .before .before .loop-test in
-    omega (arith, pre .0, test .taken)
+    omega (arith, pre .1, test .taken)
 
 loop-again : tie.Need-loop-again Inv-loop μ-loop
 loop-again c =
@@ -69,7 +74,7 @@ loop-again c =
     let copy-row = c .before .before .copy-row in
     let l = c .before .before .before .before .before in
     let z = l .before .before in
-    let n = z .args .n in (
+    let n = z .args .frame .events in (
       omega (arith, test .taken),
       omega (arith, loop .inv .1),
       wrote-join _ (loop .inv .2) (copy-row .ensures) (omega arith)
@@ -80,14 +85,15 @@ same-length : tie.Need-same-length Inv-loop μ-loop
 same-length c = c .before .loop .inv .2 .sized
 
 returns : tie.Need-returns Inv-loop μ-loop
-unfolding gapless
+unfolding handed
 returns c =
     let args = c .before .before .before .args in
     let pre = c .before .before .before .pre in
-    let z = args in
+    let n = args .frame .events in
+    let all = args .frame .scenarios in
     let loop = c .before .loop in
-    let e : loop .a ≡ z .n * z .c = ends (loop .s) (z .c) (z .n) _ (loop .inv .1) (omega (arith, c .loop-test .left)) in
-    wrote-all _ (rw e at (c .before .loop .inv .2)) (pre .3)
+    let e : loop .a ≡ n * all = ends (loop .s) all n _ (loop .inv .1) (omega (arith, c .loop-test .left)) in
+    wrote-all _ (rw e at (c .before .loop .inv .2)) (pre .4)
 
 pub copy-out-spec : {M : Type 1} → statement M
 copy-out-spec =

@@ -56,12 +56,12 @@ read-after-requires-2 c κs = (c .before .before .if1 .left, at-signals c)
 read-after-requires-3 : tie.Need-read-after-requires-3
 read-after-requires-3 c κs = (c .before .before .before .if1 .left, at-rules c)
 
-read-optional-requires : tie.Need-read-optional-requires
-read-optional-requires c κs = (c .before .before .before .before .if1 .left, at-reactions c)
+read-last-requires : tie.Need-read-last-requires
+read-last-requires c κs = (c .before .before .before .before .if1 .left, at-reactions c)
 
 returns-2 : tie.Need-returns-2
 returns-2 c =
-    let reactions = c .before .read-optional in
+    let last = c .before .read-last in
     let behind-rules = c .before .before in
     let rules = behind-rules .read-after3 in
     let signals = behind-rules .before .read-after2 in
@@ -70,12 +70,12 @@ returns-2 c =
     let horizon = behind-horizon .read-horizon in
     c .end-of .ensures
     ∙ read-whole (sheet-4 behind-rules) (progressOf (horizon .result)) (progressOf (events .result))
-    (progressOf (signals .result)) (progressOf (rules .result)) (progressOf (reactions .result))
+    (progressOf (signals .result)) (progressOf (rules .result)) (progressOf (last .result))
     (behind-horizon .before .if1 .left) (horizon .ensures) (events .ensures) (signals .ensures) (rules .ensures)
-    (reactions .ensures)
+    (last .ensures)
 
 pub read-spec : {M : Type 1} → statement M
 read-spec =
     tie.close
     (tie.spec (λ c κs. search needs) returns (λ c κs. search needs) read-after-requires read-after-requires-2
-    read-after-requires-3 read-optional-requires (λ c κs. search needs) returns-2)
+    read-after-requires-3 read-last-requires (λ c κs. search needs) returns-2)

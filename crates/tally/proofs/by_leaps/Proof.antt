@@ -5,7 +5,7 @@ use Rattle.tally.proofs.by_leaps.Statement.{statement}
 use Rattle.tally.proofs.by_leaps.Tie as tie
 
 run-requires : tie.Need-run-requires
-run-requires c κs = (c .before .pre, zero-times _ _)
+run-requires c κs = (c .before .pre, zero-times _ _ _)
 
 pub by-leaps-spec : {M : Type 1} → statement M
 by-leaps-spec =

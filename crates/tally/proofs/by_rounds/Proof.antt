@@ -5,7 +5,7 @@ use Prim.Native.Nat.{_-_, _≤_}
 use native.Mathlib.Omega.{arith}
 use borrow.Author.Needs.{needs}
 use lib.ListN.{length}
-use Rattle.rows.specs.Rows.{Times}
+use Rattle.rows.specs.Rows.{FrameTimes}
 use Rattle.rounds.proofs.Usable.{scenarios-in}
 use Rattle.rounds.proofs.Effects.{rounded-as, times-framed}
 use Rattle.moves.proofs.Moves.{wrote-times}
@@ -15,7 +15,7 @@ use Rattle.tally.proofs.by_rounds.Tie as tie
 
 abbrev Inv-loop : tie.InvT-loop
 Inv-loop frame counts lists cells a₀ b₀ rounds₀ a b rounds =
-    (rounds ≤ 2580481) × (length b ≡ 256) × Times (frame .events) (frame .scenarios) a
+    (rounds ≤ 2580481) × (length b ≡ 256) × FrameTimes frame a
 
 abbrev μ-loop : tie.MeasureT-loop
 μ-loop frame counts lists cells a₀ b₀ rounds₀ a b rounds = 2580481 - rounds
@@ -24,7 +24,7 @@ mul-cells : tie.Need-mul-cells Inv-loop μ-loop
 mul-cells c = omega (arith, scenarios-in (c .before .pre))
 
 loop-holds : tie.Need-loop-holds Inv-loop μ-loop
-loop-holds c = (omega arith, refl, zero-times _ _)
+loop-holds c = (omega arith, refl, zero-times _ _ _)
 
 round-requires : tie.Need-round-requires Inv-loop μ-loop
 round-requires c κs =

@@ -22,8 +22,8 @@ frame-of-requires c κs =
     let read = c .before .before .before .read in
     formed _ _ (read .ensures) (c .enum-told2 .given .1)
 
-list-constraints-requires : tie.Need-list-constraints-requires
-list-constraints-requires c κs =
+compile-requires : tie.Need-compile-requires
+compile-requires c κs =
     let enum-told2 = c .before .before .before .enum-told2 in
     let read = c .before .before .before .before .before .before .read in
     let F = c .before .before .frame-of .ensures in
@@ -32,17 +32,17 @@ list-constraints-requires c κs =
 
 by-rounds-requires : tie.Need-by-rounds-requires
 by-rounds-requires c κs =
-    let list-constraints = c .before .before .before .list-constraints in
-    record { network = _; compiled = list-constraints .ensures }
+    let compile = c .before .before .before .compile in
+    record { network = _; compiled = compile .ensures }
 
 by-leaps-requires : tie.Need-by-leaps-requires
 by-leaps-requires c κs =
-    let list-constraints = c .before .before .before .list-constraints in
-    record { network = _; compiled = list-constraints .ensures }
+    let compile = c .before .before .before .compile in
+    record { network = _; compiled = compile .ensures }
 
 pub tally-spec : {M : Type 1} → statement M
 tally-spec =
     tie.close
     (tie.spec (λ c κs. search needs) (λ c. search needs) (λ c. search needs) frame-of-requires
-    list-constraints-requires by-rounds-requires (λ c. search needs) by-leaps-requires (λ c. search needs)
+    compile-requires by-rounds-requires (λ c. search needs) by-leaps-requires (λ c. search needs)
     (λ c. search needs))

@@ -53,7 +53,8 @@ at-most-requires c κs =
     let pre = back .before .before .before .pre in
     let placed = place .ensures .1 (not-false _ (if2 .left)) in
     let led = advance .ensures .1 (not-false _ (if3 .left)) in
-    (pre .0, pre .1, pre .2, pre .3, pre .6, far-of placed led)
+    let o = placed-times (pre .1) (pre .2) placed (place .ensures .0) (horizon-few (pre .0)) in
+    (pre .0, pre .1, pre .2, pre .3, pre .6, far-of o placed led)
 
 returns-4 : tie.Need-returns-4
 returns-4 c =
@@ -71,7 +72,8 @@ at-least-requires c κs =
     let pre = back .before .before .before .before .before .before .before .pre in
     let placed = place .ensures .1 (not-false _ (if2 .left)) in
     let led = advance .ensures .1 (not-false _ (if3 .left)) in
-    (pre .0, pre .1, pre .2, pre .3, far-of placed led)
+    let o = placed-times (pre .1) (pre .2) placed (place .ensures .0) (horizon-few (pre .0)) in
+    (pre .0, pre .1, pre .2, pre .3, far-of o placed led)
 
 returns-5 : tie.Need-returns-5
 returns-5 c =

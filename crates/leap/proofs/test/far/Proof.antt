@@ -32,7 +32,9 @@ returns-2 : tie.Need-returns-2
 returns-2 c =
     let place = c .before .before .before .place in
     let placed = place .ensures .1 (not-false _ (c .before .before .if1 .left)) in
-    (c .advance .ensures .0, λ e. far-of placed (c .advance .ensures .1 e))
+    let pre = c .before .before .before .before .before .before .pre in
+    let o = placed-times (pre .1) (pre .2) placed (place .ensures .0) (horizon-few (pre .0)) in
+    (c .advance .ensures .0, λ e. far-of o placed (c .advance .ensures .1 e))
 
 pub far-spec : {M : Type 1} → statement M
 far-spec = tie.close (tie.spec mul-cells place-requires returns advance-requires returns-2)

@@ -9,9 +9,10 @@ use lib.Seq.{length-take-le}
 use Rattle.network.specs.declared.Network.{Network}
 use Rattle.line.specs.Answers.{partsOf, entryBy, entryAt}
 use Rattle.line.specs.declared.Section.{Section}
-use Rattle.line.specs.declared.Section.the-variants.{Events, Signals, Rules, Reactions}
+use Rattle.line.specs.declared.Section.the-variants.{Events, Signals, Rules, Reactions, Cases}
 use Rattle.text.proofs.Lines.{line-missing, line-le}
-use Rattle.line.proofs.Answered.{event-parts, signal-parts, rule-parts, reaction-parts, entry-ends}
+use Rattle.line.proofs.Answered.{event-parts, signal-parts, rule-parts, reaction-parts, case-parts}
+use Rattle.line.proofs.Answered.{entry-ends}
 use Rattle.line.proofs.entry.entry_at.Statement.{statement}
 use Rattle.line.proofs.entry.entry_at.Tie as tie
 
@@ -36,7 +37,7 @@ abbrev parts : tie.Else1 → Network
 parts d =
     let a = start d .args in
     partsOf (a .n) (a .starts .now) (a .lengths .now) (a .k) (a .letters .now) (a .observations .now)
-    (a .reactions .now)
+    (a .reactions .now) (a .labelled .now)
 
 abbrev line : tie.Else1 → List ℕ
 line d = take (d .before .until .result) (start d .args .rest .now)
@@ -75,9 +76,15 @@ returns-5 c =
     c .reaction-fields .ensures sheet ∙ reaction-parts sheet (parts d) (line d)
     ∙ answered d Reactions (c .before .enum-told4 .given .1)
 
+returns-6 : tie.Need-returns-6
+returns-6 c =
+    let d = c .before .before .before .before in
+    c .label-fields .ensures ∙ case-parts (start d .args .sheet .now) (parts d) (line d)
+    ∙ answered d Cases (c .before .enum-told5 .given .1)
+
 pub entry-at-spec : {M : Type 1} → statement M
 entry-at-spec =
     tie.close
     (tie.spec (λ c κs. search needs) returns slice-aggregate-line (λ c. search needs) (λ c κs. search needs)
     (λ c. search needs) (λ c κs. search needs) (λ c. search needs) (λ c κs. search needs) (λ c. search needs)
-    (λ c κs. search needs) returns-2 returns-3 returns-4 returns-5)
+    (λ c κs. search needs) (λ c. search needs) (λ c κs. search needs) returns-2 returns-3 returns-4 returns-5 returns-6)

@@ -18,7 +18,7 @@ use Rattle.line.proofs.entry.event_fields.Tie as tie
 
 -- the network by its parts, and the fields of the line
 abbrev parts : tie.Start → Network
-parts d = partsOf (d .args .n) (d .args .starts .now) (d .args .lengths .now) 0 [] [] []
+parts d = partsOf (d .args .n) (d .args .starts .now) (d .args .lengths .now) 0 [] [] [] []
 
 abbrev parted : tie.Start → List (List ℕ)
 parted d = fields (d .args .line .now)

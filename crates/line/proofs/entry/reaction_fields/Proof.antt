@@ -23,7 +23,7 @@ use Rattle.line.proofs.entry.reaction_fields.Tie as tie
 
 -- the network by its parts, and the fields of the line
 abbrev parts : tie.Start → Network
-parts z = partsOf 0 [] [] (z .args .k) (z .args .letters .now) [] (z .args .reactions .now)
+parts z = partsOf 0 [] [] (z .args .k) (z .args .letters .now) [] (z .args .reactions .now) []
 
 abbrev cells : tie.Start → List (List ℕ)
 cells z = fields (z .args .line .now)

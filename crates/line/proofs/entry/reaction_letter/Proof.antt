@@ -23,7 +23,7 @@ use Rattle.line.proofs.entry.reaction_letter.Tie as tie
 
 -- the network by its parts, the signal of the letter, and the refusal of the letter
 abbrev parts : tie.Start → Network
-parts z = partsOf 0 [] [] (z .args .k) (z .args .letters .now) [] (z .args .reactions .now)
+parts z = partsOf 0 [] [] (z .args .k) (z .args .letters .now) [] (z .args .reactions .now) []
 
 abbrev signal : tie.Start → Option ℕ
 signal z = signalOf (parts z) (z .args .f .now)

@@ -21,7 +21,8 @@ use Rattle.line.proofs.entry.rule_ends.Tie as tie
 
 -- the network by its parts, and the refusal of the ends and the label
 abbrev parts : tie.Start → Network
-parts d = partsOf (d .args .n) (d .args .starts .now) (d .args .lengths .now) (d .args .k) (d .args .letters .now) [] []
+parts d = partsOf (d .args .n) (d .args .starts .now) (d .args .lengths .now) (d .args .k) (d .args .letters .now) []
+    [] []
 
 abbrev why : tie.Start → Option Cause
 why d =

@@ -18,7 +18,8 @@ use Rattle.line.proofs.entry.rule_fields.Tie as tie
 
 -- the network by its parts
 abbrev parts : tie.Start → Network
-parts d = partsOf (d .args .n) (d .args .starts .now) (d .args .lengths .now) (d .args .k) (d .args .letters .now) [] []
+parts d = partsOf (d .args .n) (d .args .starts .now) (d .args .lengths .now) (d .args .k) (d .args .letters .now) []
+    [] []
 
 abbrev parted : tie.Start → List (List ℕ)
 parted d = fields (d .args .line .now)

@@ -18,7 +18,7 @@ use Rattle.line.proofs.entry.signal_fields.Tie as tie
 abbrev parts : tie.Start → Network
 parts d =
     partsOf (d .args .n) (d .args .starts .now) (d .args .lengths .now) (d .args .k) (d .args .letters .now)
-    (d .args .observations .now) []
+    (d .args .observations .now) [] []
 
 abbrev why : tie.Start → Option Cause
 why d = firstFailing (signalTests (d .args .sheet .now) (parts d) (fields (d .args .line .now)))

@@ -10,28 +10,39 @@ use Rattle.line.proofs.heading.heading_of.Statement.{statement}
 use Rattle.line.proofs.heading.heading_of.Tie as tie
 
 -- a section's line is that of the section that was asked for
-as-asked : (rest : List ℕ) {s t : Section} → t ≡ s → headingAt rest (headingOf s) ≡ headingAt rest (headingOf t)
-as-asked rest e = sym (ap (λ (s : Section). headingAt rest (headingOf s)) e)
+as-asked : (rest : List ℕ) (n : ℕ) {s t : Section} → t ≡ s
+    → headingAt rest (headingOf n s) ≡ headingAt rest (headingOf n t)
+as-asked rest n e = sym (ap (λ (s : Section). headingAt rest (headingOf n s)) e)
 
 returns : tie.Need-returns
 returns c =
     let d = c .before .before in
-    c .section-line .ensures ∙ as-asked (d .before .before .before .args .rest .now) (d .enum-told .given .1)
+    let args = d .before .before .before .args in
+    c .section-line .ensures ∙ as-asked (args .rest .now) (args .n) (d .enum-told .given .1)
 
 returns-2 : tie.Need-returns-2
 returns-2 c =
     let d = c .before .before in
-    c .section-line2 .ensures ∙ as-asked (d .before .before .before .args .rest .now) (d .enum-told2 .given .1)
+    let args = d .before .before .before .args in
+    c .section-line2 .ensures ∙ as-asked (args .rest .now) (args .n) (d .enum-told2 .given .1)
 
 returns-3 : tie.Need-returns-3
 returns-3 c =
     let d = c .before .before in
-    c .section-line3 .ensures ∙ as-asked (d .before .before .before .args .rest .now) (d .enum-told3 .given .1)
+    let args = d .before .before .before .args in
+    c .section-line3 .ensures ∙ as-asked (args .rest .now) (args .n) (d .enum-told3 .given .1)
 
 returns-4 : tie.Need-returns-4
 returns-4 c =
     let d = c .before .before in
-    c .section-line4 .ensures ∙ as-asked (d .before .before .before .args .rest .now) (d .enum-told4 .given .1)
+    let args = d .before .before .before .args in
+    c .section-line4 .ensures ∙ as-asked (args .rest .now) (args .n) (d .enum-told4 .given .1)
+
+returns-5 : tie.Need-returns-5
+returns-5 c =
+    let d = c .before .before in
+    let args = d .before .before .before .args in
+    c .section-line5 .ensures ∙ as-asked (args .rest .now) (args .n) (d .enum-told5 .given .1)
 
 pub heading-of-spec : {M : Type 1} → statement M
 heading-of-spec =
@@ -39,4 +50,5 @@ heading-of-spec =
     (tie.spec (λ c. search needs) (λ c. search needs) (λ c. search needs) (λ c κs. search needs) (λ c. search needs)
     (λ c. search needs) (λ c. search needs) (λ c κs. search needs) (λ c. search needs) (λ c. search needs)
     (λ c. search needs) (λ c κs. search needs) (λ c. search needs) (λ c. search needs) (λ c. search needs)
-    (λ c κs. search needs) returns returns-2 returns-3 returns-4)
+    (λ c κs. search needs) (λ c. search needs) (λ c. search needs) (λ c. search needs) (λ c κs. search needs) returns
+    returns-2 returns-3 returns-4 returns-5)

@@ -3,17 +3,18 @@
 -- network's (`known-in-row`). Assumes nothing.
 use mathlib.Core.Path.{_≡_, refl}
 use mathlib.Core.List.{List}
+use mathlib.Core.Bool.{cond}
 use Prim.Native.Nat.{ℕ, _+_, _%_, _^_, _≤_, _<_}
 use native.Mathlib.Omega.{arith}
 use borrow.Author.Needs.{needs}
 use lib.ListN.{length, getD, set, length-set}
 use lib.Seq.{getD-set-same}
-use Rattle.network.specs.Strategy.{knownFrom}
 use Rattle.network.specs.WellFormed.{WellFormed}
 use Rattle.network.specs.declared.Network.{Network}
-use Rattle.rows.specs.Framed.{Framed}
+use Rattle.prelude.proofs.Tests.{by-cond}
+use Rattle.rows.specs.Framed.{present, Framed}
 use Rattle.rows.specs.Rows.{RowIn}
-use Rattle.rows.specs.Known.{FirstKnown}
+use Rattle.rows.specs.Known.{knownIn, FirstKnown}
 use Rattle.rows.proofs.FirstKnown.{first-start, first-next, first-few, first-fewer, known-in-row}
 use Rattle.rows.proofs.known.first_known.Statement.{statement}
 use Rattle.rows.proofs.known.first_known.Tie as tie
@@ -21,7 +22,9 @@ use Rattle.rows.proofs.known.first_known.Tie as tie
 -- from when on a proposition is known, also one behind the last signal
 abbrev known : tie.Start → ℕ → ℕ
 known z p =
-    getD (z .args .row .now) (getD (z .args .frame .observations) p 0 % 16) 0 + getD (z .args .frame .reactions) p 0
+    let u = getD (z .args .frame .observations) p 0 % 16 in
+    cond (present (z .args .frame) (z .args .s) u) (getD (z .args .row .now) u 0 + getD (z .args .frame .reactions) p 0)
+    32767
 
 -- the table of no proposition, and of one, two and three; where each stands, the function's start
 started : (z : tie.Start) → FirstKnown 0 (known z) (set (z .args .first .now) 0 32767)
@@ -55,15 +58,20 @@ three c =
 fit : (z : tie.Start) (k : ℕ) {v : ℕ} {first : List ℕ} → k < 4 → 2 ^ k ≤ 8 → FirstKnown k (known z) first
     → v ≡ known z k → (2 ^ k ≤ 8) × (length first ≡ 16) × (v ≤ 32767) × ((d : ℕ) → d < 2 ^ k → getD first d 0 ≤ 32767)
 fit z k m l F e =
-    let low = z .pre .1 (getD (z .args .frame .observations) k 0 % 16) (omega arith) in
-    (l, F .sized, omega (arith, low, z .pre .3 k m), first-few _ F)
+    let u = getD (z .args .frame .observations) k 0 % 16 in
+    let low = z .pre .1 u (omega arith) in
+    let small : known z k ≤ 32767 =
+    by-cond (λ (x : ℕ). x ≤ 32767) (present (z .args .frame) (z .args .s) u) _ _
+    (λ _. omega (arith, low, z .pre .3 .hour k m)) (λ _. omega arith) in
+    (l, F .sized, omega (arith, small), first-few _ F)
 
 -- a table for at least the network's propositions
 ended : (z : tie.Start) (m : ℕ) {first : List ℕ} → FirstKnown m (known z) first → z .args .frame .signals ≤ m → m ≤ 4
-    → (Γ : Network) (σ : List ℕ) (s : ℕ) → WellFormed Γ → Framed Γ (z .args .frame) → RowIn Γ σ s (z .args .row .now)
-    → FirstKnown (z .args .frame .signals) (knownFrom Γ σ s) first
-ended z m F h l Γ σ s w f r =
-    first-fewer (known z) (knownFrom Γ σ s) (z .args .frame .signals) m F h l (known-in-row Γ σ s w f r)
+    → (Γ : Network) (σ : List ℕ) → WellFormed Γ → Framed Γ (z .args .frame) → RowIn Γ σ (z .args .s) (z .args .row .now)
+    → FirstKnown (z .args .frame .signals) (knownIn Γ σ (z .args .s)) first
+ended z m F h l Γ σ w f r =
+    let s = z .args .s in
+    first-fewer (known z) (knownIn Γ σ s) (z .args .frame .signals) m F h l (known-in-row Γ σ s w f r)
 
 returns : tie.Need-returns
 returns c = ended (c .before) 0 (started (c .before)) (omega (arith, c .if1 .taken)) (omega arith)

@@ -35,6 +35,9 @@ read-section-requires c κs =
     let d = c .before in
     (start d .pre .0, take-drop (start d .args .sheet .now) (d .before .step .given .0 .0), here d)
 
+returns : tie.Need-returns
+returns c = rw (c .enum-told .given .1)
+
 returns-2 : tie.Need-returns-2
 returns-2 c =
     let args = c .before .before .before .before .before .before .before .args in
@@ -45,4 +48,4 @@ pub read-after-spec : {M : Type 1} → statement M
 read-after-spec =
     tie.close
     (tie.spec (λ c. search needs) (λ c. search needs) sub-read-section part-read-section-start (λ c. search needs)
-    read-section-requires (λ c. search needs) returns-2)
+    read-section-requires returns returns-2)

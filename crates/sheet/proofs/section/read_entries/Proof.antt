@@ -1,14 +1,23 @@
 -- The invariant: the lines that are left give what all of them give, and the sheet is at its stage (`EntriesLeft`).
--- What a line holds is added in place, as `added` says. Assumes nothing.
+-- What a line holds is added in place, as `added` says; behind the last label all labels are tested. Assumes nothing.
 use borrow.Author.Needs.{needs}
 use mathlib.Core.Path.{_≡_, refl, sym, _∙_}
 use mathlib.Core.Logic.{inl, inr}
-use Prim.Native.Nat.{_≤_}
+use mathlib.Core.Option.{Option, none}
+use Prim.Native.Nat.{_+_, _-_, _≤_, _<_}
 use native.Mathlib.Omega.{arith}
+use borrow.Author.Tests.{eq-eqb, ne-eqb}
 use lib.ListN.{length}
+use Rattle.prelude.specs.Checks.{firstFailing}
+use Rattle.refusal.specs.declared.Cause.{Cause}
+use Rattle.network.specs.Limits as L
+use Rattle.network.specs.declared.Network.{Network}
 use Rattle.line.specs.Sections.{added}
+use Rattle.line.specs.declared.entry.Entry.{Entry}
+use Rattle.line.proofs.Refusals.{check-refused, check-passed}
 use Rattle.sheet.specs.Reading.{readEntries}
 use Rattle.sheet.proofs.EntriesLeft.{EntriesLeft, reads-end}
+use Rattle.sheet.proofs.Held.{testsBehind}
 use Rattle.sheet.proofs.Lines.{names-in, few-signals, entry-stop, EntryTurn, entry-turn}
 use Rattle.sheet.proofs.section.read_entries.Statement.{statement}
 use Rattle.sheet.proofs.section.read_entries.Tie as tie
@@ -31,12 +40,12 @@ part-entry-at-start c = c .before .loop .inv .stage .inside
 
 entry-at-requires : tie.Need-entry-at-requires Inv-loop μ-loop
 entry-at-requires c κs =
-    let loop = c .before .before .before .before .before .before .before .before .loop in
+    let loop = c .before .before .before .before .before .before .before .before .before .loop in
     (names-in (loop .inv .stage), few-signals (loop .inv .stage))
 
 -- the turn of the loop, seen from behind the reader of its line, and from where its answer is known
 abbrev in-loop : tie.After-entry-at Inv-loop μ-loop → tie.In-loop Inv-loop μ-loop
-in-loop c = c .before .before .before .before .before .before .before .before
+in-loop c = c .before .before .before .before .before .before .before .before .before
 
 abbrev in-turn : tie.After-known-told2 Inv-loop μ-loop → tie.In-loop Inv-loop μ-loop
 in-turn d = in-loop (d .before .before .before)
@@ -60,52 +69,53 @@ turn d =
     entry-turn (here .before .loop .inv) (here .loop-test .taken) (read2 .given .0 .0) (read2 .given .0 .1 .0)
     (sym (d .before .before .before .entry-at .ensures) ∙ read2 .given .1)
 
-mul-network : tie.Need-mul-network Inv-loop μ-loop
-mul-network c = let room = rw (c .enum-told .given .1) at (turn (c .before .before) .room) in omega arith
+-- so there is room for what it holds
+abbrev network : tie.After-known-told2 Inv-loop μ-loop → Network
+network d = in-turn d .before .loop .network
 
-element-write-network : tie.Need-element-write-network Inv-loop μ-loop
-element-write-network c = let room = rw (c .enum-told .given .1) at (turn (c .before .before) .room) in omega arith
+event-room : (c : tie.After-enum-told Inv-loop μ-loop) → network (c .before .before) .events < L.events
+event-room c = rw (c .enum-told .given .1) at (turn (c .before .before) .room)
 
-mul-network-2 : tie.Need-mul-network-2 Inv-loop μ-loop
-mul-network-2 c = let room = rw (c .enum-told .given .1) at (turn (c .before .before) .room) in omega arith
+signal-room : (c : tie.After-known-told3 Inv-loop μ-loop) → network (c .before .before .before) .signals < L.signals
+signal-room c = rw (c .before .entry .given .1) at (turn (c .before .before .before) .room)
 
-element-write-network-2 : tie.Need-element-write-network-2 Inv-loop μ-loop
-element-write-network-2 c = let room = rw (c .enum-told .given .1) at (turn (c .before .before) .room) in omega arith
+rule-room : (c : tie.After-known-told4 Inv-loop μ-loop) → network (c .before .before .before) .rules < L.rules
+rule-room c = rw (c .before .entry2 .given .1) at (turn (c .before .before .before) .room)
 
-add-network : tie.Need-add-network Inv-loop μ-loop
-add-network c = let room = rw (c .enum-told .given .1) at (turn (c .before .before) .room) in omega arith
+reaction-room : (c : tie.After-known-told5 Inv-loop μ-loop) → c .before .entry3 .given .0 .0 < L.signals
+reaction-room c = rw (c .before .entry3 .given .1) at (turn (c .before .before .before) .room)
 
-element-write-network-3 : tie.Need-element-write-network-3 Inv-loop μ-loop
-element-write-network-3 c = let room = rw (c .before .entry .given .1) at (turn (c .before .before .before) .room)
-    in omega arith
+label-room : (c : tie.After-known-told6 Inv-loop μ-loop) → c .before .entry4 .given .0 .0 < L.events
+label-room c = rw (c .before .entry4 .given .1) at (turn (c .before .before .before) .room)
 
-mul-network-3 : tie.Need-mul-network-3 Inv-loop μ-loop
-mul-network-3 c = let room = rw (c .before .entry .given .1) at (turn (c .before .before .before) .room) in omega arith
+whole-of-requires : tie.Need-whole-of-requires Inv-loop μ-loop
+whole-of-requires c κs =
+    rw (c .before .before .entry4 .given .1) at (turn (c .before .before .before .before) .testable)
 
-element-write-network-4 : tie.Need-element-write-network-4 Inv-loop μ-loop
-element-write-network-4 c = let room = rw (c .before .entry .given .1) at (turn (c .before .before .before) .room)
-    in omega arith
+-- what the line holds, how long it is, and the network with it
+abbrev held : tie.After-known-told2 Inv-loop μ-loop → Entry
+held d = d .before .read2 .given .0 .0
 
-add-network-2 : tie.Need-add-network-2 Inv-loop μ-loop
-add-network-2 c = let room = rw (c .before .entry .given .1) at (turn (c .before .before .before) .room) in omega arith
+abbrev grown : tie.After-known-told2 Inv-loop μ-loop → Network
+grown d =
+    let loop = in-turn d .before .loop in
+    added (held d) (loop .network) (loop .place) (d .before .read2 .given .0 .1 .0)
 
-mul-constraint : tie.Need-mul-constraint Inv-loop μ-loop
-mul-constraint c = let room = rw (c .before .entry2 .given .1) at (turn (c .before .before .before) .room)
-    in omega arith
+-- the tests behind the line
+abbrev behind : tie.After-known-told2 Inv-loop μ-loop → Option Cause
+behind d = firstFailing (testsBehind (held d) (in-turn d .before .loop .left) (grown d))
 
-element-set-from-constraint : tie.Need-element-set-from-constraint Inv-loop μ-loop
-element-set-from-constraint c = let room = rw (c .before .entry2 .given .1) at (turn (c .before .before .before) .room)
-    in omega arith
-
-add-network-3 : tie.Need-add-network-3 Inv-loop μ-loop
-add-network-3 c = let room = rw (c .before .entry2 .given .1) at (turn (c .before .before .before) .room) in omega arith
-
-mul-network-4 : tie.Need-mul-network-4 Inv-loop μ-loop
-mul-network-4 c = let room = rw (c .before .entry3 .given .1) at (turn (c .before .before .before) .room) in omega arith
-
-element-write-network-5 : tie.Need-element-write-network-5 Inv-loop μ-loop
-element-write-network-5 c = let room = rw (c .before .entry3 .given .1) at (turn (c .before .before .before) .room)
-    in omega arith
+returns-2 : tie.Need-returns-2 Inv-loop μ-loop
+returns-2 c =
+    let at-whole = c .before .before .before .before in
+    let at-if = at-whole .before in
+    let entry4 = at-if .before .before .entry4 in
+    let d = at-if .before .before .before .before in
+    let left = in-turn d .before .loop .left in
+    let check = c .before .before .check in
+    let fails = check-refused _ (check .given .0 .0) (sym (at-whole .whole-of .ensures) ∙ check .given .1) in
+    c .refused2 .ensures
+    ∙ turn d .stop (check .given .0 .0) (rw (entry4 .given .1, eq-eqb left 1 (at-if .if1 .taken)) fails)
 
 -- the sheet is short, so that places and lines are small
 short : (d : tie.After-known-told2 Inv-loop μ-loop)
@@ -129,28 +139,46 @@ sub-left c = omega (arith, in-turn (c .before) .loop-test .taken)
 loop-less : tie.Need-loop-less Inv-loop μ-loop
 loop-less c = omega (arith, in-turn (c .before) .loop-test .taken)
 
+-- the next turn, where what the line holds is added and all tests hold
+turns : (d : tie.After-known-told2 Inv-loop μ-loop) (Δ : Network) → Δ ≡ grown d → behind d ≡ none
+    → let loop = in-turn d .before .loop in
+    let args = in-turn d .before .before .before .args in
+    let n = d .before .read2 .given .0 .1 .0 in
+    EntriesLeft (args .sheet .now) (args .section)
+    (readEntries (args .sheet .now) (args .section) (args .m) (args .t3) (args .at) (args .k)) (loop .left - 1) Δ
+    (loop .place + n + 1) (loop .line + 1)
+turns d Δ e f = rw e (turn d .next f)
+
 loop-again : tie.Need-loop-again Inv-loop μ-loop
 loop-again c =
-    let read2 = c .before .before .read2 in
-    let loop = in-turn (c .before) .before .loop in
-    let grown : c .match2 .network ≡ added (read2 .given .0 .0) (loop .network) (loop .place) (read2 .given .0 .1 .0) =
+    let d = c .before in
+    let left = in-turn d .before .loop .left in
     elim (c .match2 .came) [
-      | inl w ↦ w .2 ∙ sym (rw (w .1 .given .1))
-      | inr (inl w) ↦ w .3 ∙ sym (rw (w .1 .given .1))
-      | inr (inr (inl w)) ↦ w .3 ∙ sym (rw (w .1 .given .1))
-      | inr (inr (inr w)) ↦ w .3 ∙ sym (rw (w .1 .given .1))
-    ] in
-    rw grown (turn (c .before) .next)
+      | inl w ↦ turns d _ (w .2 ∙ sym (rw (w .1 .given .1))) (rw (w .1 .given .1))
+      | inr (inl w) ↦ turns d _ (w .3 ∙ sym (rw (w .1 .given .1))) (rw (w .1 .given .1))
+      | inr (inr (inl w)) ↦ turns d _ (w .3 ∙ sym (rw (w .1 .given .1))) (rw (w .1 .given .1))
+      | inr (inr (inr (inl w))) ↦ turns d _ (w .3 ∙ sym (rw (w .1 .given .1))) (rw (w .1 .given .1))
+      | inr (inr (inr (inr (inl w)))) ↦
+          turns d _ (w .7 ∙ sym (rw (w .1 .given .1)))
+          (rw (w .1 .given .1, eq-eqb left 1 (w .3 .taken)) (check-passed _ (sym (w .4 .ensures) ∙ w .6 .given .1)))
+      | inr (inr (inr (inr (inr w)))) ↦
+          turns d _ (w .4 ∙ sym (rw (w .1 .given .1))) (rw (w .1 .given .1, ne-eqb left 1 (w .3 .left)))
+    ]
 
-returns-2 : tie.Need-returns-2 Inv-loop μ-loop
-returns-2 c = reads-end (c .before .loop .inv) (c .loop-test .left)
+returns-3 : tie.Need-returns-3 Inv-loop μ-loop
+returns-3 c = reads-end (c .before .loop .inv) (c .loop-test .left)
 
 pub read-entries-spec : {M : Type 1} → statement M
 read-entries-spec =
     tie.close
     (tie.spec Inv-loop μ-loop loop-holds sub-entry-at part-entry-at-start (λ c. search needs) entry-at-requires
-    (λ c. search needs) (λ c κs. search needs) returns (λ c. search needs) (λ c. search needs) mul-network
-    element-write-network mul-network-2 element-write-network-2 add-network (λ c. search needs)
-    element-write-network-3 mul-network-3 element-write-network-4 add-network-2 (λ c. search needs) mul-constraint
-    element-set-from-constraint add-network-3 (λ c. search needs) mul-network-4 element-write-network-5 add-place
-    add-place-2 add-line sub-left loop-less loop-again returns-2)
+    (λ c. search needs) (λ c κs. search needs) returns (λ c. search needs) (λ c. search needs)
+    (λ c. omega (arith, event-room c)) (λ c. omega (arith, event-room c)) (λ c. omega (arith, event-room c))
+    (λ c. omega (arith, event-room c)) (λ c. omega (arith, event-room c)) (λ c. search needs)
+    (λ c. omega (arith, signal-room c)) (λ c. omega (arith, signal-room c)) (λ c. omega (arith, signal-room c))
+    (λ c. omega (arith, signal-room c)) (λ c. search needs) (λ c. omega (arith, rule-room c))
+    (λ c. omega (arith, rule-room c)) (λ c. omega (arith, rule-room c)) (λ c. search needs)
+    (λ c. omega (arith, reaction-room c)) (λ c. omega (arith, reaction-room c)) (λ c. search needs)
+    (λ c. omega (arith, label-room c)) (λ c. omega (arith, label-room c)) (λ c. omega (arith, label-room c))
+    whole-of-requires (λ c. search needs) (λ c κs. search needs) returns-2 (λ c. search needs) add-place add-place-2
+    add-line sub-left loop-less loop-again returns-3)

@@ -2,6 +2,7 @@
 use borrow.Author.Needs.{needs}
 use mathlib.Core.Path.{sym, _∙_}
 use native.Mathlib.Omega.{arith}
+use Rattle.sheet.proofs.Lines.{names-in}
 use Rattle.sheet.proofs.Sections.{section-stops, SectionGoes, section-goes}
 use Rattle.sheet.proofs.section.read_section.Statement.{statement}
 use Rattle.sheet.proofs.section.read_section.Tie as tie
@@ -24,6 +25,9 @@ goes d =
     (args .network)
     (read2 .given .0 .0) (read2 .given .0 .1 .0) (sym (d .before .before .before .heading-of .ensures)
     ∙ read2 .given .1)
+
+heading-of-requires : tie.Need-heading-of-requires
+heading-of-requires c κs = names-in (c .before .before .pre .2) .few
 
 add-read-entries : tie.Need-add-read-entries
 add-read-entries c = omega (arith, goes c .inside, start c .pre .0)
@@ -52,5 +56,5 @@ returns-2 c = c .read-entries .ensures ∙ goes (c .before) .goes
 pub read-section-spec : {M : Type 1} → statement M
 read-section-spec =
     tie.close
-    (tie.spec (λ c κs. search needs) (λ c. search needs) (λ c κs. search needs) (λ c. search needs) (λ c. search needs)
+    (tie.spec heading-of-requires (λ c. search needs) (λ c κs. search needs) (λ c. search needs) (λ c. search needs)
     add-read-entries add-read-entries-2 add-read-entries-3 read-entries-requires returns returns-2)
