@@ -2,6 +2,8 @@
 // is raised by them. A bound asks that the time of its target is at least the time of its source and its weight, less
 // 10,080. The lists are lent: counts has how many bounds each scenario has, and lists has three numbers for each:
 // target, source, weight; those of scenario s stand from bound Network::LISTED * s on.
+#![tactic(auto)]
+
 ghost use Rattle.std.specs.Prelude.{◌≡◌, ℕ, ◌+◌, ◌-◌, ◌*◌, ◌≤◌, ◌<◌, max, length, get_or};
 ghost use Rattle.network.specs.Limits as L;
 ghost use Rattle.network.specs.WellFormed.{InLimits};

@@ -1,5 +1,7 @@
 // What the public calls answer. The definitions of each answer stand in specs/, and so do the demands on them; the
 // calls themselves are those of `opening`.
+#![tactic(auto)]
+
 use checker::Verdict;
 use refusal::Refusal;
 

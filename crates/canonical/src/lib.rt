@@ -1,5 +1,7 @@
 // A sheet in its house form. Each function that writes a part of it takes the place where the part begins and answers
 // the place where it ends; each section has its own.
+#![tactic(auto)]
+
 ghost use Rattle.std.specs.Prelude.{◌≡◌, true, [], ◌∷◌, map, ◌+◌, ◌≤◌, ◌<◌, length};
 ghost use Rattle.prelude.specs.Gather.{ahead};
 ghost use Rattle.text.specs.Lines.{comma, line};

@@ -1,4 +1,6 @@
 // The checker: which of document 01's three points a strategy breaks first.
+#![tactic(auto)]
+
 ghost use Rattle.std.specs.Prelude.{◌≡◌, ◌||◌, not, ◌*◌, ◌+◌, ◌≤◌, ◌<◌, min, leb, length};
 ghost use Rattle.network.specs.Limits as L;
 ghost use Rattle.network.specs.Build.{event_label, cells};

@@ -1,5 +1,7 @@
 // What is due at a minute, by what has been heard before it (document 02, points 1, 3 and 6). The records that are lent
 // are walked once, into a mask; all the rest works on the mask.
+#![tactic(auto)]
+
 ghost use Rattle.std.specs.Prelude.{◌≡◌, true, ◌<◌, length};
 ghost use Rattle.network.specs.Build.{scenarios, cells};
 ghost use Rattle.network.specs.Scenario as S;

@@ -1,6 +1,8 @@
 // A second solver, by another method: it makes every table of a small network and asks the checker of each. Cells
 // whose event does not happen are blank in all of them. It shares nothing with the solver but the network. Proved safe
 // and ending; what it answers is compared with the solver's, not proved.
+#![tactic(auto)]
+
 ghost use Rattle.std.specs.Prelude.{◌≡◌, ◌*◌, ◌^◌, ◌<◌, ◌≤◌, length};
 ghost use Rattle.network.specs.WellFormed.{WellFormed};
 

@@ -1,4 +1,6 @@
 // Files of the folder that a program is started in.
+#![tactic(auto)]
+
 ghost use Rattle.io.specs.Counts.{IsPrefixLen};
 
 // Reads a file into buf, as far as there is room; one that can't be opened counts as empty.

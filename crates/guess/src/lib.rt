@@ -1,5 +1,7 @@
 // How periods are guessed. A guess is tested before it is used, so nothing is promised of it but that its numbers are
 // small; what is written here decides how soon and how often rounds are passed over, and nothing else.
+#![tactic(auto)]
+
 ghost use Rattle.std.specs.Prelude.{◌≡◌, ◌<◌, ◌≤◌, length};
 ghost use Rattle.network.specs.Limits as L;
 

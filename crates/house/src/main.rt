@@ -1,4 +1,6 @@
 // Reads a sheet on standard input and prints it in its house form, or `refused N line L`.
+#![tactic(auto)]
+
 use libc::STDIN_FILENO;
 
 // One byte more than the longest sheet shows that a sheet is too long; no form is longer than a sheet may be.

@@ -1,5 +1,6 @@
 // Reads the files `sheet.csv` and `listing.csv` of the folder that it is started in, and prints the verdict on the
 // table of the listing, or `refused N line L`.
+#![tactic(auto)]
 
 // One byte more than the longest sheet or listing shows that a file is too long.
 fn main() {

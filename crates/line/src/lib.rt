@@ -1,4 +1,6 @@
 // A line of the sheet: why it is refused, or what it holds.
+#![tactic(auto)]
+
 pub mod entry;
 mod field;
 pub mod heading;

@@ -1,5 +1,7 @@
 // The printed listing of a strategy. Each function that writes a part of it takes the place where the part begins and
 // answers the place where it ends.
+#![tactic(auto)]
+
 ghost use Rattle.std.specs.Prelude.{◌≡◌, ◌∷◌, ◌+◌, ◌*◌, ◌^◌, ◌≤◌, length};
 ghost use Rattle.text.specs.Lines.{comma};
 ghost use Rattle.network.specs.Limits as L;

@@ -1,6 +1,8 @@
 // Tables moved on: each time by j times a part of its rise. Rises stand in tables like times, and a level is one of
 // their values. Nothing here knows of rounds. A test that says true promises what it tested; one that says false
 // promises nothing.
+#![tactic(auto)]
+
 ghost use Rattle.std.specs.Prelude.{◌≡◌, true, ◌+◌, ◌-◌, ◌*◌, ◌%◌, ◌≤◌, ◌<◌, min, length, get_or};
 ghost use Rattle.network.specs.Limits as L;
 ghost use Rattle.rows.specs.Rows.{Wrote};

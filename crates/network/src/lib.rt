@@ -1,5 +1,7 @@
 // The conditional simple temporal network (CSTN) that a sheet describes, and its limits. Document 01's signals are
 // its propositions, their events its observation events, and the rules its constraints.
+#![tactic(auto)]
+
 ghost use Rattle.std.specs.Prelude.{◌≡◌, ◌*◌, ◌^◌, ◌≤◌, ◌<◌};
 ghost use Rattle.network.specs.Limits as L;
 ghost use Rattle.network.specs.Scenario as S;
@@ -12,7 +14,7 @@ ghost use Rattle.network.specs.Joint.{join, joint_of};
 pub mod times;
 
 // What a rule says of the difference between its two times.
-#[derive(Drop)]
+#[derive(Clone, Copy)]
 pub enum Kind {
     // At most the limit.
     Max,
@@ -23,14 +25,14 @@ pub enum Kind {
 }
 
 // A label: the sum of the weights of its true letters, and that of its false ones.
-#[derive(Drop)]
+#[derive(Clone, Copy)]
 pub struct Label {
     pub positive: u8,
     pub negative: u8,
 }
 
 // A labelled constraint.
-#[derive(Drop)]
+#[derive(Clone, Copy)]
 pub struct Constraint {
     pub kind: Kind,
     pub from: usize,

@@ -1,5 +1,7 @@
 // The public calls. None asks anything of its caller: whatever the bytes and the lengths are, the answer is a defined
 // one, and a refusal leaves the lent memory as it was.
+#![tactic(auto)]
+
 ghost use Rattle.std.specs.Prelude.{◌≡◌};
 ghost use Rattle.calls.specs.Call.{without_line_lem, Leaves};
 ghost use Rattle.calls.specs.Calls.{summary, judgement, solving, listed, housed};

@@ -1,5 +1,7 @@
 // Text written into lent memory. Each push takes the place where its text begins and answers the place where it ends;
 // hand_out begins at the front, and tests first whether there is room. Everything else in the memory stays as it was.
+#![tactic(auto)]
+
 ghost use Rattle.std.specs.Prelude.{[], ◌∷◌, ◌+◌, ◌≤◌, ◌<◌, length};
 ghost use Rattle.text.specs.Lines.{comma};
 ghost use Rattle.text.specs.Decimal.{decimal};

@@ -1,4 +1,6 @@
 // A table as bytes, two a minute and the low byte first: how it travels to and from the bench's C program.
+#![tactic(auto)]
+
 ghost use Rattle.std.specs.Prelude.{◌≡◌, ◌++◌, ◌+◌, ◌*◌, ◌/◌, ◌≤◌, length, drop};
 ghost use Rattle.pairs.specs.Pairs.{minutes_of, bytes_of, Short};
 

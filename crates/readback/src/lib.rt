@@ -1,4 +1,6 @@
 // A printed table read back: the form of the whole listing first, then its minutes.
+#![tactic(auto)]
+
 ghost use Rattle.std.specs.Prelude.{◌≡◌, ◌&&◌, ◌++◌, ◌+◌, ◌≤◌, ◌<◌, length, drop};
 ghost use Rattle.std.proofs.Math.Option.{none};
 ghost use Rattle.prelude.specs.Bytes.{same};

@@ -1,4 +1,6 @@
 // Why a call is refused: the cause, and the line that decides, of the sheet or of a listing.
+#![tactic(auto)]
+
 ghost use Rattle.std.specs.Prelude.{◌≡◌};
 ghost use Rattle.refusal.specs.Refusal.{number_of};
 

@@ -1,5 +1,7 @@
 // What the programs print alike, and the calls as they use them: a refusal is printed, and the part of the
 // lent memory that was written is counted. A write that fails is left at that.
+#![tactic(auto)]
+
 ghost use Rattle.std.specs.Prelude.{◌≡◌};
 ghost use Rattle.io.specs.Counts.{IsPrefixLen};
 ghost use Rattle.calls.specs.Calls.{written_values};

@@ -1,5 +1,7 @@
 // One round of value iteration (004, Theorem 1): every time from the table before it, in rows of sixteen times. The
 // constraints and waits are first compiled into lists of difference bounds, one for each scenario.
+#![tactic(auto)]
+
 ghost use Rattle.std.specs.Prelude.{◌≡◌, ◌+◌, ◌*◌, ◌<◌, length, get_or};
 ghost use Rattle.network.specs.Limits as L;
 ghost use Rattle.network.specs.declared.Network.{Network};

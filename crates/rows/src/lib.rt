@@ -1,5 +1,7 @@
 // What rounds keep besides bounds: the frame of a network, and tables in rows of sixteen times, one row for each
 // scenario.
+#![tactic(auto)]
+
 ghost use Rattle.std.specs.Prelude.{◌≡◌, false, cond, ◌++◌, ℕ, ◌+◌, ◌-◌, ◌*◌, ◌≤◌, ◌<◌, max, min, length, get_or, drop};
 ghost use Rattle.prelude.specs.Bounded.{max_below};
 ghost use Rattle.network.specs.Limits as L;
@@ -14,7 +16,7 @@ pub mod known;
 
 // What rounds take of a network besides its constraints. A reaction here is at least 1, also where the sheet has no
 // line. Where no event has a label, labelled is false, and no label is looked at.
-#[derive(Drop)]
+#[derive(Clone, Copy)]
 pub struct Frame {
     pub horizon: u16,
     pub events: usize,

@@ -1,4 +1,6 @@
 // The sheet: bytes to a network, or a refusal with its line.
+#![tactic(auto)]
+
 ghost use Rattle.std.specs.Prelude.{◌≡◌};
 ghost use Rattle.sheet.specs.Reading.{read};
 

@@ -1,6 +1,8 @@
 // The least solution of a network by value iteration, or that there is none (004, Theorem 1). Rounds go on from a
 // table until one raises nothing or passes a limit, or the budget is used up; where they are seen to repeat, some are
 // passed over at once (docs/LEAP.md).
+#![tactic(auto)]
+
 ghost use Rattle.std.specs.Prelude.{◌≡◌, ◌*◌, ◌≤◌, length};
 ghost use Rattle.network.specs.Limits as L;
 ghost use Rattle.network.specs.Build.{cells};

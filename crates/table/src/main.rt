@@ -1,4 +1,6 @@
 // Reads a sheet on standard input and prints the listing of its least good table, or `refused N line L`.
+#![tactic(auto)]
+
 use libc::STDIN_FILENO;
 
 // One byte more than the longest sheet shows that a sheet is too long.

@@ -4,6 +4,8 @@
 //
 // An answer's lower four bytes are the rounds. Behind them stands a sum of the table, or all ones where there is none;
 // `tally_turns` answers with the rounds made one by one. A sheet that is refused gets 0.
+#![tactic(auto)]
+
 ghost use Rattle.std.specs.Prelude.{◌+◌, ◌*◌};
 ghost use Rattle.rounds.specs.Compiled.{Usable};
 

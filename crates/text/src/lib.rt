@@ -1,4 +1,6 @@
 // Lines, fields and decimal numbers. What each function answers is defined in specs/.
+#![tactic(auto)]
+
 ghost use Rattle.std.specs.Prelude.{◌≡◌, ◌+◌, ◌-◌, ◌*◌, ◌≤◌, ◌<◌, length, set};
 ghost use Rattle.prelude.specs.Bytes.{same};
 ghost use Rattle.text.specs.Lines.{up_to};

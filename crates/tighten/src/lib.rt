@@ -1,6 +1,8 @@
 // What remains of a network's rules: each rule as upper bounds, which document 02 calls rows, and of those with equal
 // ends and label the tightest, in the order of their keys. An upper bound is searched as one number, its key and
 // behind it its limit: the next one is the least number behind the last key.
+#![tactic(auto)]
+
 ghost use Rattle.std.specs.Prelude.{◌≡◌, [], ◌∷◌, map, ◌+◌, ◌≤◌, ◌<◌, length, get_or};
 ghost use Rattle.network.specs.Limits as L;
 ghost use Rattle.network.specs.WellFormed.{WellFormed};

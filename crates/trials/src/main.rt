@@ -2,6 +2,8 @@
 // with the exhaustive search on the small sheets. What it is to print was written by another program, which shares
 // nothing with this one. What each request asks of a sheet is a file of its own; reactions are in the sheets, and the
 // player of due.rt waits for them.
+#![tactic(auto)]
+
 mod back;
 mod base;
 mod due;

@@ -1,0 +1,18 @@
+-- `satisfies` meets its contract: the masks say what the label asks of each proposition. Assumes nothing.
+use borrow.Author.Tests.{eq-eqb, ne_eqb}
+use Rattle.network.proofs.Masks.{satisfies-bits}
+use Rattle.network.proofs.satisfies.Goals as goal
+
+pub returns-then-s-positive : goal.returns-then-s-positive
+returns-then-s-positive c =
+    rw (
+      ← satisfies-bits c.args.s c.args.label c.requires.0 c.requires.1 c.requires.2,
+      ne_eqb _ _ c.if-s-positive.true,
+    )
+
+pub returns : goal.returns
+returns c =
+    rw (
+      ← satisfies-bits c.args.s c.args.label c.requires.0 c.requires.1 c.requires.2,
+      eq-eqb _ _ c.if-s-positive.false,
+    )
