@@ -5,7 +5,7 @@
 use checker::Verdict;
 use refusal::Refusal;
 
-#[derive(Drop)]
+#[derive(Clone, Copy)]
 pub struct Counts {
     pub horizon: u16,
     pub events: usize,
@@ -14,28 +14,28 @@ pub struct Counts {
 }
 
 // What read_sheet answers.
-#[derive(Drop)]
+#[derive(Clone, Copy)]
 pub enum Summary {
     Accepted(Counts),
     Refused(Refusal),
 }
 
 // What judge_table answers.
-#[derive(Drop)]
+#[derive(Clone, Copy)]
 pub enum Judgement {
     Judged(Verdict),
     Refused(Refusal),
 }
 
 // What solve_sheet, write_listing, read_listing and write_house answer: how many minutes or bytes were written.
-#[derive(Drop)]
+#[derive(Clone, Copy)]
 pub enum Written {
     Count(usize),
     Refused(Refusal),
 }
 
 // What events_due answers: the events due, bit u for event u.
-#[derive(Drop)]
+#[derive(Clone, Copy)]
 pub enum Due {
     Events(u16),
     Refused(Refusal),

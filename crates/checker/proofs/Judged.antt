@@ -84,15 +84,15 @@ module _ (Γ : Network) (σ : List ℕ) where
   unfolding verdict
   pass_of_solution h = rw (late.nowhere.1 h.on_time, broken.nowhere.1 h.viable, none-unheard.1 h.dynamic)
 
-  first_late_lem : (b : Breach) → first_late_lem Γ σ ≡ some b → First Γ σ b
-  first_late_lem b e =
+  late_is_first : (b : Breach) → first_late_lem Γ σ ≡ some b → First Γ σ b
+  late_is_first b e =
       let w = late.first b e in
       let first : FirstLate Γ σ w.outer w.inner =
       record { scenario = w.outer_lt; event = w.inner_lt; breaks = w.breaks; before = w.before } in
       rw (← w.named) first
 
-  first_broken_lem : (b : Breach) → OnTimes → first_broken_lem Γ σ ≡ some b → First Γ σ b
-  first_broken_lem b on_time e =
+  broken_is_first : (b : Breach) → OnTimes → first_broken_lem Γ σ ≡ some b → First Γ σ b
+  broken_is_first b on_time e =
       let w = broken.first b e in
       let first : FirstRule Γ σ w.outer w.inner =
       record { scenario = w.outer_lt; place = w.inner_lt; breaks = w.breaks; before = w.before; on_time = on_time }
@@ -122,10 +122,10 @@ module _ (Γ : Network) (σ : List ℕ) where
   breached : (b : Breach) → first_breach Γ σ ≡ some b → First Γ σ b
   breached b e =
       elim (or_else_some (first_late_lem Γ σ) (or_else (first_broken_lem Γ σ) (first_unheard_lem Γ σ)) b e) [
-        | inl p ↦ first_late_lem b p
+        | inl p ↦ late_is_first b p
         | inr p ↦
             elim (or_else_some (first_broken_lem Γ σ) (first_unheard_lem Γ σ) b p.1) [
-              | inl q ↦ first_broken_lem b (late.nowhere.0 p.0) q
+              | inl q ↦ broken_is_first b (late.nowhere.0 p.0) q
               | inr q ↦ first-unheard b (late.nowhere.0 p.0) (broken.nowhere.0 q.0) q.1
             ]
       ]

@@ -75,8 +75,8 @@ module _ {A : Type 0} (n m : ℕ) (name : ℕ → ℕ → A) (P : ℕ → ℕ �
     passes : (i k : ℕ) → P i k → failing i k ≡ none
     passes i k p = unless-true (test i k) (name i k) ((decides i k).1 p)
 
-    first_failing_lem : (a : A) → nested n m failing ≡ some a → FirstBreaking a
-    first_failing_lem a e =
+    first_failing : (a : A) → nested n m failing ≡ some a → FirstBreaking a
+    first_failing a e =
         let w = some_of_nested n m failing a e in
         let i = w.outer in
         let k = w.inner in
@@ -98,5 +98,5 @@ module _ {A : Type 0} (n m : ℕ) (name : ℕ → ℕ → A) (P : ℕ → ℕ �
             λ e i k l h. holds i k (none_of_nested n m failing e i k l h),
             λ h. nested_none n m failing λ i k l r. passes i k (h i k l r),
           );
-          first = first_failing_lem;
+          first = first_failing;
         }

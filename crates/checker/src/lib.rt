@@ -18,7 +18,7 @@ use network::{Constraint, Kind, Label, Network, times};
 // Point 1: over the horizon, or an origin that is not at 0, or sooner than the signals of the event's label allow; or
 // a time where the event does not happen, or none where it does. Point 2: a constraint that covers the scenario and
 // does not hold in it. Point 3: an event that two scenarios have at two times, before anything that differs is known.
-#[derive(Drop)]
+#[derive(Clone, Copy)]
 pub enum Breach {
     Late {
         scenario: usize,
@@ -35,7 +35,7 @@ pub enum Breach {
     },
 }
 
-#[derive(Drop)]
+#[derive(Clone, Copy)]
 pub enum Verdict {
     Pass,
     Breach(Breach),
@@ -45,7 +45,7 @@ pub enum Verdict {
 const NEVER: u32 = 65536;
 
 // For each proposition, from when on it is known in a scenario: NEVER where it is not given there.
-#[derive(Drop)]
+#[derive(Clone, Copy)]
 struct Known {
     from: [u32; Network::SIGNALS],
 }

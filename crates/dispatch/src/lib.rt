@@ -18,13 +18,13 @@ use network::{Network, times};
 pub mod text;
 
 // A signal that has been heard: its letter and its truth.
-#[derive(Drop)]
+#[derive(Clone, Copy)]
 pub struct Heard {
     pub letter: u8,
     pub truth: bool,
 }
 
-#[derive(Drop)]
+#[derive(Clone, Copy)]
 pub enum Dispatched {
     // The events that are due: bit u for event u.
     Events(u16),

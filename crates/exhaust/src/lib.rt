@@ -20,14 +20,14 @@ const LATEST: u16 = 15;
 const OPEN: u16 = 1;
 
 // What the cells of every table hold, or OPEN.
-#[derive(Drop)]
+#[derive(Clone, Copy)]
 struct Frame {
     cells: [u16; CELLS],
 }
 
 // Whether the network was small enough to be searched; whether it has a solution; the least time of each cell over
 // all solutions.
-#[derive(Drop)]
+#[derive(Clone, Copy)]
 pub struct Tried {
     pub tried: bool,
     pub found: bool,

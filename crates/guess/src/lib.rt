@@ -15,7 +15,7 @@ const HALF: u32 = LONGEST / 2;
 // A round that raises as the marked one did ends a period. From round `from` on a round is marked, and another after
 // `window` rounds in which none was alike. What is to be done next: `keep` the table as the one that periods are
 // counted from; `leaps`, whether to try a leap.
-#[derive(Drop)]
+#[derive(Clone, Copy)]
 pub struct Watching {
     pub from: u32,
     pub window: u32,
@@ -24,7 +24,7 @@ pub struct Watching {
     pub leaps: bool,
 }
 
-#[derive(Drop)]
+#[derive(Clone, Copy)]
 enum Sight {
     Nothing,
     Mark,
@@ -165,7 +165,7 @@ pub fn after_tries(w: Watching, turns: u32, made: u32) -> Watching {
 
 // Which counts of moves are tried: first the most that the horizon allows; if that is too many, few, and twice as
 // many as long as they hold; then half as many each time.
-#[derive(Drop)]
+#[derive(Clone, Copy)]
 pub struct Tries {
     pub j: u32,
     pub first: bool,
@@ -231,7 +231,7 @@ pub fn next_count(c: Tries, held: bool) -> Tries
 
 // The pace of the fastest times: the cell whose time is the latest is watched until it has risen as often as is
 // wanted, or until the turn `until`, when another is chosen; `period` is how many turns that took, or 0.
-#[derive(Drop)]
+#[derive(Clone, Copy)]
 pub struct Pace {
     pub cell: usize,
     pub want: u32,

@@ -12,7 +12,7 @@ use network::{Constraint, Kind, Label, Network};
 use refusal::Cause;
 
 // What a line of a section adds to the network.
-#[derive(Drop)]
+#[derive(Clone, Copy)]
 pub enum Entry {
     Event,
     Signal { letter: u8, observation: usize },
@@ -22,7 +22,7 @@ pub enum Entry {
 }
 
 // A line behind a section's heading: why it is refused, or what it holds, and how long it is without its line feed.
-#[derive(Drop)]
+#[derive(Clone, Copy)]
 pub enum EntryLine {
     Refused(Cause),
     Holds { entry: Entry, length: usize },

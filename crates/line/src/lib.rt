@@ -10,7 +10,7 @@ use network::Kind;
 use refusal::Cause;
 
 // The sections behind the horizon, in the order of the sheet.
-#[derive(Drop)]
+#[derive(Clone, Copy)]
 pub enum Section {
     Events,
     Signals,
@@ -20,27 +20,27 @@ pub enum Section {
 }
 
 // A test with the cause of its failure, and what comes of several.
-#[derive(Drop)]
+#[derive(Clone, Copy)]
 struct Test {
     passes: bool,
     cause: Cause,
 }
 
-#[derive(Drop)]
+#[derive(Clone, Copy)]
 pub enum Check {
     Passed,
     Refused(Cause),
 }
 
 // The first field of a rule.
-#[derive(Drop)]
+#[derive(Clone, Copy)]
 enum KindField {
     Is(Kind),
     Other,
 }
 
 // The limit of a rule, in minutes.
-#[derive(Drop)]
+#[derive(Clone, Copy)]
 enum Limit {
     IllFormed,
     Beyond,
@@ -48,7 +48,7 @@ enum Limit {
 }
 
 // The line that a section begins with: why it is refused, or its count, and how long it is without its line feed.
-#[derive(Drop)]
+#[derive(Clone, Copy)]
 pub enum HeadingLine {
     Refused(Cause),
     Count { count: u32, length: usize },

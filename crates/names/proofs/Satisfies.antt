@@ -54,7 +54,7 @@ module _ (k : ℕ) (letters : List ℕ) where
           let w = and-true (beq v l.value) (eqb p q) e in
           (h ∙ ap some (sym (eqb-true p q w.1)), sym (beq-true v l.value w.0))
 
-  asks_member : {ls : List Literal} (l : Literal) (p : ℕ) → Memᴰ l ls → place_of k letters l.letter ≡ some p
+  asks_member : (l : Literal) {ls : List Literal} (p : ℕ) → Memᴰ l ls → place_of k letters l.letter ≡ some p
       → asks k letters l.value p ls ≡ true
   asks_member l p (Memᴰ.head {x} {xs} e) h =
       or_left (is_at k letters l.value p x) (asks k letters l.value p xs)

@@ -6,7 +6,7 @@ pub mod lookup;
 pub mod token;
 
 // The place of what was looked for.
-#[derive(Drop)]
+#[derive(Clone, Copy)]
 pub enum Found {
     At(usize),
     Nothing,

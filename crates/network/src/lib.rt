@@ -45,7 +45,7 @@ pub struct Constraint {
 // Proposition p has the letter letters[p], the observation event observations[p] and in reactions[p] the reaction that
 // its line states, or 0 where it has none. Event u happens where labels[u] holds, and labelled[u] says whether it has a
 // line. Behind the counts the arrays hold what the empty network has.
-#[derive(Drop)]
+#[derive(Clone, Copy)]
 pub struct Network {
     pub horizon: u16,
     pub events: usize,
@@ -62,7 +62,7 @@ pub struct Network {
 }
 
 // The most of each that a network holds, the range of reactions, and what a cell without its event holds.
-#[derive(Drop)]
+#[derive(Clone, Copy)]
 pub struct Limits {
     pub horizon: u16,
     pub events: usize,

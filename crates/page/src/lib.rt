@@ -9,7 +9,7 @@ ghost use Rattle.page.specs.Appended.{Appended};
 ghost use Rattle.page.specs.Filled.{FilledIs};
 
 // What a call that writes did: so many bytes, or nothing, since the memory is too short for them.
-#[derive(Drop)]
+#[derive(Clone, Copy)]
 pub enum Filled {
     Bytes(usize),
     TooShort,

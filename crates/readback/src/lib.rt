@@ -23,7 +23,7 @@ const LATEST: u32 = 65534;
 
 // So many minutes were written; or the first line of the listing that is not this sheet's, or that has a text that is
 // no minute; or the table is too short.
-#[derive(Drop)]
+#[derive(Clone, Copy)]
 pub enum Answer {
     Recovered(usize),
     OtherForm(u16),
@@ -32,21 +32,21 @@ pub enum Answer {
 }
 
 // What a pass over the rows finds: nothing, or the first line at fault.
-#[derive(Drop)]
+#[derive(Clone, Copy)]
 enum Fault {
     Nowhere,
     At(u16),
 }
 
 // A line by its length, where it fits.
-#[derive(Drop)]
+#[derive(Clone, Copy)]
 enum Line {
     Misfit,
     Fits(usize),
 }
 
 // The minute that a text is.
-#[derive(Drop)]
+#[derive(Clone, Copy)]
 enum Minute {
     IllFormed,
     At(u16),
@@ -217,7 +217,7 @@ fn read_rows(
 }
 
 // Whether the listing begins with the sheet's header, and where that ends.
-#[derive(Drop)]
+#[derive(Clone, Copy)]
 struct Head {
     fits: bool,
     end: usize,

@@ -5,7 +5,7 @@ ghost use Rattle.std.specs.Prelude.{◌≡◌};
 ghost use Rattle.refusal.specs.Refusal.{number_of};
 
 // The refusals of document 01, in its checking order, and those of document 02 behind them.
-#[derive(Drop)]
+#[derive(Clone, Copy)]
 pub enum Cause {
     // The sheet is longer than 4,096 bytes.
     TooLong,
@@ -51,7 +51,7 @@ pub enum Cause {
 }
 
 // A line is counted from 1; 0 where the refusal concerns no line.
-#[derive(Drop)]
+#[derive(Clone, Copy)]
 pub struct Refusal {
     pub cause: Cause,
     pub line: u16,

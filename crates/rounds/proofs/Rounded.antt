@@ -89,15 +89,15 @@ module _ {Γ : Network} {frame : Frame} {counts lists t new climb highest : List
     absent = λ e. made_at s u h l ∙ away s u h e;
   })
 
-  limit_of_lem : within (cap Γ) (propagate Γ σ) ≡ true → (s u : ℕ) → s < scenarios Γ → u < Γ.events
+  limit_of : within (cap Γ) (propagate Γ σ) ≡ true → (s u : ℕ) → s < scenarios Γ → u < Γ.events
       → made s u ≤ cond (fixed Γ s u) 0 Γ.horizon
-  limit_of_lem e s u h l = omega (arith, cap-within Γ (propagate Γ σ) e s u h l, made_at s u h l)
+  limit_of e s u h l = omega (arith, cap-within Γ (propagate Γ σ) e s u h l, made_at s u h l)
 
   highest_of : within (cap Γ) (propagate Γ σ) ≡ true → greatest highest ≤ Γ.horizon
   highest_of e =
       greatest_le _ _ R.highest_is Γ.horizon
       (all-cells (λ s u. made s u ≤ Γ.horizon)
-      (λ s u h l. omega (arith, limit_of_lem e s u h l, cond-few (fixed Γ s u) Γ.horizon Γ.horizon (omega arith)))
+      (λ s u h l. omega (arith, limit_of e s u h l, cond-few (fixed Γ s u) Γ.horizon Γ.horizon (omega arith)))
       (λ s u h l m. omega (arith, beyond s u h l m)))
 
   origin_of : within (cap Γ) (propagate Γ σ) ≡ true → get_or highest 0 0 ≤ 0
@@ -105,7 +105,7 @@ module _ {Γ : Network} {frame : Frame} {counts lists t new climb highest : List
       omega (
         arith,
         origin-is,
-        max_below_le (λ r. made r 0) (scenarios Γ) 0 (λ s h. limit_of_lem e s 0 h C.formed.some_event),
+        max_below_le (λ r. made r 0) (scenarios Γ) 0 (λ s h. limit_of e s 0 h C.formed.some_event),
       )
 
   -- whether anything rose

@@ -15,7 +15,7 @@ use rows::{Frame, known};
 pub mod compile;
 
 // The effect of a round: a time is over its limit; no time was raised; or times were raised, within limits.
-#[derive(Drop)]
+#[derive(Clone, Copy)]
 pub enum Effect {
     Passes,
     Rests,

@@ -13,27 +13,27 @@ use refusal::{Cause, Refusal};
 // The most bytes of a sheet.
 pub const LONGEST: usize = 4096;
 
-#[derive(Drop)]
+#[derive(Clone, Copy)]
 pub enum Outcome {
     Accepted,
     Refused(Refusal),
 }
 
 // The network of an accepted sheet; an empty one stands beside a refusal.
-#[derive(Drop)]
+#[derive(Clone, Copy)]
 pub struct Reading {
     pub outcome: Outcome,
     pub network: Network,
 }
 
 // How far the reader has come: refused, or the place of the next line and its number, with the network so far.
-#[derive(Drop)]
+#[derive(Clone, Copy)]
 enum Step {
     Refused(Refusal),
     Next { at: usize, line: u16 },
 }
 
-#[derive(Drop)]
+#[derive(Clone, Copy)]
 struct Reached {
     step: Step,
     network: Network,

@@ -17,7 +17,7 @@ use rounds::Effect;
 use rows::Frame;
 
 // The answer, with the count of rounds.
-#[derive(Drop)]
+#[derive(Clone, Copy)]
 pub enum Solved {
     // The table holds the least solution.
     Consistent { rounds: u32 },
@@ -27,7 +27,7 @@ pub enum Solved {
 
 // How a run ended, and after how many rounds: the last raised nothing; it took a time over its limit; the budget is
 // used up. A turn makes one round, and may pass over others.
-#[derive(Drop)]
+#[derive(Clone, Copy)]
 pub enum Ended {
     Rests { rounds: u32, turns: u32 },
     Passes { rounds: u32, turns: u32 },

@@ -15,7 +15,7 @@ use rows::Frame;
 use solver::{BUDGET, Ended};
 
 // Rounds, turns and the sum.
-#[derive(Drop)]
+#[derive(Clone, Copy)]
 struct Count {
     rounds: u32,
     turns: u32,

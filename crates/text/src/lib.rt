@@ -41,7 +41,7 @@ pub fn equal(a: &[u8], b: &[u8]) -> bool
 }
 
 // How many fields a line has, and where the first five of them end.
-#[derive(Drop)]
+#[derive(Clone, Copy)]
 pub struct Cuts {
     pub count: usize,
     pub ends: [usize; 5],
@@ -93,13 +93,13 @@ pub fn field(line: &[u8], cuts: Cuts, k: usize) -> &[u8]
 }
 
 // What digits are: no number, or its size.
-#[derive(Drop)]
+#[derive(Clone, Copy)]
 enum Natural {
     IllFormed,
     Size(u32),
 }
 
-#[derive(Drop)]
+#[derive(Clone, Copy)]
 pub enum Number {
     IllFormed,
     Plus(u32),
@@ -190,14 +190,14 @@ pub fn read_number(f: &[u8], most: u32) -> Number
 }
 
 // The decimal digits of v: the first `count` of bytes.
-#[derive(Drop)]
+#[derive(Clone, Copy)]
 pub struct Digits {
     pub bytes: [u8; 5],
     pub count: usize,
 }
 
 // How often a weight goes into a number, and what is left.
-#[derive(Drop)]
+#[derive(Clone, Copy)]
 struct Counted {
     digit: u8,
     left: u16,
@@ -225,7 +225,7 @@ fn count_off(v: u16, weight: u16) -> Counted
 }
 
 // How many digits of the places counted off stand in an array beside this, and what is left of the number.
-#[derive(Drop)]
+#[derive(Clone, Copy)]
 struct Places {
     count: usize,
     left: u16,

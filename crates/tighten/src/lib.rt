@@ -14,7 +14,7 @@ ghost use Rattle.tighten.specs.Fronts.{Added, EncodingsAre, UppersAre};
 use network::{Constraint, Kind, Label, Network};
 
 // The first `count` upper bounds are those that remain, where they fit a sheet.
-#[derive(Drop)]
+#[derive(Clone, Copy)]
 pub struct UpperBounds {
     pub fits: bool,
     pub count: usize,
@@ -22,7 +22,7 @@ pub struct UpperBounds {
 }
 
 // Upper bounds as numbers: the first `count` of the list.
-#[derive(Drop)]
+#[derive(Clone, Copy)]
 struct Encodings {
     count: usize,
     list: [u32; Network::BOUNDS],

@@ -5,7 +5,7 @@ use sheet::Outcome;
 use std::num::{wrapping_add_u64, wrapping_sub_u64};
 
 // Both find a table, and each cell of the solver's is the least over all good tables; both find none; or anything else.
-#[derive(Drop)]
+#[derive(Clone, Copy)]
 enum Compared {
     Table,
     None,
@@ -60,7 +60,7 @@ fn compare(sheet: &[u8]) -> Compared {
 }
 
 // How many sheets there are, and how many of them turned out so that both find a table, and so that both find none.
-#[derive(Drop)]
+#[derive(Clone, Copy)]
 struct Tally {
     sheets: u64,
     table: u64,

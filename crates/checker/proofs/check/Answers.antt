@@ -1,0 +1,55 @@
+-- `check` meets its contract: the three searches are tried in the definition's order, and the first that finds a
+-- breach decides. Assumes nothing.
+use mathlib.Core.Path.{◌≡◌, sym, ◌∙◌}
+use mathlib.Core.Option.{none}
+use Rattle.checker.specs.Verdict.{first_late_lem, first_broken_lem, first_unheard_lem, verdict}
+use Rattle.checker.proofs.Judged.{none_of_pass, some_of_breached}
+use Rattle.checker.proofs.check.Goals as goal
+
+pub returns-in-Breach : goal.returns-in-Breach
+unfolding verdict
+returns-in-Breach c =
+    let a = c.args in
+    let found = sym c.first_late-late.ensures ∙ c.in-Breach.is in
+    rw (some_of_breached (first_late_lem a.network a.table.now) _ found)
+
+pub returns-in-Breach-broken : goal.returns-in-Breach-broken
+unfolding verdict
+returns-in-Breach-broken c =
+    let no-late : let a = c.args in first_late_lem a.network a.table.now ≡ none = let a = c.args in
+    none_of_pass (first_late_lem a.network a.table.now)
+    (sym c.first_late-late.ensures ∙ c.in_default.is) in
+    let a = c.args in
+    let found = sym c.first_broken-broken.ensures ∙ c.in-Breach-broken.is in
+    let broken = some_of_breached (first_broken_lem a.network a.table.now) _ found in
+    rw (no-late, broken)
+
+pub returns-in-Breach-unheard : goal.returns-in-Breach-unheard
+unfolding verdict
+returns-in-Breach-unheard c =
+    let no-late : let a = c.args in first_late_lem a.network a.table.now ≡ none = let a = c.args in
+    none_of_pass (first_late_lem a.network a.table.now)
+    (sym c.first_late-late.ensures ∙ c.in_default.is) in
+    let no-broken : let a = c.args in first_broken_lem a.network
+    a.table.now ≡ none = let a = c.args in
+    none_of_pass (first_broken_lem a.network a.table.now)
+    (sym c.first_broken-broken.ensures ∙ c.in_default-broken.is) in
+    let a = c.args in
+        let found = sym c.first_unheard-unheard.ensures ∙ c.in-Breach-unheard.is in
+    let unheard = some_of_breached (first_unheard_lem a.network a.table.now) _ found in
+    rw (no-late, no-broken, unheard)
+
+pub returns : goal.returns
+unfolding verdict
+returns c =
+    let no-late : let a = c.args in first_late_lem a.network a.table.now ≡ none = let a = c.args in
+    none_of_pass (first_late_lem a.network a.table.now)
+    (sym c.first_late-late.ensures ∙ c.in_default.is) in
+    let no-broken : let a = c.args in first_broken_lem a.network
+    a.table.now ≡ none = let a = c.args in
+    none_of_pass (first_broken_lem a.network a.table.now)
+    (sym c.first_broken-broken.ensures ∙ c.in_default-broken.is) in
+    let a = c.args in
+        let nothing = sym c.first_unheard-unheard.ensures ∙ c.in_default-unheard.is in
+    let no-unheard = none_of_pass (first_unheard_lem a.network a.table.now) nothing in
+    rw (no-late, no-broken, no-unheard)

@@ -1,0 +1,13 @@
+-- The invariant: nothing below p is given by the event (`Searching`). Assumes nothing.
+use Prim.Native.Nat.{ℕ, ◌-◌}
+use lib.Dec.{eqb}
+use lib.ListN.{get_or}
+use Rattle.prelude.specs.Search.{when}
+use Rattle.prelude.proofs.Search.{Searching}
+use Rattle.names.proofs.lookup.gives_signal.Given as goal
+
+abbrev pub invariant-loop-p : goal.invariant-loop-p
+invariant-loop-p l = Searching {A = ℕ} (λ q. when (eqb (get_or l.observations q 0) l.u) q) l.k l.p
+
+abbrev pub decreases-loop-p : goal.decreases-loop-p
+decreases-loop-p l = l.k - l.p

@@ -1,0 +1,14 @@
+-- Each turn writes one time or a blank. The invariant: the first u are there, and the rest is unaltered. Assumes
+-- nothing.
+use mathlib.Core.Bool.{cond}
+use Prim.Native.Nat.{◌+◌, ◌-◌, ◌*◌, ◌≤◌}
+use lib.ListN.{get_or}
+use Rattle.rows.specs.Framed.{present}
+use Rattle.rows.specs.Rows.{Wrote}
+use Rattle.rows.proofs.copy_row.Given as goal
+
+abbrev pub invariant-loop-u : goal.invariant-loop-u
+invariant-loop-u l =    (l.u ≤ l.n) × Wrote l.initial.out l.out l.a l.u (λ k. cond (present l.frame l.s k) (get_or l.t (l.s * 16 + k) 0) 65535)
+
+abbrev pub decreases-loop-u : goal.decreases-loop-u
+decreases-loop-u l = l.n - l.u
