@@ -1,0 +1,11 @@
+-- `listing::push_header` meets its contract: the word, and the names behind it. Assumes nothing.
+use native.Mathlib.Omega.{arith}
+use Rattle.prelude.specs.Bytes.{ascii}
+use Rattle.page.proofs.Append.{append_then}
+use Rattle.listing.proofs.Fields.{line-tabulate}
+use Rattle.listing.proofs.push_header.Goals as goal
+
+pub returns : goal.returns
+returns c =
+    rw (← line-tabulate (ascii "case") _ _)
+    (append_then c.push_all-at.ensures c.push_names.ensures (omega arith))
