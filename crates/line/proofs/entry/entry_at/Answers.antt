@@ -1,15 +1,17 @@
 -- The line ends at the first line feed, or is missing where there is none; what stands before it is read as a line of
 -- its section. Assumes nothing.
-use mathlib.Core.Path.{sym, ◌∙◌}
+use mathlib.Core.Path.{◌≡◌, sym, ◌∙◌}
 use mathlib.Core.List.{List}
 use Prim.Native.Nat.{ℕ}
 use lib.ListN.{take}
 use lib.Seq.{length-take-le}
 use Rattle.network.specs.declared.Network.{Network}
-use Rattle.line.specs.Answers.{parts_of}
+use Rattle.line.specs.Answers.{parts_of, entry_by, entry_at}
+use Rattle.line.specs.declared.Section.{Section}
 use Rattle.line.specs.declared.Section.TheVariants.{Events, Signals, Rules, Reactions, Cases}
 use Rattle.text.proofs.Lines.{line_missing, line_le}
 use Rattle.line.proofs.Answered.{event_parts, signal_parts_lem, rule_parts, reaction_parts_lem, case_parts_lem}
+use Rattle.line.proofs.Answered.{entry_ends}
 use Rattle.line.proofs.entry.entry_at.Goals as goal
 
 pub returns-then-e-rest : goal.returns-then-e-rest
@@ -31,6 +33,11 @@ returns-in-Events c =
     parts_of a.n a.starts.now a.lengths.now a.k a.letters.now a.observations.now
     a.reactions.now a.labelled.now in
     let line : List ℕ = take c.until-e.result c.args.rest.now in
+    let answered : (s : Section) → c.args.section ≡ s
+    → entry_by line s c.args.sheet.now parts
+    ≡ entry_at c.args.rest.now c.args.section c.args.sheet.now parts = λ s e. let a = c.args in
+    entry_ends a.sheet.now parts a.rest.now c.until-e.result c.until-e.ensures
+    c.if-e-rest.false s a.section e in
     c.event_fields.ensures ∙ event_parts c.args.sheet.now parts line
     ∙ answered Events c.in-Events.is
 
@@ -40,6 +47,11 @@ returns-in-Signals c =
     parts_of a.n a.starts.now a.lengths.now a.k a.letters.now a.observations.now
     a.reactions.now a.labelled.now in
     let line : List ℕ = take c.until-e.result c.args.rest.now in
+    let answered : (s : Section) → c.args.section ≡ s
+    → entry_by line s c.args.sheet.now parts
+    ≡ entry_at c.args.rest.now c.args.section c.args.sheet.now parts = λ s e. let a = c.args in
+    entry_ends a.sheet.now parts a.rest.now c.until-e.result c.until-e.ensures
+    c.if-e-rest.false s a.section e in
     c.signal_fields.ensures ∙ signal_parts_lem c.args.sheet.now parts line
     ∙ answered Signals c.in-Signals.is
 
@@ -49,6 +61,11 @@ returns-in-Rules c =
     parts_of a.n a.starts.now a.lengths.now a.k a.letters.now a.observations.now
     a.reactions.now a.labelled.now in
     let line : List ℕ = take c.until-e.result c.args.rest.now in
+    let answered : (s : Section) → c.args.section ≡ s
+    → entry_by line s c.args.sheet.now parts
+    ≡ entry_at c.args.rest.now c.args.section c.args.sheet.now parts = λ s e. let a = c.args in
+    entry_ends a.sheet.now parts a.rest.now c.until-e.result c.until-e.ensures
+    c.if-e-rest.false s a.section e in
     c.rule_fields.ensures ∙ rule_parts c.args.sheet.now parts line
     ∙ answered Rules c.in-Rules.is
 
@@ -58,6 +75,11 @@ returns-in-Reactions c =
     parts_of a.n a.starts.now a.lengths.now a.k a.letters.now a.observations.now
     a.reactions.now a.labelled.now in
     let line : List ℕ = take c.until-e.result c.args.rest.now in
+    let answered : (s : Section) → c.args.section ≡ s
+    → entry_by line s c.args.sheet.now parts
+    ≡ entry_at c.args.rest.now c.args.section c.args.sheet.now parts = λ s e. let a = c.args in
+    entry_ends a.sheet.now parts a.rest.now c.until-e.result c.until-e.ensures
+    c.if-e-rest.false s a.section e in
     let sheet = c.args.sheet.now in
     c.reaction_fields.ensures sheet ∙ reaction_parts_lem sheet parts line
     ∙ answered Reactions c.in-Reactions.is
@@ -68,5 +90,10 @@ returns-in-Cases c =
     parts_of a.n a.starts.now a.lengths.now a.k a.letters.now a.observations.now
     a.reactions.now a.labelled.now in
     let line : List ℕ = take c.until-e.result c.args.rest.now in
+    let answered : (s : Section) → c.args.section ≡ s
+    → entry_by line s c.args.sheet.now parts
+    ≡ entry_at c.args.rest.now c.args.section c.args.sheet.now parts = λ s e. let a = c.args in
+    entry_ends a.sheet.now parts a.rest.now c.until-e.result c.until-e.ensures
+    c.if-e-rest.false s a.section e in
     c.label_fields.ensures ∙ case_parts_lem c.args.sheet.now parts line
     ∙ answered Cases c.in-Cases.is

@@ -4,7 +4,6 @@ use mathlib.Core.Path.{◌≡◌, sym, ◌∙◌, ap}
 use mathlib.Core.Option.{Option}
 use mathlib.Core.List.{[]}
 use native.Mathlib.Omega.{arith}
-use borrow.Author.Tests.{not-false}
 use Rattle.prelude.specs.Checks.{first_failing_lem}
 use Rattle.refusal.specs.declared.Cause.{Cause}
 use Rattle.network.specs.declared.Network.{Network}
@@ -26,7 +25,7 @@ returns-then-not-is_placed c =
     (sym is-placed.ensures ∙ c.if-not-is_placed.true)))
 
 pub is_unlabelled-requires : goal.is_unlabelled-requires
-is_unlabelled-requires c =
+is_unlabelled-requires c u e =
     let parts : Network = let a = c.args in
     parts_of a.n a.starts.now a.lengths.now a.k a.letters.now [] [] a.labelled.now in
     let names = c.requires.0 in
@@ -42,10 +41,9 @@ returns-in-Refused c =
     let checked : c.first_failing-check.result ≡ check_of why = let args = c.args in
     let literals-of = c.literals_of-t in
     let is-placed = c.is_placed in
-    let if1 = c.if-not-is_placed in
-    c.first_failing-check.ensures ∙ ap check_of (placed-tests args.sheet.now parts args.name.now
+        c.first_failing-check.ensures ∙ ap check_of (placed-tests args.sheet.now parts args.name.now
     args.label.now literals-of.result.now literals-of.ensures
-    (sym is-placed.ensures ∙ not-false is-placed.result if1.false)
+    (sym is-placed.ensures ∙ c.if-not-is_placed.false)
     c.event_named-event.ensures
     c.is_unlabelled.ensures c.is_defined.ensures
     c.is_distinct.ensures) in
@@ -59,10 +57,9 @@ returns-in-Passed c =
     let checked : c.first_failing-check.result ≡ check_of why = let args = c.args in
     let literals-of = c.literals_of-t in
     let is-placed = c.is_placed in
-    let if1 = c.if-not-is_placed in
-    c.first_failing-check.ensures ∙ ap check_of (placed-tests args.sheet.now parts args.name.now
+        c.first_failing-check.ensures ∙ ap check_of (placed-tests args.sheet.now parts args.name.now
     args.label.now literals-of.result.now literals-of.ensures
-    (sym is-placed.ensures ∙ not-false is-placed.result if1.false)
+    (sym is-placed.ensures ∙ c.if-not-is_placed.false)
     c.event_named-event.ensures
     c.is_unlabelled.ensures c.is_defined.ensures
     c.is_distinct.ensures) in

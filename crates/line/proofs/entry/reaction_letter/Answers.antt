@@ -21,7 +21,7 @@ use Rattle.line.proofs.ReactionRefusals.{stated_found_lem, letter-tests}
 use Rattle.line.proofs.entry.reaction_letter.Goals as goal
 
 pub is_unsaid-requires : goal.is_unsaid-requires
-is_unsaid-requires c =
+is_unsaid-requires c p e =
     let parts : Network = parts_of 0 [] [] c.args.k c.args.letters.now [] c.args.reactions.now [] in
     let signal : Option ℕ = signal_of parts c.args.f.now in
     let sought : c.place_of-signal.result ≡ found_of signal = let a = c.args in

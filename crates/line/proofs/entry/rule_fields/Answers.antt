@@ -7,9 +7,10 @@ use lib.IntN.{ℤ}
 use lib.ListN.{length}
 use Rattle.text.specs.Lines.{fields, field}
 use Rattle.network.specs.declared.Network.{Network}
-use Rattle.line.specs.Answers.{ends_answer, parts_of, kind_found}
+use Rattle.line.specs.Answers.{ends_answer, parts_of, kind_found, limit_of_lem}
 use Rattle.line.specs.Tests.{kind_of}
-use Rattle.line.proofs.RuleRefusals.{kind-some, kind-none, limit-fits, ends_entry}
+use Rattle.line.specs.declared.Limit.{Limit}
+use Rattle.line.proofs.RuleRefusals.{kind-some, kind-none, LimitSays, limit-says, limit-fits, ends_entry}
 use Rattle.line.proofs.RuleRefusals.{rule-count, rule-other, rule_ill, rule-beyond}
 use Rattle.line.proofs.entry.rule_fields.Goals as goal
 
@@ -41,6 +42,8 @@ returns-in-IllFormed c =
     ∙ c.in-Is.is) in
     let five : length parted ≡ 5 = sym c.cut-cuts.ensures.counted
     ∙ c.if-cuts-ne5.false in
+    let says : (x : Limit) → c.limit_of-limit.result ≡ x → LimitSays (field 3 parted) x = λ x e. let read = ap limit_of_lem (sym c.field-2.ensures.text) ∙ sym c.limit_of-limit.ensures ∙ e in
+    rw read at (limit-says (field 3 parted)) in
     let fs = parted in
         let ill = says _ c.in-IllFormed.is in
     sym (rw (rule_ill c.args.sheet.now parts fs c.in-Is.kind five
@@ -56,6 +59,8 @@ returns-in-Beyond c =
     ∙ c.in-Is.is) in
     let five : length parted ≡ 5 = sym c.cut-cuts.ensures.counted
     ∙ c.if-cuts-ne5.false in
+    let says : (x : Limit) → c.limit_of-limit.result ≡ x → LimitSays (field 3 parted) x = λ x e. let read = ap limit_of_lem (sym c.field-2.ensures.text) ∙ sym c.limit_of-limit.ensures ∙ e in
+    rw read at (limit-says (field 3 parted)) in
     let fs = parted in
         let over = says _ c.in-Beyond.is in
     sym (rw (rule-beyond c.args.sheet.now parts fs c.in-Is.kind five
@@ -71,6 +76,8 @@ returns-in-Minutes c =
     ∙ c.in-Is.is) in
     let five : length parted ≡ 5 = sym c.cut-cuts.ensures.counted
     ∙ c.if-cuts-ne5.false in
+    let says : (x : Limit) → c.limit_of-limit.result ≡ x → LimitSays (field 3 parted) x = λ x e. let read = ap limit_of_lem (sym c.field-2.ensures.text) ∙ sym c.limit_of-limit.ensures ∙ e in
+    rw read at (limit-says (field 3 parted)) in
     let field3 = c.field-in-Minutes in
     let field4 = c.field-in-Minutes-2 in
     let field5 = c.field-in-Minutes-3 in

@@ -27,11 +27,10 @@ pub returns : goal.returns
 returns c =
     let args = c.args in
     let cut = c.cut-cuts in
-    let if1 = c.if-cuts-ne2 in
-    let was_field = c.field in
+        let was_field = c.field in
     let equal = c.equal in
     let fs = fields args.line.now in
     let word = ap (λ (f : List ℕ). same f args.word.now) (sym was_field.ensures.text) ∙ sym
     equal.ensures ∙ c.if-not-equal.false in
     c.count_of.ensures ∙ rw c.field-2.ensures.text
-    (sym (rw (word-passes args.word.now args.lo args.hi fs (sym cut.ensures.counted ∙ if1.false) word)))
+    (sym (rw (word-passes args.word.now args.lo args.hi fs (sym cut.ensures.counted ∙ c.if-cuts-ne2.false) word)))

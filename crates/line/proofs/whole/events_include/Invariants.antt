@@ -7,7 +7,7 @@ use Rattle.line.specs.Labelling.{lacks_none_lem}
 use Rattle.line.proofs.whole.events_include.Given as goal
 
 abbrev pub invariant-loop-u : goal.invariant-loop-u
-invariant-loop-u l = Passing (λ l.u. lacks_none_lem l.p l.needed (event_label l.network l.u)) l.network.events l.u
+invariant-loop-u l = Passing (λ v. lacks_none_lem l.p l.needed (event_label l.network v)) l.network.events l.u
 
 abbrev pub decreases-loop-u : goal.decreases-loop-u
 decreases-loop-u l = l.network.events - l.u

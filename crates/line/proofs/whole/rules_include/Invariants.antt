@@ -8,7 +8,7 @@ use Rattle.line.specs.Labelling.{lacks_none_lem}
 use Rattle.line.proofs.whole.rules_include.Given as goal
 
 abbrev pub invariant-loop-c : goal.invariant-loop-c
-invariant-loop-c l = Passing (λ l.c. lacks_none_lem l.p l.needed (constraint l.network l.c).label) l.network.rules l.c
+invariant-loop-c l = Passing (λ k. lacks_none_lem l.p l.needed (constraint l.network k).label) l.network.rules l.c
 
 abbrev pub decreases-loop-c : goal.decreases-loop-c
 decreases-loop-c l = l.network.rules - l.c

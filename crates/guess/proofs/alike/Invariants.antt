@@ -1,0 +1,10 @@
+-- `alike` is safe: each turn reads one cell below `cells` of each table. The invariant: i is at most `cells`. Assumes
+-- nothing.
+use Rattle.std.proofs.Common.{◌-◌, ◌≤◌}
+use Rattle.guess.proofs.alike.Given as goal
+
+abbrev pub invariant-loop-i : goal.invariant-loop-i
+invariant-loop-i l = l.i ≤ l.cells
+
+abbrev pub decreases-loop-i : goal.decreases-loop-i
+decreases-loop-i l = l.cells - l.i
