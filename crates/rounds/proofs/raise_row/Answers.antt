@@ -30,7 +30,7 @@ read_row-requires c =
 pub first_known-requires : goal.first_known-requires
 first_known-requires c =
     let s-in : c.args.s < 16 = omega (arith, c.requires.0, scenarios_in c.requires.1) in
-    let read : List ℕ = c.read_row.new.1.1.0 in
+    let read : List ℕ = c.read_row.new.row in
     let row_of_lem : read ≡ row_of c.args.t.now
     c.args.s = row_is c.args.t.now c.args.s read c.requires.2.sized s-in c.read_row.ensures in
     let read-few : Few 10080 read = rw row_of_lem (row-few c.requires.1 c.requires.2 c.args.s c.requires.0) in
@@ -40,7 +40,7 @@ first_known-requires c =
 pub raise_by_bounds-requires : goal.raise_by_bounds-requires
 raise_by_bounds-requires c =
     let s-in : c.args.s < 16 = omega (arith, c.requires.0, scenarios_in c.requires.1) in
-    let read : List ℕ = c.read_row.new.1.1.0 in
+    let read : List ℕ = c.read_row.new.row in
     let row_of_lem : read ≡ row_of c.args.t.now
     c.args.s = row_is c.args.t.now c.args.s read c.requires.2.sized s-in c.read_row.ensures in
     let read-few : Few 10080 read = rw row_of_lem (row-few c.requires.1 c.requires.2 c.args.s c.requires.0) in
@@ -51,12 +51,12 @@ raise_by_bounds-requires c =
 
 pub loop-d-init : goal.loop-d-init
 loop-d-init c =
-    let firsts : List ℕ = c.first_known.new.1.1.1.0 in
+    let firsts : List ℕ = c.first_known.new.first in
     let s-in : c.args.s < 16 = omega (arith, c.requires.0, scenarios_in c.requires.1) in
-    let read : List ℕ = c.read_row.new.1.1.0 in
+    let read : List ℕ = c.read_row.new.row in
     let row_of_lem : read ≡ row_of c.args.t.now
     c.args.s = row_is c.args.t.now c.args.s read c.requires.2.sized s-in c.read_row.ensures in
-    let by-bounds : Row c.lower.new.0
+    let by-bounds : Row c.lower.new.o
     (ruled c.args.counts.now c.args.lists.now c.args.t.now c.args.s) = let lift = c.lift in
     let raise-by-bounds = c.raise_by_bounds in
     let a = c.args in
@@ -77,10 +77,10 @@ bounds-first-d c =
 pub raise_by_scenario-requires : goal.raise_by_scenario-requires
 raise_by_scenario-requires c =
     let s-in : c.args.s < 16 = omega (arith, c.requires.0, scenarios_in c.requires.1) in
-    let read : List ℕ = c.read_row.new.1.1.0 in
+    let read : List ℕ = c.read_row.new.row in
     let row_of_lem : read ≡ row_of c.args.t.now
     c.args.s = row_is c.args.t.now c.args.s read c.requires.2.sized s-in c.read_row.ensures in
-    let firsts : List ℕ = c.first_known.new.1.1.1.0 in
+    let firsts : List ℕ = c.first_known.new.first in
     let known-first : (Γ : Network)
     → Compiled Γ c.args.frame c.args.counts.now c.args.lists.now
     → FirstKnown c.args.frame.signals
@@ -89,7 +89,7 @@ raise_by_scenario-requires c =
     let first-known = c.first_known in
     first-known.ensures Γ (held Γ a.t.now) C.formed C.framed
     (row_in C a.t.now a.s in-s row_of_lem) in
-    let by-bounds : Row c.lower.new.0
+    let by-bounds : Row c.lower.new.o
     (ruled c.args.counts.now c.args.lists.now c.args.t.now c.args.s) = let lift = c.lift in
     let raise-by-bounds = c.raise_by_bounds in
     let a = c.args in
@@ -116,11 +116,11 @@ clear_absent-requires c =
 pub store_row-requires : goal.store_row-requires
 store_row-requires c =
     let s-in : c.args.s < 16 = omega (arith, c.requires.0, scenarios_in c.requires.1) in
-    let read : List ℕ = c.read_row.new.1.1.0 in
+    let read : List ℕ = c.read_row.new.row in
     let row_of_lem : read ≡ row_of c.args.t.now
     c.args.s = row_is c.args.t.now c.args.s read c.requires.2.sized s-in c.read_row.ensures in
-    let firsts : List ℕ = c.first_known.new.1.1.1.0 in
-    let by-bounds : Row c.lower.new.0
+    let firsts : List ℕ = c.first_known.new.first in
+    let by-bounds : Row c.lower.new.o
     (ruled c.args.counts.now c.args.lists.now c.args.t.now c.args.s) = let lift = c.lift in
     let raise-by-bounds = c.raise_by_bounds in
     let a = c.args in
@@ -148,11 +148,11 @@ store_row-requires c =
 
 pub returns : goal.returns
 returns c =
-    let read : List ℕ = c.read_row.new.1.1.0 in
+    let read : List ℕ = c.read_row.new.row in
     let s-in : c.args.s < 16 = omega (arith, c.requires.0, scenarios_in c.requires.1) in
     let row_of_lem : read ≡ row_of c.args.t.now
     c.args.s = row_is c.args.t.now c.args.s read c.requires.2.sized s-in c.read_row.ensures in
-    let firsts : List ℕ = c.first_known.new.1.1.1.0 in
+    let firsts : List ℕ = c.first_known.new.first in
     let known-first : (Γ : Network)
     → Compiled Γ c.args.frame c.args.counts.now c.args.lists.now
     → FirstKnown c.args.frame.signals
@@ -161,7 +161,7 @@ returns c =
     let first-known = c.first_known in
     first-known.ensures Γ (held Γ a.t.now) C.formed C.framed
     (row_in C a.t.now a.s in-s row_of_lem) in
-    let by-bounds : Row c.lower.new.0
+    let by-bounds : Row c.lower.new.o
     (ruled c.args.counts.now c.args.lists.now c.args.t.now c.args.s) = let lift = c.lift in
     let raise-by-bounds = c.raise_by_bounds in
     let a = c.args in

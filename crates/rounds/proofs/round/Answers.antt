@@ -8,6 +8,7 @@ use Rattle.rounds.proofs.Rounding.{greatest, Rounding}
 use Rattle.rounds.proofs.Rounding.{climb_at-most, highest_at-most}
 use Rattle.rounds.proofs.Rounded.{framed-times, framed-rounds, ends_passing, ends_resting, ends_rising}
 use Rattle.rounds.proofs.Usable.{raised-few}
+use Rattle.rounds.proofs.round.Goals.{then-frame-greatest-via-then-frame-greatest, then-frame-greatest-via-else-frame-greatest+then-highest-gt0}
 use Rattle.rounds.proofs.round.Goals as goal
 
 pub raise_row-requires : goal.raise_row-requires
@@ -41,10 +42,10 @@ returns-then-frame-greatest c =
     let latest = c.greatest.ensures in
     λ Γ C.
     ends_passing C (framed-times C c.requires.1) (framed-rounds C (c.loop-s.invariant Γ C) c.loop-s-test.false)
-    (⊎_elim
-    (λ w. inl (rw (C.framed.horizon, latest) at w.taken))
-    (λ w. inr (ltb-true 0 _ w.1.taken))
-    c.if-frame-greatest.branch)
+    (elim c.then-frame-greatest.branch [
+      | then-frame-greatest-via-then-frame-greatest w ↦ inl (rw (C.framed.horizon, latest) at w.if-frame-greatest.true)
+      | then-frame-greatest-via-else-frame-greatest+then-highest-gt0 w ↦ inr w.if-highest-gt0.true
+    ])
 
 pub greatest-requires-2 : goal.greatest-requires-2
 greatest-requires-2 c =

@@ -1,6 +1,7 @@
 use mathlib.Core.Path.{◌≡◌, refl, sym, ◌∙◌}
 use Prim.Native.Nat.{◌-◌, ◌<◌}
 use native.Mathlib.Omega.{arith}
+use borrow.Author.Tests.{not-true}
 use Rattle.rows.proofs.Gapless.{sixteen}
 use Rattle.bounds.proofs.Halves.{listable}
 use Rattle.rounds.proofs.Waits.{wait-proper, wait_skip, wait-next, waits-next, compiled-waits}
@@ -10,7 +11,7 @@ use Rattle.rounds.proofs.compile.list_waits.Goals as goal
 
 pub returns-then-not-frame : goal.returns-then-not-frame
 returns-then-not-frame c =
-    compiled-unlabelled c.requires.0 c.requires.1 (c.if-not-frame.true) c.requires.2
+    compiled-unlabelled c.requires.0 c.requires.1 (not-true _ c.if-not-frame.true) c.requires.2
 
 pub mentions-requires : goal.mentions-requires
 mentions-requires c =

@@ -1,0 +1,124 @@
+use mathlib.Core.Path.{◌≡◌, sym, ◌∙◌}
+use mathlib.Core.Logic.{inl, inr}
+use mathlib.Core.Option.{Option, none}
+use Prim.Native.Nat.{◌+◌, ◌-◌, ◌≤◌, ◌<◌}
+use native.Mathlib.Omega.{arith}
+use borrow.Author.Tests.{eq-eqb, ne_eqb}
+use lib.ListN.{length}
+use Rattle.prelude.specs.Checks.{first_failing_lem}
+use Rattle.refusal.specs.declared.Cause.{Cause}
+use Rattle.network.specs.Limits as L
+use Rattle.network.specs.declared.Network.{Network}
+use Rattle.line.specs.Sections.{added}
+use Rattle.line.specs.declared.entry.Entry.{Entry}
+use Rattle.line.proofs.Refusals.{check-refused, check-passed}
+use Rattle.sheet.specs.Reading.{read_entries_lem}
+use Rattle.sheet.proofs.EntriesLeft.{EntriesLeft}
+use Rattle.sheet.proofs.Held.{tests_behind}
+use Rattle.sheet.proofs.Lines.{entry_stop, EntryTurn, entry_turn}
+use Rattle.sheet.proofs.section.read_entries.Goals as goal
+
+pub returns-in-Refused : goal.returns-in-Refused
+returns-in-Refused c =
+    c.refused.ensures
+    ∙ entry_stop c.loop-left.invariant c.loop-left-test.true c.in-Refused.cause
+    (sym c.entry_at-read.ensures ∙ c.in-Refused.is)
+
+pub offset_bounds-network-signal : goal.offset_bounds-network-signal
+offset_bounds-network-signal c =
+    let turn : EntryTurn c.loop-left.invariant c.loop-left-test.true c.in-Holds.entry
+    c.in-Holds.length = entry_turn c.loop-left.invariant c.loop-left-test.true c.in-Holds.entry c.in-Holds.length
+    (sym c.entry_at-read.ensures ∙ c.in-Holds.is) in
+    let reaction-room : c.in-Reaction.signal < L.signals = rw c.in-Reaction.is at turn.room in
+    omega (arith, reaction-room)
+
+pub bounds-network-signal : goal.bounds-network-signal
+bounds-network-signal c =
+    let turn : EntryTurn c.loop-left.invariant c.loop-left-test.true c.in-Holds.entry
+    c.in-Holds.length = entry_turn c.loop-left.invariant c.loop-left-test.true c.in-Holds.entry c.in-Holds.length
+    (sym c.entry_at-read.ensures ∙ c.in-Holds.is) in
+    let reaction-room : c.in-Reaction.signal < L.signals = rw c.in-Reaction.is at turn.room in
+    omega (arith, reaction-room)
+
+pub offset_bounds-network-event : goal.offset_bounds-network-event
+offset_bounds-network-event c =
+    let turn : EntryTurn c.loop-left.invariant c.loop-left-test.true c.in-Holds.entry
+    c.in-Holds.length = entry_turn c.loop-left.invariant c.loop-left-test.true c.in-Holds.entry c.in-Holds.length
+    (sym c.entry_at-read.ensures ∙ c.in-Holds.is) in
+    let label-room : c.in-Label.event < L.events = rw c.in-Label.is at turn.room in
+    omega (arith, label-room)
+
+pub bounds-network-event : goal.bounds-network-event
+bounds-network-event c =
+    let turn : EntryTurn c.loop-left.invariant c.loop-left-test.true c.in-Holds.entry
+    c.in-Holds.length = entry_turn c.loop-left.invariant c.loop-left-test.true c.in-Holds.entry c.in-Holds.length
+    (sym c.entry_at-read.ensures ∙ c.in-Holds.is) in
+    let label-room : c.in-Label.event < L.events = rw c.in-Label.is at turn.room in
+    omega (arith, label-room)
+
+pub bounds-network-event-in-Label : goal.bounds-network-event-in-Label
+bounds-network-event-in-Label c =
+    let turn : EntryTurn c.loop-left.invariant c.loop-left-test.true c.in-Holds.entry
+    c.in-Holds.length = entry_turn c.loop-left.invariant c.loop-left-test.true c.in-Holds.entry c.in-Holds.length
+    (sym c.entry_at-read.ensures ∙ c.in-Holds.is) in
+    let label-room : c.in-Label.event < L.events = rw c.in-Label.is at turn.room in
+    omega (arith, label-room)
+
+pub whole_of-check-requires : goal.whole_of-check-requires
+whole_of-check-requires c =
+    let turn : EntryTurn c.loop-left.invariant c.loop-left-test.true c.in-Holds.entry
+    c.in-Holds.length = entry_turn c.loop-left.invariant c.loop-left-test.true c.in-Holds.entry c.in-Holds.length
+    (sym c.entry_at-read.ensures ∙ c.in-Holds.is) in
+    rw c.in-Label.is at turn.testable
+
+pub returns-in-Refused-check : goal.returns-in-Refused-check
+returns-in-Refused-check c =
+    let turn : EntryTurn c.loop-left.invariant c.loop-left-test.true c.in-Holds.entry
+    c.in-Holds.length = entry_turn c.loop-left.invariant c.loop-left-test.true c.in-Holds.entry c.in-Holds.length
+    (sym c.entry_at-read.ensures ∙ c.in-Holds.is) in
+    let left = c.loop-left.left in
+        let fails = check-refused _ c.in-Refused-check.cause (sym c.whole_of-check.ensures ∙ c.in-Refused-check.is) in
+    c.refused-in-Refused-check.ensures
+    ∙ turn.stop c.in-Refused-check.cause (rw (c.in-Label.is, eq-eqb left 1 c.if-left-eq1.true) fails)
+
+pub overflow_add-place : goal.overflow_add-place
+overflow_add-place c =
+    let turn : EntryTurn c.loop-left.invariant c.loop-left-test.true c.in-Holds.entry
+    c.in-Holds.length = entry_turn c.loop-left.invariant c.loop-left-test.true c.in-Holds.entry c.in-Holds.length
+    (sym c.entry_at-read.ensures ∙ c.in-Holds.is) in
+    let short : length c.args.sheet.now ≤ 4096 = c.requires.0 in
+    omega (arith, turn.inside, short)
+
+pub overflow_add-place-in-Holds : goal.overflow_add-place-in-Holds
+overflow_add-place-in-Holds c =
+    let turn : EntryTurn c.loop-left.invariant c.loop-left-test.true c.in-Holds.entry
+    c.in-Holds.length = entry_turn c.loop-left.invariant c.loop-left-test.true c.in-Holds.entry c.in-Holds.length
+    (sym c.entry_at-read.ensures ∙ c.in-Holds.is) in
+    let short : length c.args.sheet.now ≤ 4096 = c.requires.0 in
+    omega (arith, turn.inside, short)
+
+pub loop-left-preserved : goal.loop-left-preserved
+loop-left-preserved c =
+    let turn : EntryTurn c.loop-left.invariant c.loop-left-test.true c.in-Holds.entry
+    c.in-Holds.length = entry_turn c.loop-left.invariant c.loop-left-test.true c.in-Holds.entry c.in-Holds.length
+    (sym c.entry_at-read.ensures ∙ c.in-Holds.is) in
+    let held : Entry = c.in-Holds.entry in
+    let grown : Network = added held c.loop-left.network c.loop-left.place c.in-Holds.length in
+    let behind : Option Cause = first_failing_lem (tests_behind held c.loop-left.left grown) in
+    let turns : (Δ : Network) → Δ ≡ grown → behind ≡ none
+    →     let args = c.args in
+        EntriesLeft args.sheet.now args.section
+    (read_entries_lem args.sheet.now args.section args.m args.network args.at args.k) (c.loop-left.left - 1) Δ
+    (c.loop-left.place + c.in-Holds.length + 1) (c.loop-left.line + 1) = λ Δ e f. rw e (turn.next f) in
+    let left = c.loop-left.left in
+    elim c.in-Event.branch [
+      | inl w ↦ turns _ (w.2 ∙ sym (rw w.1.given.1)) (rw w.1.given.1)
+      | inr (inl w) ↦ turns _ (w.3 ∙ sym (rw w.1.given.1)) (rw w.1.given.1)
+      | inr (inr (inl w)) ↦ turns _ (w.3 ∙ sym (rw w.1.given.1)) (rw w.1.given.1)
+      | inr (inr (inr (inl w))) ↦ turns _ (w.3 ∙ sym (rw w.1.given.1)) (rw w.1.given.1)
+      | inr (inr (inr (inr (inl w)))) ↦
+          turns _ (w.7 ∙ sym (rw w.1.given.1))
+          (rw (w.1.given.1, eq-eqb left 1 w.3.taken) (check-passed _ (sym w.4.ensures ∙ w.6.given.1)))
+      | inr (inr (inr (inr (inr w)))) ↦
+          turns _ (w.4 ∙ sym (rw w.1.given.1)) (rw (w.1.given.1, ne_eqb left 1 w.3.left))
+    ]
