@@ -4,6 +4,7 @@ use mathlib.Core.Path.{◌≡◌, sym, ◌∙◌}
 use mathlib.Core.Bool.{true}
 use Prim.Native.Nat.{◌≤◌}
 use native.Mathlib.Omega.{arith}
+use borrow.Author.Tests.{not-true, not-false}
 use lib.ListN.{length}
 use Rattle.listing.specs.Listing.{header}
 use Rattle.readback.specs.Form.{longest_read}
@@ -19,12 +20,12 @@ returns-then-printed-gt-LONGEST c =
 pub returns-then-not-head : goal.returns-then-not-head
 returns-then-not-head c =
     let short : length c.args.printed.now ≤ longest_read = omega (arith, c.if-printed-gt-LONGEST.false) in
-    read-other _ _ _ _ _ short (sym c.head_of-head.ensures.answer ∙ c.if-not-head.true)
+    read-other _ _ _ _ _ short (sym c.head_of-head.ensures.answer ∙ not-true _ c.if-not-head.true)
 
 pub returns-in-At : goal.returns-in-At
 returns-in-At c =
     let short : length c.args.printed.now ≤ longest_read = omega (arith, c.if-printed-gt-LONGEST.false) in
-    let begins : c.head_of-head.result.fits ≡ true = c.if-not-head.false in
+    let begins : c.head_of-head.result.fits ≡ true = not-false _ c.if-not-head.false in
     let fits : let args = c.args in
     header_fits (header args.sheet.now args.network) args.printed.now ≡ true = sym c.head_of-head.ensures.answer ∙ begins in
     let form : let args = c.args in
@@ -37,7 +38,7 @@ returns-in-At c =
 pub returns-in-Nowhere : goal.returns-in-Nowhere
 returns-in-Nowhere c =
     let short : length c.args.printed.now ≤ longest_read = omega (arith, c.if-printed-gt-LONGEST.false) in
-    let begins : c.head_of-head.result.fits ≡ true = c.if-not-head.false in
+    let begins : c.head_of-head.result.fits ≡ true = not-false _ c.if-not-head.false in
     let fits : let args = c.args in
     header_fits (header args.sheet.now args.network) args.printed.now ≡ true = sym c.head_of-head.ensures.answer ∙ begins in
     let form : let args = c.args in

@@ -58,6 +58,18 @@ overflow_add-at-in-Fits c =
     forming-next c.loop-s.invariant more fits.0 _ fits.1 in
     omega (arith, next.inside)
 
+-- where the row fits, the next one begins behind it
+pub loop-s-preserved : goal.loop-s-preserved
+loop-s-preserved c =
+    let more : c.loop-s.s < 2 ^ c.args.signals = omega (arith, c.loop-s-test.true, c.scenario_count-count.ensures) in
+    let row_is : let args = c.args in
+    let bytes = args.printed.now in
+    c.row_at-row.result
+    ≡ line_answer (ends_at bytes c.loop-s.at && is_row_lem args.signals args.events c.loop-s.s (line_at bytes c.loop-s.at))
+    (length (line_at bytes c.loop-s.at)) = rw (take-drop c.args.printed.now c.loop-s.at) at c.row_at-row.ensures in
+    let fits = line-fits _ _ _ (sym c.in-Fits.is ∙ row_is) in
+    forming-next c.loop-s.invariant more fits.0 _ fits.1
+
 pub line_number-requires-then-at-printed : goal.line_number-requires-then-at-printed
 line_number-requires-then-at-printed c =
     let few : 2 ^ c.args.signals ≤ 2 ^ L.signals = few-scenarios c.args.signals c.requires.0 in

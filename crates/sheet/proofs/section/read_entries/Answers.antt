@@ -16,6 +16,7 @@ use Rattle.sheet.specs.Reading.{read_entries_lem}
 use Rattle.sheet.proofs.EntriesLeft.{EntriesLeft}
 use Rattle.sheet.proofs.Held.{tests_behind}
 use Rattle.sheet.proofs.Lines.{entry_stop, EntryTurn, entry_turn}
+use Rattle.sheet.proofs.section.read_entries.Goals.{in-Event, in-Signal, in-Rule, in-Reaction, in-Label+then-left-eq1+in-Passed, in-Label+else-left-eq1}
 use Rattle.sheet.proofs.section.read_entries.Goals as goal
 
 pub returns-in-Refused : goal.returns-in-Refused
@@ -111,14 +112,15 @@ loop-left-preserved c =
     (read_entries_lem args.sheet.now args.section args.m args.network args.at args.k) (c.loop-left.left - 1) Δ
     (c.loop-left.place + c.in-Holds.length + 1) (c.loop-left.line + 1) = λ Δ e f. rw e (turn.next f) in
     let left = c.loop-left.left in
-    elim c.in-Event.branch [
-      | inl w ↦ turns _ (w.2 ∙ sym (rw w.1.given.1)) (rw w.1.given.1)
-      | inr (inl w) ↦ turns _ (w.3 ∙ sym (rw w.1.given.1)) (rw w.1.given.1)
-      | inr (inr (inl w)) ↦ turns _ (w.3 ∙ sym (rw w.1.given.1)) (rw w.1.given.1)
-      | inr (inr (inr (inl w))) ↦ turns _ (w.3 ∙ sym (rw w.1.given.1)) (rw w.1.given.1)
-      | inr (inr (inr (inr (inl w)))) ↦
-          turns _ (w.7 ∙ sym (rw w.1.given.1))
-          (rw (w.1.given.1, eq-eqb left 1 w.3.taken) (check-passed _ (sym w.4.ensures ∙ w.6.given.1)))
-      | inr (inr (inr (inr (inr w)))) ↦
-          turns _ (w.4 ∙ sym (rw w.1.given.1)) (rw (w.1.given.1, ne_eqb left 1 w.3.left))
+    elim c.match-entry.branch [
+      | in-Event w ↦ turns _ (w.network-is ∙ sym (rw w.in-Event.is)) (rw w.in-Event.is)
+      | in-Signal w ↦ turns _ (w.network-is ∙ sym (rw w.in-Signal.is)) (rw w.in-Signal.is)
+      | in-Rule w ↦ turns _ (w.network-is ∙ sym (rw w.in-Rule.is)) (rw w.in-Rule.is)
+      | in-Reaction w ↦ turns _ (w.network-is ∙ sym (rw w.in-Reaction.is)) (rw w.in-Reaction.is)
+      | in-Label+then-left-eq1+in-Passed w ↦
+          turns _ (w.network-is ∙ sym (rw w.in-Label.is))
+          (rw (w.in-Label.is, eq-eqb left 1 w.if-left-eq1.true)
+          (check-passed _ (sym w.whole_of-check.ensures ∙ w.in-Passed.is)))
+      | in-Label+else-left-eq1 w ↦
+          turns _ (w.network-is ∙ sym (rw w.in-Label.is)) (rw (w.in-Label.is, ne_eqb left 1 w.if-left-eq1.false))
     ]
