@@ -1,7 +1,6 @@
 use mathlib.Core.Path.{sym, ◌∙◌}
 use Prim.Native.Nat.{◌-◌}
 use native.Mathlib.Omega.{arith}
-use borrow.Author.Tests.{not-true, not-false}
 use Rattle.prelude.proofs.Gather.{length-gather}
 use Rattle.canonical.specs.Listed.{labelled_at}
 use Rattle.canonical.proofs.CaseLines.{labelled-more, labelled_skip}
@@ -24,8 +23,8 @@ loop-u-preserved c =
     let is = c.is_none.ensures in
     let inv = c.loop-u.invariant in (
       elim c.if-not-is_none.branch [
-        | then-not-is_none w ↦ omega (arith, inv.0, labelled-more Γ c.loop-u.u (sym is ∙ not-true _ w.if-not-is_none.true))
-        | else-not-is_none w ↦ omega (arith, inv.0, labelled_skip Γ c.loop-u.u (sym is ∙ not-false _ w.if-not-is_none.false))
+        | then-not-is_none w ↦ omega (arith, inv.0, labelled-more Γ c.loop-u.u (sym is ∙ w.if-not-is_none.true))
+        | else-not-is_none w ↦ omega (arith, inv.0, labelled_skip Γ c.loop-u.u (sym is ∙ w.if-not-is_none.false))
       ],
       omega (arith, c.loop-u-test.true, inv.2),
       inv.2,

@@ -8,7 +8,8 @@ use Rattle.canonical.proofs.Literals.{literal_text_at}
 use Rattle.canonical.proofs.push_label.Given as goal
 
 abbrev pub invariant-loop-p : goal.invariant-loop-p
-invariant-loop-p l =    Joining 2 (literal_text_at l.network (record { l.positive = l.initial.positive; l.negative = l.initial.negative }))
+invariant-loop-p l =
+    Joining 2 (literal_text_at l.network (record { positive = l.initial.positive; negative = l.initial.negative }))
     l.network.signals l.initial.page l.at l.p l.page l.next
     × (l.positive ≡ l.initial.positive / 2 ^ l.p)
     × (l.negative ≡ l.initial.negative / 2 ^ l.p)

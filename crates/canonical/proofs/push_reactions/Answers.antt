@@ -2,7 +2,6 @@ use mathlib.Core.Path.{◌≡◌, ap}
 use mathlib.Core.Logic.{inl, inr}
 use Prim.Native.Nat.{ℕ, ◌-◌}
 use native.Mathlib.Omega.{arith}
-use borrow.Author.Tests.{eqb-false}
 use Rattle.page.proofs.Append.{append_as}
 use Rattle.page.proofs.Join.{join-next, join-all}
 use Rattle.network.specs.Build.{letter}
@@ -11,6 +10,8 @@ use Rattle.canonical.specs.Listed.{slow_by}
 use Rattle.canonical.specs.Most.{most_reaction}
 use Rattle.canonical.proofs.Gathered.{line_by}
 use Rattle.canonical.proofs.SlowLines.{slow_appended}
+use Rattle.canonical.proofs.Slow.{slow_few}
+use Rattle.canonical.proofs.push_reactions.Goals.{else-count-eq0-via-then-count-eq0+else-labelled-eq0, else-count-eq0-via-else-count-eq0}
 use Rattle.canonical.proofs.push_reactions.Goals as goal
 
 pub loop-p-preserved : goal.loop-p-preserved
@@ -28,6 +29,12 @@ returns c =
     let count = c.slow_count-count in
     let labelled = c.args.labelled in
     let listed : count.result ≡ 0 → labelled ≡ 0 → ⊥ =
-    elim c.if-count-eq0.branch [ inl w ↦ λ e f. eqb-false labelled 0 w.1.left f | inr w ↦ λ e f. w.left e ] in
+    elim c.else-count-eq0.branch [
+      | else-count-eq0-via-then-count-eq0+else-labelled-eq0 w ↦ λ e f. w.if-labelled-eq0.false f
+      | else-count-eq0-via-else-count-eq0 w ↦ λ e f. w.if-count-eq0.false e
+    ] in
     slow_appended Γ labelled count.result count.ensures listed c.push_count-next.ensures
     (join-all c.loop-p.invariant.0 (omega arith)) (omega (arith, c.requires.0.signals))
+
+pub overflow_cast-count : goal.overflow_cast-count
+overflow_cast-count c = omega (arith, c.slow_count-count.ensures, slow_few c.args.network, c.requires.0.signals)
