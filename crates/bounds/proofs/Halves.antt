@@ -1,7 +1,7 @@
 -- Each constraint of a network can be listed; the bound of each half may be listed, and the lists remain lists.
 -- Assumes nothing.
 use mathlib.Core.List.{List}
-use Prim.Native.Nat.{ℕ, ◌≤◌, ◌<◌}
+use Prim.Native.Nat.{ℕ, ◌≤◌}
 use native.Mathlib.Omega.{arith}
 use Rattle.network.specs.WellFormed.{Proper, WellFormed}
 use Rattle.network.specs.declared.Constraint.{Constraint}

@@ -6,7 +6,7 @@ use native.Mathlib.Omega.{arith}
 use lib.ListN.{length, drop, length-append}
 use Rattle.network.specs.declared.Network.{Network}
 use Rattle.sheet.specs.Reading.{read}
-use Rattle.solver.specs.Solve.{solve, found}
+use Rattle.solver.specs.Solve.{found}
 use Rattle.listing.specs.Listing.{listing}
 use Rattle.canonical.specs.House.{house_text}
 use Rattle.calls.specs.Call.{Tests, call, Left, Leaves}

@@ -6,7 +6,7 @@ use Rattle.line.proofs.WholeFails.{start_fails, complete_fails}
 use Rattle.layout.proofs.Accepted.{accepted_iff, network-contains}
 use Rattle.checker.proofs.Judged.{judged}
 use Rattle.checker.proofs.First.{breach_iff}
-use Rattle.solver.specs.Solve.{solve, found}
+use Rattle.solver.specs.Solve.{found}
 use Rattle.rounds.proofs.Hyperarcs.{hyperarcs_agree}
 use Rattle.solver.proofs.Least.{solve-least, solve-none}
 use Rattle.calls.specs.Demands.{Demands}

@@ -3,7 +3,7 @@
 -- says otherwise, and an event no label. Assumes nothing.
 use mathlib.Core.Path.{◌≡◌, refl, sym, ◌∙◌, ap}
 use mathlib.Core.Logic.{◌↔◌, inl, inr}
-use mathlib.Core.Bool.{true, false, ◌&&◌}
+use mathlib.Core.Bool.{true}
 use mathlib.Core.Bool.{and-true as and-true-right}
 use mathlib.Core.Option.{Option, get_or, none}
 use mathlib.Core.List.{List, []}

@@ -1,5 +1,5 @@
 -- Networks that say the same judge every table alike. Assumes nothing.
-use mathlib.Core.Path.{◌≡◌, sym, ◌∙◌, ap, ap₂}
+use mathlib.Core.Path.{◌≡◌, ◌∙◌, ap, ap₂}
 use mathlib.Core.Bool.{Bool, ◌&&◌, ◌||◌, not, cond}
 use mathlib.Core.Option.{Option}
 use mathlib.Core.List.{List}

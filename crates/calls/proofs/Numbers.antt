@@ -5,7 +5,6 @@ use Prim.Native.Nat.{ℕ}
 use Rattle.pairs.specs.Pairs.{minutes_of}
 use Rattle.network.specs.declared.Network.{Network}
 use Rattle.sheet.specs.Reading.{read}
-use Rattle.sheet.specs.declared.Outcome.TheVariants.{Accepted}
 use Rattle.dispatch.specs.Due.{due}
 use Rattle.dispatch.specs.Said.{due_on}
 use Rattle.dispatch.specs.HeardText.{heard_in, due_text}

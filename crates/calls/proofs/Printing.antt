@@ -31,7 +31,6 @@ use Rattle.calls.specs.Numbers.{minutes}
 use Rattle.calls.specs.Printing.{Printing}
 use Rattle.calls.specs.declared.Written.{Written}
 use Rattle.calls.proofs.Handed.{cells-few, minutes_rightly}
-use Rattle.calls.proofs.Judging.{judge_passes}
 use Rattle.calls.proofs.Writing.{wrote, listing-wrote, house-wrote, house-many}
 use Rattle.calls.proofs.Solving.{solves-least, refuses_none}
 use Rattle.calls.proofs.OnPages.{wrote_on, refused-on}

@@ -18,7 +18,7 @@ use Rattle.calls.specs.Lent.{Lent, as_minutes}
 use Rattle.calls.specs.Calls.{writing, listed}
 use Rattle.calls.specs.Recover.{misfit_in, unread_in, recovered_in, recovering_into}
 use Rattle.calls.specs.Answers.{WroteText}
-use Rattle.calls.specs.Numbers.{minutes, recovers}
+use Rattle.calls.specs.Numbers.{minutes}
 use Rattle.calls.specs.ReadingBack.{Printable}
 use Rattle.calls.proofs.Handed.{minutes_rightly}
 use Rattle.calls.proofs.Writing.{listing-wrote}

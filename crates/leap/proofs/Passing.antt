@@ -14,7 +14,6 @@ use Rattle.fixpoint.proofs.Iterate.{iterate-add, iterate-mul, iterate_nonexpansi
 use Rattle.fixpoint.proofs.Moved.{length_moved}
 use Rattle.fixpoint.proofs.Straight.{at_most, at_least}
 use Rattle.fixpoint.proofs.Leap.{passes-between}
-use Rattle.network.specs.Build.{scenarios}
 use Rattle.network.specs.declared.Network.{Network}
 use Rattle.rows.specs.declared.Frame.{Frame}
 use Rattle.rows.specs.Rows.{FrameTimes}

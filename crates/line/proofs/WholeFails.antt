@@ -3,7 +3,6 @@
 use mathlib.Core.Path.{◌≡◌, refl}
 use mathlib.Core.Logic.{◌↔◌, inl, inr}
 use mathlib.Core.Bool.{Bool}
-use Prim.Native.Nat.{ℕ}
 use Rattle.prelude.specs.Checks.{FirstFails}
 use Rattle.prelude.proofs.Tests.{zero-is-one, clash, false_of_not-true}
 use Rattle.refusal.specs.declared.Cause.TheVariants as C

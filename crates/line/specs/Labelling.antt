@@ -1,6 +1,6 @@
 -- The tests of all labels of a sheet, once the last line of the section `cases` is read (02, point 6, refusals 20 and
 -- 21). What they ask is `WellLabelled` (network/specs/Complete.antt), by `whole_iff` (proofs/Labelling.antt).
-use Rattle.std.specs.Prelude.{Bool, ◌&&◌, ◌||◌, not, [], ◌∷◌, ℕ, ◌<◌, eqb}
+use Rattle.std.specs.Prelude.{Bool, ◌&&◌, ◌||◌, not, [], ◌∷◌, ℕ, eqb}
 use Rattle.prelude.specs.Bounded.{all_below}
 use Rattle.refusal.specs.declared.Cause.TheVariants as C
 use Rattle.network.specs.Limits as L

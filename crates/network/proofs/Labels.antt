@@ -12,10 +12,10 @@ use lib.Pow.{pow_mono}
 use Rattle.prelude.proofs.Tests.{clash, lt_or_ge, or-true, and-true, and_both, implied, implies}
 use Rattle.prelude.proofs.Bounded.{true_of_all_below, all_below_true, all_below_false}
 use Rattle.network.specs.Limits as L
-use Rattle.network.specs.Build.{no_label, observation, event_label, scenarios}
+use Rattle.network.specs.Build.{no_label, observation, event_label}
 use Rattle.network.specs.Scenario.{truth, agree, asked, satisfies}
 use Rattle.network.specs.Happens.{mentions, happens, given}
-use Rattle.network.specs.Complete.{Includes, Complete, AllComplete, WellLabelled}
+use Rattle.network.specs.Complete.{Includes, Complete, WellLabelled}
 use Rattle.network.specs.WellFormed.{Lettered, WellFormed}
 use Rattle.network.specs.declared.Label.{Label}
 use Rattle.network.specs.declared.Network.{Network}

@@ -1,19 +1,17 @@
 -- A network has at most one least solution: so any two solvers that give a least solution give the same, and no proof
 -- of that looks at their code. Networks with the same solutions, and the same events in each scenario, have the same
 -- least one, or none. Assumes nothing.
-use mathlib.Core.Path.{◌≡◌, refl, sym, ◌∙◌}
+use mathlib.Core.Path.{◌≡◌, sym, ◌∙◌}
 use mathlib.Core.Logic.{◌↔◌, inl, inr}
-use mathlib.Core.Bool.{Bool, true, false}
 use mathlib.Core.List.{List}
-use Prim.Native.Nat.{ℕ, ◌+◌, ◌*◌, ◌≤◌, ◌<◌}
+use Prim.Native.Nat.{ℕ}
 use native.Mathlib.Omega.{arith}
-use lib.ListN.{length, get_or}
+use lib.ListN.{get_or}
 use lib.Seq.{ext_get_or}
 use Rattle.prelude.proofs.Tests.{either}
 use Rattle.prelude.proofs.Cells.{by-cell}
 use Rattle.network.specs.Build.{scenarios}
 use Rattle.network.specs.Happens.{happens}
-use Rattle.network.specs.Strategy.{time}
 use Rattle.network.specs.Solution.{Solution}
 use Rattle.network.specs.Least.{NoLater, Least, Inconsistent}
 use Rattle.network.specs.declared.Network.{Network}

@@ -10,7 +10,7 @@ use borrow.Author.Tests.{not-true, not-false}
 use Rattle.prelude.specs.Bounded.{all_below}
 use Rattle.prelude.proofs.Tests.{either, clash, and-true, and_both, or-true, or-false}
 use Rattle.prelude.proofs.Bounded.{true_of_all_below, all_below_false}
-use Rattle.network.specs.Build.{event_label, scenarios}
+use Rattle.network.specs.Build.{event_label}
 use Rattle.network.specs.Scenario.{agree}
 use Rattle.network.specs.Happens.{happens, given, tells}
 use Rattle.network.specs.Strategy.{time, known_from, known}

@@ -11,7 +11,6 @@ use lib.IntN.{ℤ, pos, negsuc}
 use lib.ListN.{get_or}
 use Rattle.network.specs.Build.{constraint}
 use Rattle.network.specs.Scenario.{satisfies}
-use Rattle.network.specs.Constraint.{covers}
 use Rattle.network.specs.Strategy.{time}
 use Rattle.network.specs.WellFormed.{InLimits}
 use Rattle.network.specs.declared.Kind.TheVariants.{Max, Min, Fix}

@@ -10,14 +10,14 @@
 -- (`told-by-label`). Times do not fall for ever (`no_descent`). Assumes nothing.
 use mathlib.Core.Path.{◌≡◌, ◌∙◌}
 use mathlib.Core.Logic.{◌⊎◌, inl, inr, ◌↔◌}
-use mathlib.Core.Bool.{Bool, true, false}
+use mathlib.Core.Bool.{true}
 use mathlib.Core.List.{List}
 use Prim.Native.Nat.{ℕ, zero, suc, ◌≤◌, ◌<◌}
 use native.Mathlib.Omega.{arith}
 use Rattle.prelude.proofs.Tests.{either, lt_or_ge}
 use Rattle.prelude.proofs.Minima.{min_where-top, min_where_le, min_where_attained}
 use Rattle.network.specs.Build.{observation, scenarios}
-use Rattle.network.specs.Happens.{happens, given, tells}
+use Rattle.network.specs.Happens.{given, tells}
 use Rattle.network.specs.Strategy.{time, known_from, least_known_lem}
 use Rattle.network.specs.Solution.{Indistinct}
 use Rattle.network.specs.WellFormed.{WellFormed}

@@ -1,7 +1,7 @@
 -- What a round makes of a cell is what the definition asks of the strategy that the table holds. Assumes nothing.
 use mathlib.Core.Path.{◌≡◌, refl, sym, ◌∙◌, ap}
 use mathlib.Core.Logic.{inl, inr}
-use mathlib.Core.Bool.{Bool, true, false, ◌&&◌, not, cond}
+use mathlib.Core.Bool.{Bool, true, false, not, cond}
 use mathlib.Core.List.{List}
 use Prim.Native.Nat.{ℕ, ◌+◌, ◌-◌, ◌*◌, ◌≤◌, ◌<◌, max, min}
 use native.Mathlib.Omega.{arith}
@@ -21,7 +21,6 @@ use Rattle.network.specs.declared.Network.{Network}
 use Rattle.rows.specs.declared.Frame.{Frame}
 use Rattle.rows.specs.Rows.{RowIn, row_of, Times}
 use Rattle.rows.specs.Known.{known_in, first_of}
-use Rattle.rows.proofs.Framed.{satisfies-happens}
 use Rattle.rows.proofs.Gapless.{sixteen, gapless-at, row_at}
 use Rattle.bounds.specs.Listed.{list_asks, asking, target, source, weight}
 use Rattle.bounds.proofs.Listed.{max_below_ext}

@@ -1,14 +1,14 @@
 -- The round is a rising step on strategies of the network's size, under which no difference grows; and what it asks
 -- no raise of keeps the constraints, the waits and the hyperarcs. Assumes nothing.
-use mathlib.Core.Path.{◌≡◌, refl, ◌∙◌}
+use mathlib.Core.Path.{◌≡◌, ◌∙◌}
 use mathlib.Core.Logic.{inl, inr}
-use mathlib.Core.Bool.{Bool, true, false, ◌&&◌, cond}
+use mathlib.Core.Bool.{true, false, ◌&&◌, cond}
 use mathlib.Core.List.{List}
 use Prim.Native.Nat.{ℕ, ◌+◌, ◌*◌, ◌/◌, ◌%◌, ◌≤◌, ◌<◌, max}
 use native.Mathlib.Omega.{arith}
 use lib.Dec.{eqb}
 use lib.ListN.{length, get_or}
-use Rattle.prelude.proofs.Tests.{either, clash}
+use Rattle.prelude.proofs.Tests.{either}
 use Rattle.prelude.proofs.Bounded.{le_max_below, max_below_le, max_below-near, length-tabulate, get_d_tabulate}
 use Rattle.prelude.proofs.Minima.{min_where-near}
 use Rattle.prelude.proofs.Cells.{cell_lt, row_of_lem, column_of, by-cell}

@@ -6,7 +6,6 @@ use mathlib.Core.Bool.{true, false, cond}
 use mathlib.Core.List.{List}
 use Prim.Native.Nat.{ℕ, ◌+◌, ◌-◌, ◌*◌, ◌≤◌, ◌<◌}
 use native.Mathlib.Omega.{arith}
-use lib.Dec.{eqb}
 use lib.ListN.{length, get_or}
 use lib.Seq.{ext_get_or}
 use Rattle.prelude.specs.Bounded.{max_below}
@@ -16,7 +15,7 @@ use Rattle.prelude.proofs.Bounded.{le_max_below, max_below_le}
 use Rattle.prelude.proofs.Bytes.{same_true, same_of_eq}
 use Rattle.prelude.proofs.Cells.{by-cell}
 use Rattle.fixpoint.specs.Run.{within}
-use Rattle.network.specs.Build.{no_label, event_label, scenarios, cells}
+use Rattle.network.specs.Build.{event_label, scenarios, cells}
 use Rattle.network.specs.Scenario.{satisfies}
 use Rattle.network.specs.Happens.{happens}
 use Rattle.network.specs.declared.Network.{Network}

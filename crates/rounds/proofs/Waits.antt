@@ -1,15 +1,14 @@
 -- The waits of labels, one lower bound for each signal of each label, ask what the definition does. Assumes nothing.
-use mathlib.Core.Path.{◌≡◌, refl, sym, ◌∙◌}
+use mathlib.Core.Path.{◌≡◌, refl, ◌∙◌}
 use mathlib.Core.Logic.{inl, inr}
 use mathlib.Core.Bool.{Bool, true, false, ◌&&◌, cond}
 use mathlib.Core.List.{List}
-use Prim.Native.Nat.{ℕ, zero, suc, ◌+◌, ◌-◌, ◌*◌, ◌≤◌, ◌<◌, max}
+use Prim.Native.Nat.{ℕ, ◌+◌, ◌≤◌, ◌<◌, max}
 use native.Mathlib.Numerals.{add-one}
 use native.Mathlib.Omega.{arith}
 use borrow.Author.Tests.{eqb-true, eqb-false, eq-eqb}
 use lib.Dec.{eqb}
 use lib.IntN.{pos}
-use lib.ListN.{get_or}
 use Rattle.prelude.specs.Bounded.{max_below}
 use Rattle.prelude.proofs.Tests.{either, by_cond, false_of_not-true}
 use Rattle.prelude.proofs.Bounded.{le_max_below, max_below_le}
@@ -24,7 +23,7 @@ use Rattle.rows.specs.Framed.{Framed}
 use Rattle.bounds.specs.Halves.{LowerAdded}
 use Rattle.bounds.proofs.Halves.{listable}
 use Rattle.bounds.proofs.Listed.{max_below_ext}
-use Rattle.rounds.specs.Propagate.{least_from, lower_if, constraints_bound, waits_bound}
+use Rattle.rounds.specs.Propagate.{least_from, lower_if, waits_bound}
 use Rattle.rounds.specs.Compiled.{wait, wait_asks, Asking, constraints_ask, all_ask, Compiled}
 use Rattle.rounds.proofs.Constrained.{not-counted, constrained_min}
 

@@ -1,5 +1,5 @@
 -- Laws of first known times: the table by doubling, and known times by a row. Assumes nothing.
-use mathlib.Core.Path.{◌≡◌, refl, ◌∙◌, ap, ap₂}
+use mathlib.Core.Path.{◌≡◌, refl, ◌∙◌, ap}
 use mathlib.Core.Logic.{inl, inr}
 use mathlib.Core.Bool.{true, false, cond}
 use mathlib.Core.List.{List}
@@ -14,7 +14,6 @@ use Rattle.prelude.proofs.Tests.{lt_or_ge, eq_or_ne}
 use Rattle.prelude.proofs.Minima.{min_where-top, min_where_ext, min_where-fewer}
 use Rattle.network.specs.Build.{observation}
 use Rattle.network.specs.Scenario.{truth}
-use Rattle.network.specs.Strategy.{known_from}
 use Rattle.network.specs.WellFormed.{WellFormed}
 use Rattle.network.specs.declared.Network.{Network}
 use Rattle.rows.specs.declared.Frame.{Frame}

@@ -22,7 +22,7 @@ use Rattle.line.specs.declared.entry.Entry.{Entry}
 use Rattle.line.specs.declared.entry.Entry.TheVariants as E
 use Rattle.line.proofs.Checks.{all_hold}
 use Rattle.line.proofs.LabelRefusals.{later_tests}
-use Rattle.sheet.proofs.ReadLine.{Passes, passes}
+use Rattle.sheet.proofs.ReadLine.{Passes}
 use Rattle.sheet.proofs.Stages.{and_more-is}
 use Rattle.sheet.proofs.ReactionStage.{reacting_signal}
 use Rattle.sheet.proofs.LabelStage.{placed, label-read}

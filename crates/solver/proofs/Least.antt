@@ -1,7 +1,7 @@
 -- Demand 3 on the definitions: the solutions, with zeros for their blanks, are the prefixpoints of the round within the
 -- cap; so a run from all zeros rests at the least solution, once blanks are put in, and where it does not rest there is
 -- none. Assumes nothing.
-use Rattle.std.proofs.Common.{◌≡◌, ℕ, ◌+◌, ◌*◌, ◌<◌, ◌≤◌, true, false, not, ◌||◌, eqb, List, sym, ◌∙◌, inl, inr, arith, eq-eqb}
+use Rattle.std.proofs.Common.{◌≡◌, ℕ, ◌+◌, ◌*◌, ◌≤◌, true, false, List, sym, ◌∙◌, inl, inr, arith, eq-eqb}
 use lib.ListN.{length-replicate}
 use Rattle.prelude.proofs.Tests.{either, clash, by_cond}
 use Rattle.fixpoint.specs.Step.{Prefixpoint}
@@ -9,7 +9,7 @@ use Rattle.fixpoint.specs.Run.{within, Rests}
 use Rattle.fixpoint.proofs.Order.{zeros_below}
 use Rattle.fixpoint.proofs.Run.{LeastOrNone, least_or_none}
 use Rattle.network.specs.Limits as L
-use Rattle.network.specs.Build.{scenarios, cells}
+use Rattle.network.specs.Build.{cells}
 use Rattle.network.specs.Happens.{happens}
 use Rattle.network.specs.Strategy.{time}
 use Rattle.network.specs.Solution.{Solution}

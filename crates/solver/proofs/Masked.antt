@@ -1,15 +1,14 @@
 -- Masked strategies, cell by cell; and what a solution says of the cells that have their event is said of every
 -- strategy that agrees with it there. Assumes nothing.
-use Rattle.std.proofs.Common.{◌≡◌, ℕ, ◌+◌, ◌*◌, ◌/◌, ◌%◌, ◌<◌, ◌≤◌, Bool, true, false, cond, ◌&&◌, leb, List, length, get_or, sym, refl, ◌∙◌, inl, inr, arith, ext_get_or}
+use Rattle.std.proofs.Common.{◌≡◌, ℕ, ◌+◌, ◌*◌, ◌/◌, ◌%◌, ◌<◌, true, false, cond, List, length, get_or, sym, ◌∙◌, inl, inr, arith, ext_get_or}
 use Rattle.prelude.proofs.Tests.{either}
 use Rattle.prelude.proofs.Bounded.{length-tabulate, get_d_tabulate}
 use Rattle.prelude.proofs.Cells.{cell_lt, row_of_lem, column_of, by-cell}
 use Rattle.network.specs.Limits as L
-use Rattle.network.specs.Build.{observation, event_label, constraint, scenarios, cells}
-use Rattle.network.specs.Happens.{mentions, happens, given}
-use Rattle.network.specs.Constraint.{covers}
+use Rattle.network.specs.Build.{observation, constraint, scenarios, cells}
+use Rattle.network.specs.Happens.{happens, given}
 use Rattle.network.specs.Strategy.{time, known_from, known}
-use Rattle.network.specs.Solution.{Waits, Placed, Holds, Indistinct, Alike, Solution}
+use Rattle.network.specs.Solution.{Placed, Holds, Alike, Solution}
 use Rattle.network.specs.WellFormed.{WellFormed}
 use Rattle.network.specs.declared.Network.{Network}
 use Rattle.network.proofs.Labels.{given_where}

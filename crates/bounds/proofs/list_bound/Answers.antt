@@ -1,5 +1,5 @@
 use mathlib.Core.Path.{sym, ◌∙◌}
-use Prim.Native.Nat.{◌-◌, ◌<◌}
+use Prim.Native.Nat.{◌<◌}
 use native.Mathlib.Omega.{arith}
 use Rattle.bounds.specs.Listed.{Lists}
 use Rattle.bounds.proofs.Listed.{added_skip, added_one, room}
@@ -30,9 +30,9 @@ loop-s-preserved c =
     let e = c.satisfies.ensures in (
       omega (arith, c.loop-s-test.true),
       elim c.if-satisfies.branch [
-      | then-satisfies w ↦ rw (w.counts-is, w.lists-is, w.append.ensures.0, w.append.ensures.1)
-          (added_one _ _ _ _ _ _ i c.args.frame.events lists_are c.requires.2 scenario-in
-          (sym e ∙ w.if-satisfies.true))
-      | else-satisfies w ↦ rw (w.counts-is, w.lists-is) (added_skip _ _ _ _ _ _ i (sym e ∙ w.if-satisfies.false))
-    ],
+        | then-satisfies w ↦ rw (w.counts-is, w.lists-is, w.append.ensures.0, w.append.ensures.1)
+            (added_one _ _ _ _ _ _ i c.args.frame.events lists_are c.requires.2 scenario-in
+            (sym e ∙ w.if-satisfies.true))
+        | else-satisfies w ↦ rw (w.counts-is, w.lists-is) (added_skip _ _ _ _ _ _ i (sym e ∙ w.if-satisfies.false))
+      ],
     )

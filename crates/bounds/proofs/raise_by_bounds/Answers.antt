@@ -1,8 +1,8 @@
-use Prim.Native.Nat.{ℕ, ◌+◌, ◌-◌, ◌*◌, ◌≤◌, ◌<◌}
+use Prim.Native.Nat.{ℕ, ◌+◌, ◌*◌, ◌≤◌, ◌<◌}
 use native.Mathlib.Omega.{arith}
 use lib.ListN.{get_or}
 use Rattle.bounds.specs.Listed.{target, source, weight}
-use Rattle.bounds.proofs.Asked.{asked, asked-few}
+use Rattle.bounds.proofs.Asked.{asked-few}
 use Rattle.bounds.proofs.raise_by_bounds.Goals as goal
 
 pub larger-requires : goal.larger-requires

@@ -1,5 +1,4 @@
 use mathlib.Core.Path.{sym, ◌∙◌}
-use Prim.Native.Nat.{◌-◌}
 use native.Mathlib.Omega.{arith}
 use Rattle.prelude.proofs.Gather.{length-gather}
 use Rattle.canonical.specs.Listed.{labelled_at}

@@ -15,7 +15,7 @@ use Rattle.canonical.proofs.push_case.Goals as goal
 pub returns : goal.returns
 returns c =
     let name = c.name_of.ensures in
-            let a = c.args in
+    let a = c.args in
     let Γ = a.network in
     append_as
     (ap (λ (t : List ℕ). t ++ comma ∷ (label_text (literals_of Γ (event_label Γ a.u)) ++ line_feed ∷ [])) name.0

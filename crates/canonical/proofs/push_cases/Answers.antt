@@ -1,4 +1,3 @@
-use Prim.Native.Nat.{◌-◌}
 use native.Mathlib.Omega.{arith}
 use Rattle.page.proofs.Join.{join-next, join-all}
 use Rattle.canonical.specs.Most.{most_case}

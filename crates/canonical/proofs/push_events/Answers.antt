@@ -1,6 +1,6 @@
 use mathlib.Core.Path.{ap}
 use mathlib.Core.List.{List, [], ◌∷◌, ◌++◌}
-use Prim.Native.Nat.{ℕ, ◌-◌}
+use Prim.Native.Nat.{ℕ}
 use native.Mathlib.Omega.{arith}
 use Rattle.text.specs.Lines.{line_feed, line}
 use Rattle.page.proofs.Append.{append_both, append_as}
@@ -11,16 +11,15 @@ use Rattle.canonical.proofs.Sections.{section_appended}
 use Rattle.canonical.proofs.push_events.Goals as goal
 
 pub loop-u-preserved : goal.loop-u-preserved
-loop-u-preserved c =
-    (
-      join-next c.loop-u.invariant.0 {j = 9} (omega arith)
-          (append_as
-          (ap (λ (t : List ℕ). t ++ line_feed ∷ []) c.name_of.ensures.0)
-          (append_both c.push_all-next.ensures c.push-next.ensures)
-          (omega (arith, c.name_of.ensures.1)))
-          (omega arith),
-      c.loop-u.invariant.1,
-    )
+loop-u-preserved c = (
+  join-next c.loop-u.invariant.0 {j = 9} (omega arith)
+      (append_as
+      (ap (λ (t : List ℕ). t ++ line_feed ∷ []) c.name_of.ensures.0)
+      (append_both c.push_all-next.ensures c.push-next.ensures)
+      (omega (arith, c.name_of.ensures.1)))
+      (omega arith),
+  c.loop-u.invariant.1,
+)
 
 pub returns : goal.returns
 returns c =

@@ -1,6 +1,5 @@
 use mathlib.Core.Path.{◌≡◌, ap}
-use mathlib.Core.Logic.{inl, inr}
-use Prim.Native.Nat.{ℕ, ◌-◌}
+use Prim.Native.Nat.{ℕ}
 use native.Mathlib.Omega.{arith}
 use Rattle.page.proofs.Append.{append_as}
 use Rattle.page.proofs.Join.{join-next, join-all}
@@ -17,7 +16,7 @@ use Rattle.canonical.proofs.push_reactions.Goals as goal
 pub loop-p-preserved : goal.loop-p-preserved
 loop-p-preserved c =
     let Γ = c.args.network in
-        let text = ap (λ (x : ℕ). line_by reaction_line (slow_by (letter Γ c.loop-p.p) x)) c.reaction_of-reaction.ensures in (
+    let text = ap (λ (x : ℕ). line_by reaction_line (slow_by (letter Γ c.loop-p.p) x)) c.reaction_of-reaction.ensures in (
       join-next c.loop-p.invariant.0 {j = most_reaction} (omega arith)
           (append_as text c.push_reaction-next.ensures (omega arith)) (omega arith),
       c.loop-p.invariant.1,

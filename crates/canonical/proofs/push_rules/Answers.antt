@@ -1,7 +1,6 @@
-use Prim.Native.Nat.{◌-◌, ◌≤◌}
+use Prim.Native.Nat.{◌≤◌}
 use native.Mathlib.Omega.{arith}
 use lib.ListN.{get_or}
-use borrow.Author.Rules.{rules}
 use Rattle.page.proofs.Join.{join-next, join-all}
 use Rattle.network.specs.Limits as L
 use Rattle.network.specs.Build.{no_constraint}
@@ -13,8 +12,7 @@ use Rattle.canonical.proofs.push_rules.Goals as goal
 
 pub push_rule-next-requires : goal.push_rule-next-requires
 push_rule-next-requires c =
-    let few : c.args.remaining.count ≤ L.rules = remaining-few c.args.network c.requires.2 c.requires.3 in
-    (
+    let few : c.args.remaining.count ≤ L.rules = remaining-few c.args.network c.requires.2 c.requires.3 in (
       c.requires.0,
       c.requires.1,
       remaining-proper-at c.args.network c.requires.2 c.requires.3 c.requires.0 c.loop-i.i

@@ -1,6 +1,6 @@
 use mathlib.Core.Path.{ap}
 use mathlib.Core.List.{List, [], ◌∷◌, ◌++◌}
-use Prim.Native.Nat.{ℕ, ◌-◌}
+use Prim.Native.Nat.{ℕ}
 use native.Mathlib.Omega.{arith}
 use Rattle.text.specs.Lines.{comma, line_feed}
 use Rattle.page.proofs.Append.{append_both, append_as}
@@ -14,8 +14,7 @@ use Rattle.canonical.proofs.push_signals.Goals as goal
 
 pub loop-p-preserved : goal.loop-p-preserved
 loop-p-preserved c =
-    let args = c.args in
-    (
+    let args = c.args in (
       join-next c.loop-p.invariant.0 {j = 11} (omega arith)
           (append_as
           (ap (λ (t : List ℕ). letter args.network c.loop-p.p ∷ comma ∷ t ++ line_feed ∷ []) c.name_of.ensures.0)

@@ -1,5 +1,4 @@
 use mathlib.Core.Path.{sym, ◌∙◌}
-use Prim.Native.Nat.{◌-◌}
 use native.Mathlib.Omega.{arith}
 use Rattle.canonical.proofs.SlowLines.{slow_more, slow_skip}
 use Rattle.canonical.proofs.slow_count.Goals.{then-reaction_of-ne-FASTEST, else-reaction_of-ne-FASTEST}

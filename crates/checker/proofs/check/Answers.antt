@@ -35,7 +35,7 @@ returns-in-Breach-unheard c =
     none_of_pass (first_broken_lem a.network a.table.now)
     (sym c.first_broken-broken.ensures ∙ c.in_default-broken.is) in
     let a = c.args in
-        let found = sym c.first_unheard-unheard.ensures ∙ c.in-Breach-unheard.is in
+    let found = sym c.first_unheard-unheard.ensures ∙ c.in-Breach-unheard.is in
     let unheard = some_of_breached (first_unheard_lem a.network a.table.now) _ found in
     rw (no-late, no-broken, unheard)
 
@@ -50,6 +50,6 @@ returns c =
     none_of_pass (first_broken_lem a.network a.table.now)
     (sym c.first_broken-broken.ensures ∙ c.in_default-broken.is) in
     let a = c.args in
-        let nothing = sym c.first_unheard-unheard.ensures ∙ c.in_default-unheard.is in
+    let nothing = sym c.first_unheard-unheard.ensures ∙ c.in_default-unheard.is in
     let no-unheard = none_of_pass (first_unheard_lem a.network a.table.now) nothing in
     rw (no-late, no-broken, no-unheard)

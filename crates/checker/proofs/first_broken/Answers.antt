@@ -1,5 +1,4 @@
 use mathlib.Core.Path.{◌≡◌, refl, sym, ◌∙◌, ap}
-use Prim.Native.Nat.{◌-◌}
 use native.Mathlib.Omega.{arith}
 use Rattle.network.specs.Build.{constraint}
 use Rattle.checker.specs.Verdict.{does_hold, verdict_of}

@@ -4,7 +4,6 @@
 use mathlib.Core.List.{List}
 use mathlib.Core.Option.{Option}
 use Prim.Native.Nat.{ℕ, ◌-◌, ◌^◌}
-use borrow.Author.Rules.{rules}
 use Rattle.prelude.specs.Search.{unless}
 use Rattle.network.specs.Build.{constraint}
 use Rattle.network.specs.declared.Network.{Network}

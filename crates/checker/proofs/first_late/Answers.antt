@@ -1,5 +1,4 @@
 use mathlib.Core.Path.{◌≡◌, refl, sym, ◌∙◌, ap}
-use Prim.Native.Nat.{◌-◌}
 use native.Mathlib.Omega.{arith}
 use Rattle.checker.specs.Verdict.{is_on_time, verdict_of}
 use Rattle.checker.specs.Plain.{KnownIn}

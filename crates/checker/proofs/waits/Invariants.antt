@@ -2,7 +2,7 @@
 -- propositions passed keeps the event waiting. The measure is what is left of them. Assumes nothing.
 use Prim.Native.Nat.{◌-◌}
 use Rattle.prelude.proofs.Bounded.{Passing}
-use Rattle.checker.proofs.Placed.{letters, waits_for}
+use Rattle.checker.proofs.Placed.{waits_for}
 use Rattle.checker.proofs.waits.Given as goal
 
 abbrev pub invariant-loop-p : goal.invariant-loop-p

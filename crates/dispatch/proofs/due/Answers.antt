@@ -1,5 +1,4 @@
 use mathlib.Core.Path.{sym, ◌∙◌, ap}
-use Prim.Native.Nat.{◌-◌}
 use native.Mathlib.Omega.{arith}
 use Rattle.dispatch.specs.declared.Dispatched.TheVariants.{Events}
 use Rattle.dispatch.proofs.Core.{misnamed-on, hearing_on, heard-on, never_on}

@@ -1,4 +1,3 @@
-use Prim.Native.Nat.{◌-◌}
 use native.Mathlib.Omega.{arith}
 use Rattle.dispatch.proofs.Core.{summing_fits}
 use Rattle.dispatch.proofs.due_in.Goals as goal

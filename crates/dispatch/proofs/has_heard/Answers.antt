@@ -1,5 +1,4 @@
 use mathlib.Core.Path.{◌≡◌, sym, ◌∙◌}
-use Prim.Native.Nat.{◌-◌}
 use Rattle.dispatch.specs.Due.{as_heard}
 use Rattle.dispatch.specs.Said.{said_on}
 use Rattle.prelude.proofs.Bounded.{failed_at}

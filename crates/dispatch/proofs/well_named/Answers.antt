@@ -1,6 +1,4 @@
 use mathlib.Core.Path.{sym, ◌∙◌}
-use mathlib.Core.Bool.{true}
-use Prim.Native.Nat.{◌-◌}
 use Rattle.dispatch.proofs.Core.{naming_one, naming_none, naming_end}
 use Rattle.dispatch.proofs.well_named.Goals.{then-stands, else-stands}
 use Rattle.dispatch.proofs.well_named.Goals as goal
@@ -11,7 +9,7 @@ loop-p-preserved c =
     let stood = sym c.stands.ensures in
     elim c.if-stands.branch [
       | then-stands w ↦ rw (w.named-is, w.add-named.ensures, w.has-truth.ensures, w.bit_of.ensures)
-    (naming_one inv c.loop-p-test.true (stood ∙ w.if-stands.true))
+          (naming_one inv c.loop-p-test.true (stood ∙ w.if-stands.true))
       | else-stands w ↦ rw w.named-is (naming_none inv c.loop-p-test.true (stood ∙ w.if-stands.false))
     ]
 

@@ -1,4 +1,3 @@
-use Prim.Native.Nat.{◌-◌}
 use Rattle.checker.proofs.Reach.{scenario_lt, event-letters}
 use native.Mathlib.Omega.{arith}
 use Rattle.exhaust.proofs.frame_of.Goals as goal

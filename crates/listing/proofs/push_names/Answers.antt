@@ -1,4 +1,3 @@
-use Prim.Native.Nat.{◌-◌}
 use native.Mathlib.Omega.{arith}
 use Rattle.network.proofs.Names.{part-from, name-short}
 use Rattle.page.proofs.Join.{join-next}

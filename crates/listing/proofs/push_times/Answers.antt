@@ -1,4 +1,3 @@
-use Prim.Native.Nat.{◌-◌}
 use native.Mathlib.Omega.{arith}
 use Rattle.page.proofs.Join.{join-next}
 use Rattle.listing.proofs.push_times.Goals as goal

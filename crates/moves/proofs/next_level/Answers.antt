@@ -1,4 +1,3 @@
-use Prim.Native.Nat.{◌-◌}
 use native.Mathlib.Omega.{arith}
 use Rattle.moves.proofs.Levels.{level_next}
 use Rattle.moves.proofs.next_level.Goals as goal

@@ -1,6 +1,5 @@
 -- `dispatch::said` makes a mask of the list, and `events_due_on` answers by the mask: that is the answer by the list.
-use mathlib.Core.Path.{◌≡◌, ◌∙◌, ap}
-use Prim.Native.Nat.{ℕ}
+use mathlib.Core.Path.{◌∙◌, ap}
 use Rattle.calls.specs.Play.{events_due_on_lem}
 use Rattle.calls.proofs.Play.{events-due-said}
 use Rattle.opening.proofs.events_due.Goals as goal

@@ -1,6 +1,5 @@
 -- `opening::handed_in` meets its contract: the network of a reading is small, also where the sheet is refused. Assumes
 -- nothing.
-use Rattle.sheet.specs.Reading.{read}
 use Rattle.opening.proofs.Prologue.{read-few}
 use Rattle.opening.proofs.handed_in.Goals as goal
 

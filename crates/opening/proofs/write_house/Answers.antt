@@ -22,7 +22,7 @@ pub returns : goal.returns
 returns c =
     let args = c.args in
     let remaining = c.remaining-rows in
-        rw c.handed_out.ensures
+    rw c.handed_out.ensures
     (house-written args.sheet.now args.out.now c.read-reading.result c.read-reading.ensures
     c.in_default.is
     (sym remaining.ensures.fits ∙ not-false _ c.if-not-rows.false)

@@ -16,6 +16,6 @@ pub returns-in-Accepted : goal.returns-in-Accepted
 returns-in-Accepted c =
     let args = c.args in
     let read = c.handed_in-reading in
-        rw c.handed_out.ensures
+    rw c.handed_out.ensures
     (listing-written args.sheet.now args.table.now args.out.now read.result read.ensures
     c.in-Accepted.is c.write.new.out c.write.result c.write.ensures)

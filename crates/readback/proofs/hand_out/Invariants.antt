@@ -7,7 +7,7 @@ use lib.Seq.{paste}
 use Rattle.readback.proofs.hand_out.Given as goal
 
 abbrev pub invariant-loop-i : goal.invariant-loop-i
-invariant-loop-i l =    (l.table ≡ paste l.initial.table 0 l.times l.i)
+invariant-loop-i l = (l.table ≡ paste l.initial.table 0 l.times l.i)
     × (length l.table ≡ length l.initial.table)
     × (l.i ≤ length l.times)
     × (l.i-end ≡ length l.times)

@@ -1,4 +1,4 @@
-use Prim.Native.Nat.{◌+◌, ◌-◌, ◌*◌, ◌^◌, ◌≤◌, ◌<◌}
+use Prim.Native.Nat.{◌+◌, ◌*◌, ◌^◌, ◌≤◌, ◌<◌}
 use native.Mathlib.Omega.{arith}
 use Rattle.network.specs.Limits as L
 use Rattle.listing.proofs.Truths.{few-scenarios}
@@ -26,8 +26,7 @@ read_row-requires c =
     let room : let events = c.args.events in
     c.loop-s.s * events + events ≤ L.cells = cells-room c.args.signals c.args.events c.requires.0 c.requires.1 _ more in
     let row : let args = c.args in
-    RowAt args.printed.now args.first args.events c.loop-s.s c.loop-s.at c.until-e.result = row_at c.loop-s.invariant c.requires.4 more _ c.until-e.ensures in
-    (
+    RowAt args.printed.now args.first args.events c.loop-s.s c.loop-s.at c.until-e.result = row_at c.loop-s.invariant c.requires.4 more _ c.until-e.ensures in (
       rw row.line row.count,
       omega (arith, room, c.loop-s.invariant.sized),
     )

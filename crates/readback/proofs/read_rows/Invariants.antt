@@ -7,7 +7,7 @@ use Rattle.readback.proofs.Tables.{Reading_rows}
 use Rattle.readback.proofs.read_rows.Given as goal
 
 abbrev pub invariant-loop-s : goal.invariant-loop-s
-invariant-loop-s l =    Reading_rows l.printed l.first l.signals l.events l.times l.s l.at
+invariant-loop-s l = Reading_rows l.printed l.first l.signals l.events l.times l.s l.at
 
 abbrev pub decreases-loop-s : goal.decreases-loop-s
 decreases-loop-s l = l.count - l.s

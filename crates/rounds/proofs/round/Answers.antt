@@ -1,7 +1,6 @@
-use mathlib.Core.Logic.{⊎_elim, inl, inr}
-use Prim.Native.Nat.{ℕ, ◌-◌, ◌≤◌, ◌<◌}
+use mathlib.Core.Logic.{inl, inr}
+use Prim.Native.Nat.{ℕ, ◌≤◌, ◌<◌}
 use native.Mathlib.Omega.{arith}
-use borrow.Author.Tests.{ltb-true}
 use Rattle.rows.specs.Rows.{Few}
 use Rattle.rounds.specs.Rounds.{raised_at}
 use Rattle.rounds.proofs.Rounding.{greatest, Rounding}
@@ -23,7 +22,7 @@ raise_row-requires c =
     let highest-few : Few 32767 c.loop-s.highest = highest_at-most rounding 32767 made-few in
     let pre = c.requires in
     let i = rounding in
-        (c.loop-s-test.true, pre.0, pre.1, i.sized, i.climb_is.sized, climb-few, i.highest_is.sized, highest-few)
+    (c.loop-s-test.true, pre.0, pre.1, i.sized, i.climb_is.sized, climb-few, i.highest_is.sized, highest-few)
 
 pub greatest-requires : goal.greatest-requires
 greatest-requires c =
@@ -62,7 +61,7 @@ pub returns-then-greatest-eq0 : goal.returns-then-greatest-eq0
 unfolding greatest
 returns-then-greatest-eq0 c =
     let latest = c.greatest.ensures in
-            λ Γ C.
+    λ Γ C.
     ends_resting C (framed-times C c.requires.1) (framed-rounds C (c.loop-s.invariant Γ C) c.loop-s-test.false)
     (rw (C.framed.horizon, latest) at c.if-frame-greatest.false) (c.if-highest-gt0.false)
     (rw c.greatest-2.ensures at c.if-greatest-eq0.true)
@@ -71,7 +70,7 @@ pub returns : goal.returns
 unfolding greatest
 returns c =
     let latest = c.greatest.ensures in
-            λ Γ C.
+    λ Γ C.
     ends_rising C (framed-times C c.requires.1) (framed-rounds C (c.loop-s.invariant Γ C) c.loop-s-test.false)
     (rw (C.framed.horizon, latest) at c.if-frame-greatest.false) (c.if-highest-gt0.false)
     (rw c.greatest-2.ensures at c.if-greatest-eq0.false)

@@ -1,5 +1,5 @@
 use mathlib.Core.Path.{◌≡◌}
-use Prim.Native.Nat.{ℕ, ◌+◌, ◌-◌, ◌*◌, ◌≤◌, ◌<◌}
+use Prim.Native.Nat.{ℕ, ◌+◌, ◌*◌, ◌≤◌, ◌<◌}
 use native.Mathlib.Omega.{arith}
 use native.Mathlib.Nat.{mul_comm, mul-le-mul_right}
 use Rattle.prelude.proofs.Cells.{row_of_lem, column_of}
@@ -19,7 +19,7 @@ loop-s-preserved c =
     let test = c.loop-s-test in
     let loop = c.loop-s in
     let copy-row = c.copy_row in
-            let n = c.args.frame.events in (
+    let n = c.args.frame.events in (
       omega (arith, test.true),
       omega (arith, loop.invariant.1),
       wrote-join _ loop.invariant.2 copy-row.ensures (omega arith)

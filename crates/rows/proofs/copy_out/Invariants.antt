@@ -9,7 +9,7 @@ use Rattle.rows.specs.Rows.{Wrote}
 use Rattle.rows.proofs.copy_out.Given as goal
 
 abbrev pub invariant-loop-s : goal.invariant-loop-s
-invariant-loop-s l =    (l.s ≤ l.c) × (l.a ≡ l.s * l.n) × Wrote l.initial.out l.out 0 l.a
+invariant-loop-s l = (l.s ≤ l.c) × (l.a ≡ l.s * l.n) × Wrote l.initial.out l.out 0 l.a
     (λ i. cond (present l.frame (i / l.n) (i % l.n)) (get_or l.t (i / l.n * 16 + i % l.n) 0) 65535)
 
 abbrev pub decreases-loop-s : goal.decreases-loop-s

@@ -1,4 +1,3 @@
-use Prim.Native.Nat.{◌-◌}
 use native.Mathlib.Omega.{arith}
 use Rattle.prelude.proofs.Bounded.{max_below_le}
 use Rattle.rows.proofs.greatest.Goals as goal

@@ -1,5 +1,4 @@
 -- The sections one behind the other, each at the stage that the one before it leaves. Assumes nothing.
-use borrow.Author.Rules.{rules}
 use mathlib.Core.Path.{◌∙◌}
 use mathlib.Core.List.{List}
 use Prim.Native.Nat.{ℕ}
@@ -63,10 +62,10 @@ returns c =
     let sheet-3 : List ℕ = sheet-2 in
     let sheet-4 : List ℕ = sheet-3 in
     let last = c.read_last-last in
-        let rules = c.read_after-rules in
+    let rules = c.read_after-rules in
     let signals = c.read_after-signals in
     let events = c.read_after-events in
-        let horizon = c.read_horizon-horizon in
+    let horizon = c.read_horizon-horizon in
     c.end_of.ensures
     ∙ read_whole sheet-4 (progress_of horizon.result) (progress_of events.result)
     (progress_of signals.result) (progress_of rules.result) (progress_of last.result)

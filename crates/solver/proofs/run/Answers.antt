@@ -1,4 +1,4 @@
-use Rattle.std.proofs.Common.{◌+◌, ◌-◌, arith}
+use Rattle.std.proofs.Common.{◌+◌, arith}
 use Rattle.rounds.proofs.Usable.{scenarios_in}
 use Rattle.rounds.proofs.Effects.{rounded_as}
 use Rattle.solver.proofs.Underway.{Underway, underway_turn, underway_leapt, all_of}
@@ -66,7 +66,7 @@ loop-rounds-preserved c =
     c.pass_over-made.new.x (c.keep-at.result + c.pass_over-made.result)
     (c.loop-rounds.rounds + 1 + c.pass_over-made.result) = underway_leapt turned c.pass_over-made.ensures.1 c.pass_over-made.ensures.2 in
     let usable = c.requires.0 in
-            let round = c.round in (
+    let round = c.round in (
       omega (arith, c.loop-rounds-test.true, c.pass_over-made.ensures.0),
       (round.ensures usable.network usable.compiled).sized,
       c.watch-w.ensures,

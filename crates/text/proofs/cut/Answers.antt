@@ -1,5 +1,4 @@
 use mathlib.Core.Path.{◌∙◌}
-use Prim.Native.Nat.{◌-◌}
 use Rattle.text.proofs.Cutting.{cutting_byte, cutting_comma, cutting_end}
 use Rattle.text.proofs.cut.Goals.{then-line-i-eq44, else-line-i-eq44}
 use Rattle.text.proofs.cut.Goals as goal

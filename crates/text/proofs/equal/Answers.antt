@@ -1,5 +1,4 @@
 use mathlib.Core.Path.{sym}
-use Prim.Native.Nat.{◌-◌}
 use Rattle.text.proofs.Lines.{same_length}
 use Rattle.text.proofs.equal.Goals as goal
 

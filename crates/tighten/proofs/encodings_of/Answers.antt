@@ -1,6 +1,4 @@
-use Prim.Native.Nat.{◌-◌}
 use native.Mathlib.Omega.{arith}
-use borrow.Author.Rules.{rules}
 use Rattle.tighten.proofs.Regular.{proper_encodable}
 use Rattle.tighten.proofs.Listed.{listed-few}
 use Rattle.tighten.proofs.encodings_of.Goals as goal

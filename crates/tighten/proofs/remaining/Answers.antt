@@ -1,4 +1,3 @@
-use Prim.Native.Nat.{◌-◌}
 use native.Mathlib.Omega.{arith}
 use Rattle.tighten.proofs.Regular.{uppers_regular}
 use Rattle.tighten.proofs.Collected.{collected_none, collected_all, collected_lt}

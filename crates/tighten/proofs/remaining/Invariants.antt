@@ -4,7 +4,6 @@
 -- listed numbers. The measure is the room in the array. Assumes nothing.
 use mathlib.Core.List.{List}
 use Prim.Native.Nat.{◌-◌, ◌≤◌}
-use borrow.Author.Rules.{rules}
 use Rattle.prelude.specs.Lists.{Each}
 use Rattle.network.specs.Limits as L
 use Rattle.network.specs.Build.{no_constraint}
@@ -15,7 +14,7 @@ use Rattle.tighten.proofs.Collected.{Collected}
 use Rattle.tighten.proofs.remaining.Given as goal
 
 abbrev pub invariant-loop-encodings : goal.invariant-loop-encodings
-invariant-loop-encodings l =    (l.count ≤ L.rules) ×
+invariant-loop-encodings l = (l.count ≤ L.rules) ×
     ((xs : List Constraint) → Each Regular xs no_constraint → EncodingsAre xs l.encodings
     → Collected xs l.count l.uppers l.floor)
 

@@ -1,4 +1,3 @@
-use Prim.Native.Nat.{◌-◌}
 use native.Mathlib.Omega.{arith}
 use Rattle.rounds.proofs.Usable.{scenarios_in}
 use Rattle.rounds.proofs.Effects.{rounded_as}
@@ -30,8 +29,8 @@ pub loop-q-preserved : goal.loop-q-preserved
 loop-q-preserved c =
     let round2 = c.round-in-loop-q in
     let copy = c.copy in
-        let round = c.round in
-            let pre = c.requires in
+    let round = c.round in
+    let pre = c.requires in
     let one = advanced_round pre.0 (λ Γ C. rounded_as c.in-Rises.is (round.ensures Γ C)) in
     let two = advanced_round pre.0 (λ Γ C. rounded_as c.in-Rises-round.is (round2.ensures Γ C)) in (
       omega (arith, c.loop-q-test.true),

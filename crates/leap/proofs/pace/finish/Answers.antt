@@ -1,6 +1,5 @@
 -- `finish` meets its contract: rises clipped to the two bounds are rises that rounds may go from. Assumes nothing.
 use mathlib.Core.Path.{refl}
-use Prim.Native.Nat.{◌-◌}
 use native.Mathlib.Omega.{arith}
 use Rattle.rounds.proofs.Usable.{scenarios_in}
 use Rattle.moves.proofs.Moves.{wrote-times, clipped_times}
@@ -43,7 +42,7 @@ passes_after-requires c =
     let clip2 = c.clip-2 in
     let clip = c.clip in
     let rise = c.rise in
-        let pre = c.requires in
+    let pre = c.requires in
     let rises = wrote-times _ pre.1 refl rise.ensures (λ i. omega arith) in (
       pre.0,
       pre.1,

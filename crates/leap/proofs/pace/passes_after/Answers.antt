@@ -6,10 +6,10 @@ use Rattle.leap.proofs.pace.passes_after.Goals as goal
 pub returns : goal.returns
 returns c =
     let closing = c.closing-q in
-        let at_least = c.at_least in
-        let far2 = c.far-2 in
-        let at_most = c.at_most in
-        let far = c.far in
+    let at_least = c.at_least in
+    let far2 = c.far-2 in
+    let at_most = c.at_most in
+    let far = c.far in
     let pre = c.requires in
     let high = far.ensures.1 (c.if-not-far.false) in
     let low = far2.ensures.1 (c.if-not-far-2.false) in

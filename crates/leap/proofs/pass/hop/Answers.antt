@@ -16,7 +16,7 @@ place-requires c =
 pub at_most-requires : goal.at_most-requires
 at_most-requires c =
     let advance = c.advance in
-        let place = c.place in
+    let place = c.place in
     let pre = c.requires in
     let placed = place.ensures.1 (c.if-not-place.false) in
     let led = advance.ensures.1 (c.if-not-advance.false) in
@@ -26,7 +26,7 @@ at_most-requires c =
 pub at_least-requires : goal.at_least-requires
 at_least-requires c =
     let advance = c.advance in
-        let place = c.place in
+    let place = c.place in
     let pre = c.requires in
     let placed = place.ensures.1 (c.if-not-place.false) in
     let led = advance.ensures.1 (c.if-not-advance.false) in
@@ -36,9 +36,9 @@ at_least-requires c =
 pub returns : goal.returns
 returns c =
     let at_most = c.at_most in
-        let advance = c.advance in
-        let place = c.place in
-        let product = c.product-made in
+    let advance = c.advance in
+    let place = c.place in
+    let product = c.product-made in
     let pre = c.requires in
     let placed = place.ensures.1 (c.if-not-place.false) in
     let led = advance.ensures.1 (c.if-not-advance.false) in

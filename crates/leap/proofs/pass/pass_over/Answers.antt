@@ -1,5 +1,4 @@
 use mathlib.Core.Path.{refl}
-use Prim.Native.Nat.{◌-◌}
 use native.Mathlib.Omega.{arith}
 use Rattle.rounds.proofs.Usable.{scenarios_in}
 use Rattle.moves.proofs.Moves.{wrote-times}
@@ -26,7 +25,7 @@ pub hop-more-requires : goal.hop-more-requires
 hop-more-requires c =
     let next_level = c.next_level in
     let rise = c.rise in
-        let pre = c.requires in (
+    let pre = c.requires in (
       pre.0,
       c.loop-tried.invariant.3.times,
       wrote-times _ pre.2.times refl rise.ensures (λ i. omega arith),
@@ -37,11 +36,10 @@ hop-more-requires c =
     )
 
 pub loop-tried-preserved : goal.loop-tried-preserved
-loop-tried-preserved c =
-    (
-      omega (arith, c.loop-tried.invariant.0, c.hop-more.ensures.0),
-      c.next_count-c.ensures,
-      omega (arith, c.loop-tried-test.true),
-      advanced_join c.loop-tried.invariant.3 c.hop-more.ensures.1,
-      c.hop-more.ensures.2,
-    )
+loop-tried-preserved c = (
+  omega (arith, c.loop-tried.invariant.0, c.hop-more.ensures.0),
+  c.next_count-c.ensures,
+  omega (arith, c.loop-tried-test.true),
+  advanced_join c.loop-tried.invariant.3 c.hop-more.ensures.1,
+  c.hop-more.ensures.2,
+)

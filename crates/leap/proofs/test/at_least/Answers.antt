@@ -1,5 +1,4 @@
-use mathlib.Core.Bool.{false}
-use Prim.Native.Nat.{◌*◌, ◌-◌, ◌≤◌}
+use Prim.Native.Nat.{◌*◌, ◌≤◌}
 use native.Mathlib.Nat.{mul-le-mul}
 use native.Mathlib.Omega.{arith}
 use Rattle.rounds.proofs.Usable.{scenarios_in}
@@ -21,7 +20,7 @@ between-requires c =
 pub returns-then-next-eq0 : goal.returns-then-next-eq0
 returns-then-next-eq0 c =
     let next_level = c.next_level-next in
-        let pre = c.requires in
+    let pre = c.requires in
     λ e Γ C. at-least_of C pre.2 next_level.ensures c.if-next-eq0.true
     c.reached-last.ensures
     (c.loop-frame.invariant.lower Γ C) pre.4 (c.between.ensures e)

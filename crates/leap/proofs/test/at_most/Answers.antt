@@ -1,5 +1,3 @@
-use mathlib.Core.Bool.{false}
-use Prim.Native.Nat.{◌-◌}
 use native.Mathlib.Omega.{arith}
 use Rattle.rounds.proofs.Usable.{scenarios_in}
 use Rattle.leap.proofs.Climbed.{climbed_less, climbed_next}

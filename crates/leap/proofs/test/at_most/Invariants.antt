@@ -6,7 +6,7 @@ use Rattle.leap.proofs.Climbed.{Climbed}
 use Rattle.leap.proofs.test.at_most.Given as goal
 
 abbrev pub invariant-loop-frame : goal.invariant-loop-frame
-invariant-loop-frame l =    Climbed l.frame l.counts l.lists l.d (λ Γ. Faster Γ l.p l.j l.t l.d) l.l
+invariant-loop-frame l = Climbed l.frame l.counts l.lists l.d (λ Γ. Faster Γ l.p l.j l.t l.d) l.l
 
 abbrev pub decreases-loop-frame : goal.decreases-loop-frame
 decreases-loop-frame l = 10080 - l.l

@@ -1,5 +1,4 @@
 -- `far` meets its contract: rounds may go from a table that is placed, and p of them are made. Assumes nothing.
-use mathlib.Core.Bool.{false}
 use native.Mathlib.Omega.{arith}
 use Rattle.rounds.proofs.Usable.{scenarios_in}
 use Rattle.moves.proofs.Moves.{placed-times}

@@ -41,7 +41,7 @@ returns-in-Refused c =
     let checked : c.first_failing-check.result ≡ check_of why = let args = c.args in
     let literals-of = c.literals_of-t in
     let is-placed = c.is_placed in
-        c.first_failing-check.ensures ∙ ap check_of (placed-tests args.sheet.now parts args.name.now
+    c.first_failing-check.ensures ∙ ap check_of (placed-tests args.sheet.now parts args.name.now
     args.label.now literals-of.result.now literals-of.ensures
     (sym is-placed.ensures ∙ c.if-not-is_placed.false)
     c.event_named-event.ensures
@@ -57,7 +57,7 @@ returns-in-Passed c =
     let checked : c.first_failing-check.result ≡ check_of why = let args = c.args in
     let literals-of = c.literals_of-t in
     let is-placed = c.is_placed in
-        c.first_failing-check.ensures ∙ ap check_of (placed-tests args.sheet.now parts args.name.now
+    c.first_failing-check.ensures ∙ ap check_of (placed-tests args.sheet.now parts args.name.now
     args.label.now literals-of.result.now literals-of.ensures
     (sym is-placed.ensures ∙ c.if-not-is_placed.false)
     c.event_named-event.ensures

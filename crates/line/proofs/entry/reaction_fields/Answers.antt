@@ -14,7 +14,6 @@ use Rattle.network.specs.declared.Network.{Network}
 use Rattle.line.specs.Tests.{count_tests}
 use Rattle.line.specs.Answers.{parts_of, section_answer}
 use Rattle.line.specs.declared.HeadingLine.{HeadingLine}
-use Rattle.line.specs.declared.HeadingLine.TheVariants as S
 use Rattle.line.proofs.Answered.{section-answer-refused, section-answer}
 use Rattle.line.proofs.ReactionRefusals.{count-within, reaction-count, reaction-minutes, reaction-letter}
 use Rattle.line.proofs.entry.reaction_fields.Goals as goal

@@ -45,7 +45,7 @@ returns-in-IllFormed c =
     let says : (x : Limit) → c.limit_of-limit.result ≡ x → LimitSays (field 3 parted) x = λ x e. let read = ap limit_of_lem (sym c.field-2.ensures.text) ∙ sym c.limit_of-limit.ensures ∙ e in
     rw read at (limit-says (field 3 parted)) in
     let fs = parted in
-        let ill = says _ c.in-IllFormed.is in
+    let ill = says _ c.in-IllFormed.is in
     sym (rw (rule_ill c.args.sheet.now parts fs c.in-Is.kind five
     kind ill))
 
@@ -62,7 +62,7 @@ returns-in-Beyond c =
     let says : (x : Limit) → c.limit_of-limit.result ≡ x → LimitSays (field 3 parted) x = λ x e. let read = ap limit_of_lem (sym c.field-2.ensures.text) ∙ sym c.limit_of-limit.ensures ∙ e in
     rw read at (limit-says (field 3 parted)) in
     let fs = parted in
-        let over = says _ c.in-Beyond.is in
+    let over = says _ c.in-Beyond.is in
     sym (rw (rule-beyond c.args.sheet.now parts fs c.in-Is.kind five
     kind over.0 over.1))
 
@@ -81,10 +81,10 @@ returns-in-Minutes c =
     let field3 = c.field-in-Minutes in
     let field4 = c.field-in-Minutes-2 in
     let field5 = c.field-in-Minutes-3 in
-        let sheet = c.args.sheet.now in
+    let sheet = c.args.sheet.now in
     let Γ = parts in
     let fs = parted in
-            let n = length c.args.line.now in
+    let n = length c.args.line.now in
     let limit = says _ c.in-Minutes.is in
     c.rule_ends.ensures
     ∙ ap (λ (y : ℤ). ends_answer sheet Γ field3.result.now field4.result.now field5.result.now c.in-Is.kind y n)

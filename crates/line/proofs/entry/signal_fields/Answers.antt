@@ -87,7 +87,7 @@ returns-in-Passed c =
     let place = event-place args.sheet.now args.n args.starts.now args.lengths.now
     (field 1 (fields args.line.now)) field2.result.now field2.ensures.text event-named.result
     c.place_or.result event-named.ensures c.place_or.ensures in
-        let passed = check-passed why (sym checked ∙ c.in-Passed.is) in
+    let passed = check-passed why (sym checked ∙ c.in-Passed.is) in
     let was_field = c.field-f in
     rw (
       passed,

@@ -7,14 +7,14 @@ pub returns-then-v-lo : goal.returns-then-v-lo
 returns-then-v-lo c =
     let args = c.args in
     let read_number = c.read_number-n in
-        sym (rw (count_low args.lo args.hi args.f.now c.in-Plus.v
+    sym (rw (count_low args.lo args.hi args.f.now c.in-Plus.v
     (sym read_number.ensures ∙ c.in-Plus.is) c.if-v-lo.true))
 
 pub returns-then-hi-v : goal.returns-then-hi-v
 returns-then-hi-v c =
     let args = c.args in
     let read_number = c.read_number-n in
-        sym (rw (count-high args.lo args.hi args.f.now c.in-Plus.v
+    sym (rw (count-high args.lo args.hi args.f.now c.in-Plus.v
     (sym read_number.ensures ∙ c.in-Plus.is) c.if-hi-v.true))
 
 pub returns-in-IllFormed : goal.returns-in-IllFormed
@@ -33,6 +33,6 @@ pub returns-else-hi-v : goal.returns-else-hi-v
 returns-else-hi-v c =
     let args = c.args in
     let read_number = c.read_number-n in
-        let w = count_in args.lo args.hi args.f.now c.in-Plus.v
+    let w = count_in args.lo args.hi args.f.now c.in-Plus.v
     (sym read_number.ensures ∙ c.in-Plus.is) c.if-v-lo.false c.if-hi-v.false in
     sym (rw (w.0, w.1))

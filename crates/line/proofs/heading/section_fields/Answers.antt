@@ -3,7 +3,7 @@ use mathlib.Core.Path.{sym, ◌∙◌, ap}
 use mathlib.Core.List.{List}
 use Prim.Native.Nat.{ℕ}
 use Rattle.prelude.specs.Bytes.{same}
-use Rattle.text.specs.Lines.{fields, field}
+use Rattle.text.specs.Lines.{fields}
 use Rattle.line.proofs.Refusals.{word_count, word-other, word-passes}
 use Rattle.line.proofs.heading.section_fields.Goals as goal
 
@@ -27,7 +27,7 @@ pub returns : goal.returns
 returns c =
     let args = c.args in
     let cut = c.cut-cuts in
-        let was_field = c.field in
+    let was_field = c.field in
     let equal = c.equal in
     let fs = fields args.line.now in
     let word = ap (λ (f : List ℕ). same f args.word.now) (sym was_field.ensures.text) ∙ sym

@@ -1,5 +1,4 @@
 use mathlib.Core.Path.{sym, ◌∙◌}
-use Prim.Native.Nat.{◌-◌}
 use native.Mathlib.Omega.{arith}
 use Rattle.prelude.proofs.Bounded.{failed_at}
 use Rattle.network.specs.Build.{observation, event_label}

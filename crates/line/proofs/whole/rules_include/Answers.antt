@@ -1,5 +1,4 @@
 use mathlib.Core.Path.{sym, ◌∙◌}
-use Prim.Native.Nat.{◌-◌}
 use Rattle.prelude.proofs.Bounded.{failed_at}
 use Rattle.network.specs.Build.{constraint}
 use Rattle.line.proofs.Labelling.{small_of}

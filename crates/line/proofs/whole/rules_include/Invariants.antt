@@ -1,7 +1,6 @@
 -- Each rule's label is tried in turn. The invariant: each label passed lacks nothing. The
 -- measure is what is left of them. Assumes nothing.
 use Prim.Native.Nat.{◌-◌}
-use borrow.Author.Rules.{rules}
 use Rattle.prelude.proofs.Bounded.{Passing}
 use Rattle.network.specs.Build.{constraint}
 use Rattle.line.specs.Labelling.{lacks_none_lem}

@@ -1,6 +1,5 @@
 use borrow.Author.Rules.{rules}
 use mathlib.Core.Path.{◌∙◌}
-use Prim.Native.Nat.{◌-◌}
 use Rattle.names.proofs.Tokens.{defined_skip}
 use Rattle.names.proofs.label.all_defined.Goals as goal
 

@@ -9,7 +9,7 @@ use Rattle.names.proofs.label.weight_of.Goals as goal
 pub power-requires : goal.power-requires
 power-requires c =
     let args = c.args in
-        let letters = args.letters.now in
+    let letters = args.letters.now in
     let found = found_some (place_of args.k letters args.b) c.in-At.p
     (sym c.place_of-place.ensures ∙ c.in-At.is) in
     omega (arith, (place_is args.k letters args.b c.in-At.p found).below)

@@ -1,4 +1,3 @@
-use Prim.Native.Nat.{◌-◌}
 use native.Mathlib.Omega.{arith}
 use Rattle.names.proofs.Tokens.{weights-at}
 use Rattle.names.proofs.Labels.{scenarios-fit}

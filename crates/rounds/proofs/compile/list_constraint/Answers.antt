@@ -16,15 +16,15 @@ list_lower-requires-in-Fix c =
 pub returns-in-Max : goal.returns-in-Max
 returns-in-Max c =
     let pre = c.requires in
-        constrained_max _ _ pre.0 c.in-Max.is pre.1 c.list_upper.ensures
+    constrained_max _ _ pre.0 c.in-Max.is pre.1 c.list_upper.ensures
 
 pub returns-in-Min : goal.returns-in-Min
 returns-in-Min c =
     let pre = c.requires in
-        constrained_min _ _ pre.0 c.in-Min.is pre.1 c.list_lower.ensures
+    constrained_min _ _ pre.0 c.in-Min.is pre.1 c.list_lower.ensures
 
 pub returns-in-Fix : goal.returns-in-Fix
 returns-in-Fix c =
     let pre = c.requires in
-        let list-upper2 = c.list_upper-in-Fix in
+    let list-upper2 = c.list_upper-in-Fix in
     constrained_fix _ _ pre.0 c.in-Fix.is pre.1 list-upper2.ensures c.list_lower-in-Fix.ensures

@@ -1,6 +1,4 @@
-use Prim.Native.Nat.{◌-◌}
 use native.Mathlib.Omega.{arith}
-use borrow.Author.Rules.{rules}
 use Rattle.network.specs.Build.{constraint}
 use Rattle.network.specs.WellFormed.{Proper}
 use Rattle.network.proofs.Jointly.{joint-lettered}
@@ -15,7 +13,7 @@ list_constraint-requires c =
     (constraint c.args.network c.loop-i.i) = c.requires.0.proper c.loop-i.i c.loop-i-test.true in
     let joined : Proper c.args.network
     (jointly c.args.network (constraint c.args.network c.loop-i.i)) = let p = proper in
-        record {
+    record {
       from = p.from;
       to = p.to;
       bound = p.bound;
@@ -30,9 +28,8 @@ list_constraint-requires c =
     )
 
 pub loop-i-preserved : goal.loop-i-preserved
-loop-i-preserved c =
-    (
-      omega (arith, c.loop-i-test.true),
-      listing-next _ _ c.requires.1 c.loop-i.i c.loop-i.invariant.1
-          (rw c.joined-joint.ensures at c.list_constraint.ensures),
-    )
+loop-i-preserved c = (
+  omega (arith, c.loop-i-test.true),
+  listing-next _ _ c.requires.1 c.loop-i.i c.loop-i.invariant.1
+      (rw c.joined-joint.ensures at c.list_constraint.ensures),
+)

@@ -1,5 +1,5 @@
 use mathlib.Core.Path.{◌≡◌, refl, sym, ◌∙◌}
-use Prim.Native.Nat.{◌-◌, ◌<◌}
+use Prim.Native.Nat.{◌<◌}
 use native.Mathlib.Omega.{arith}
 use borrow.Author.Tests.{not-true}
 use Rattle.rows.proofs.Gapless.{sixteen}
@@ -41,13 +41,13 @@ loop-p-preserved c =
     let e = c.mentions.ensures in (
       omega (arith, c.loop-p-test.true),
       elim c.if-mentions.branch [
-      | then-mentions t ↦ rw (t.counts-is, t.lists-is)
-          (asking_as
-          (wait-next c.requires.0 c.requires.1 w p i c.loop-w-test.true c.loop-p-test.true
-          (sym e ∙ t.if-mentions.true) (rw (t.wait_of-wait.ensures, t.reaction_of-reaction.ensures) at t.list_lower.ensures)) (omega arith) (λ σ s u. refl))
-      | else-mentions t ↦ rw (t.counts-is, t.lists-is)
-          (asking_as (wait_skip c.requires.0 c.requires.1 w p i (sym e ∙ t.if-mentions.false)) (omega arith) (λ σ s u. refl))
-    ],
+        | then-mentions t ↦ rw (t.counts-is, t.lists-is)
+            (asking_as
+            (wait-next c.requires.0 c.requires.1 w p i c.loop-w-test.true c.loop-p-test.true
+            (sym e ∙ t.if-mentions.true) (rw (t.wait_of-wait.ensures, t.reaction_of-reaction.ensures) at t.list_lower.ensures)) (omega arith) (λ σ s u. refl))
+        | else-mentions t ↦ rw (t.counts-is, t.lists-is)
+            (asking_as (wait_skip c.requires.0 c.requires.1 w p i (sym e ∙ t.if-mentions.false)) (omega arith) (λ σ s u. refl))
+      ],
     )
 
 pub loop-w-preserved : goal.loop-w-preserved

@@ -13,7 +13,7 @@ use Rattle.network.specs.declared.Network.{Network}
 use Rattle.prelude.proofs.Tests.{by_cond}
 use Rattle.rows.specs.declared.Frame.{Frame}
 use Rattle.rows.specs.Framed.{present, Framed}
-use Rattle.rows.specs.Rows.{Few, Row, RowIn}
+use Rattle.rows.specs.Rows.{Few, RowIn}
 use Rattle.rows.specs.Known.{known_in, FirstKnown}
 use Rattle.rows.proofs.FirstKnown.{first-start, first_next, first-few, first-fewer, known_in_row}
 use Rattle.rows.proofs.known.first_known.Goals as goal

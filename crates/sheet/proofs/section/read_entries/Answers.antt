@@ -1,5 +1,4 @@
 use mathlib.Core.Path.{◌≡◌, sym, ◌∙◌}
-use mathlib.Core.Logic.{inl, inr}
 use mathlib.Core.Option.{Option, none}
 use Prim.Native.Nat.{◌+◌, ◌-◌, ◌≤◌, ◌<◌}
 use native.Mathlib.Omega.{arith}
@@ -78,7 +77,7 @@ returns-in-Refused-check c =
     c.in-Holds.length = entry_turn c.loop-left.invariant c.loop-left-test.true c.in-Holds.entry c.in-Holds.length
     (sym c.entry_at-read.ensures ∙ c.in-Holds.is) in
     let left = c.loop-left.left in
-        let fails = check-refused _ c.in-Refused-check.cause (sym c.whole_of-check.ensures ∙ c.in-Refused-check.is) in
+    let fails = check-refused _ c.in-Refused-check.cause (sym c.whole_of-check.ensures ∙ c.in-Refused-check.is) in
     c.refused-in-Refused-check.ensures
     ∙ turn.stop c.in-Refused-check.cause (rw (c.in-Label.is, eq-eqb left 1 c.if-left-eq1.true) fails)
 
@@ -107,8 +106,8 @@ loop-left-preserved c =
     let grown : Network = added held c.loop-left.network c.loop-left.place c.in-Holds.length in
     let behind : Option Cause = first_failing_lem (tests_behind held c.loop-left.left grown) in
     let turns : (Δ : Network) → Δ ≡ grown → behind ≡ none
-    →     let args = c.args in
-        EntriesLeft args.sheet.now args.section
+    → let args = c.args in
+    EntriesLeft args.sheet.now args.section
     (read_entries_lem args.sheet.now args.section args.m args.network args.at args.k) (c.loop-left.left - 1) Δ
     (c.loop-left.place + c.in-Holds.length + 1) (c.loop-left.line + 1) = λ Δ e f. rw e (turn.next f) in
     let left = c.loop-left.left in

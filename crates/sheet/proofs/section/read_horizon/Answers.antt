@@ -1,10 +1,7 @@
 -- The first line, from the front of the sheet.
-use mathlib.Core.Path.{sym, ◌∙◌, ap}
-use Prim.Native.Nat.{◌+◌}
+use mathlib.Core.Path.{sym, ◌∙◌}
 use native.Mathlib.Omega.{arith}
-use Rattle.network.specs.declared.Network.{Network}
-use Rattle.sheet.specs.Reading.{Go}
-use Rattle.sheet.proofs.Sections.{horizon_stops, horizon_goes}
+use Rattle.sheet.proofs.Sections.{horizon_goes}
 use Rattle.sheet.proofs.section.read_horizon.Goals as goal
 
 pub overflow_add-result : goal.overflow_add-result

@@ -7,10 +7,10 @@ use Rattle.sheet.proofs.section.read_section.Goals as goal
 pub overflow_add-at : goal.overflow_add-at
 overflow_add-at c =
     let goes : let args = c.args in
-        SectionGoes args.sheet.now args.section args.at args.k args.rest.now c.requires.1
+    SectionGoes args.sheet.now args.section args.at args.k args.rest.now c.requires.1
     args.network
     c.in-Count.count c.in-Count.length = let args = c.args in
-        section_goes args.sheet.now args.section args.at args.k args.rest.now c.requires.1
+    section_goes args.sheet.now args.section args.at args.k args.rest.now c.requires.1
     args.network
     c.in-Count.count c.in-Count.length (sym c.heading_of-read.ensures
     ∙ c.in-Count.is) in
@@ -19,10 +19,10 @@ overflow_add-at c =
 pub overflow_add-at-in-Count : goal.overflow_add-at-in-Count
 overflow_add-at-in-Count c =
     let goes : let args = c.args in
-        SectionGoes args.sheet.now args.section args.at args.k args.rest.now c.requires.1
+    SectionGoes args.sheet.now args.section args.at args.k args.rest.now c.requires.1
     args.network
     c.in-Count.count c.in-Count.length = let args = c.args in
-        section_goes args.sheet.now args.section args.at args.k args.rest.now c.requires.1
+    section_goes args.sheet.now args.section args.at args.k args.rest.now c.requires.1
     args.network
     c.in-Count.count c.in-Count.length (sym c.heading_of-read.ensures
     ∙ c.in-Count.is) in
@@ -31,10 +31,10 @@ overflow_add-at-in-Count c =
 pub read_entries-requires : goal.read_entries-requires
 read_entries-requires c =
     let goes : let args = c.args in
-        SectionGoes args.sheet.now args.section args.at args.k args.rest.now c.requires.1
+    SectionGoes args.sheet.now args.section args.at args.k args.rest.now c.requires.1
     args.network
     c.in-Count.count c.in-Count.length = let args = c.args in
-        section_goes args.sheet.now args.section args.at args.k args.rest.now c.requires.1
+    section_goes args.sheet.now args.section args.at args.k args.rest.now c.requires.1
     args.network
     c.in-Count.count c.in-Count.length (sym c.heading_of-read.ensures
     ∙ c.in-Count.is) in
