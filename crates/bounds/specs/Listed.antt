@@ -1,7 +1,8 @@
 -- Constraints as lists of difference bounds. Bound b has three numbers from place 3 b on: its target, its source and
 -- its weight. It asks that the target's time is at least the source's and the weight, less 10,080: so no number is
 -- signed. The bounds of scenario s are those from 192 s on, and counts says how many.
-use Rattle.std.specs.Prelude.{◌≡◌, cond, List, ℕ, suc, ◌+◌, ◌-◌, ◌*◌, ◌≤◌, ◌<◌, max, eqb, ℤ, pos, negsuc, neg_ℤ, length, get_or, set}
+use Rattle.std.specs.Prelude.{◌≡◌, cond, List, ℕ, suc, ◌+◌, ◌-◌, ◌*◌, ◌≤◌, ◌<◌, max, eqb, ℤ, pos, negsuc, neg_ℤ, length}
+use Rattle.std.specs.Prelude.{get_or, set}
 use Rattle.prelude.specs.Bounded.{max_below}
 use Rattle.network.specs.Limits as L
 use Rattle.network.specs.Scenario.{satisfies}
@@ -82,4 +83,5 @@ pub record Added (ℓ : Label) (target source weight : ℕ) (counts lists counts
       → list_asks counts' lists' s row u ≡ max (list_asks counts lists s row u)
       (cond (satisfies s ℓ) (asking target source weight row u) 0)
   pub count_later : (s : ℕ) → k ≤ s → get_or counts' s 0 ≡ get_or counts s 0
-  pub later : (s : ℕ) → k ≤ s → (row : List ℕ) (u : ℕ) → list_asks counts' lists' s row u ≡ list_asks counts lists s row u
+  pub later : (s : ℕ) → k ≤ s → (row : List ℕ) (u : ℕ) → list_asks counts' lists' s row u ≡ list_asks counts lists s
+      row u

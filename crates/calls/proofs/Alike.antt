@@ -53,7 +53,8 @@ module _ (sheet : List ℕ) (t t' : Handed)
   pub listing-alike : (m : List ℕ) → listing_of sheet t m ≡ listing_of sheet t' m
   listing-alike m =
       let rest : List ℕ → Tests = λ σ. enough (in_place_lem m) (length (listing sheet net σ)) ∷ [] in
-      call-alike (refusing (in_place_lem m)) sheet (listing_tests sheet t (in_place_lem m)) (listing_tests sheet t' (in_place_lem m))
+      call-alike (refusing (in_place_lem m)) sheet (listing_tests sheet t (in_place_lem m))
+      (listing_tests sheet t' (in_place_lem m))
       (λ Γ. writing (in_place_lem m) (listing sheet Γ t.minutes))
       (λ Γ. writing (in_place_lem m) (listing sheet Γ t'.minutes))
       (λ a. same_tests a (rest t.minutes) (rest t'.minutes) (λ e. ap rest ((alike a).minutes e)))

@@ -119,7 +119,8 @@ module _ (sheet b : List ℕ) where
       → let v = due_values (bench_due sheet b m text) in CountHolds (packed_count_lem v) v
   unfolding bench_due
   header-player m text =
-      count-holds sheet (plays (bytes b) (minutes_of b) (misnamed_in text) (unheard_by (minutes_of b) m (heard_in text)))
+      count-holds sheet (plays (bytes b) (minutes_of b) (misnamed_in text) (unheard_by (minutes_of b) m
+      (heard_in text)))
       (due_values (bench_due sheet b m text)) refl (numbers.bench_player sheet b m text)
       (playing_small sheet (as_bytes b) (λ Γ. due_text Γ (minutes_of b) m text)
       (λ a. text_small (read sheet).network (accepted_well_formed sheet a).0 (minutes_of b) m text))

@@ -69,7 +69,8 @@ module _ {Γ Δ : Network} (w : Likewise Γ Δ) where
     for_same : (o : Option ℕ) → due_for Γ σ m o ≡ due_for Δ σ m o
     for_same none = refl
     for_same (some s) = ap Events
-        (sum_below-same (λ u. cond (is_due_lem Γ σ m s u) (2 ^ u) 0) (λ u. cond (is_due_lem Δ σ m s u) (2 ^ u) 0) Γ.events
+        (sum_below-same (λ u. cond (is_due_lem Γ σ m s u) (2 ^ u) 0) (λ u. cond (is_due_lem Δ σ m s u) (2 ^ u) 0)
+        Γ.events
         (λ u _.
         ap (λ (b : Bool). cond b (2 ^ u) 0)
         (ap₂ (λ (b : Bool) (t : ℕ). b && eqb t m) (happens-agree w.agrees s u) (time-agree w.agrees σ s u)))
@@ -77,7 +78,8 @@ module _ {Γ Δ : Network} (w : Likewise Γ Δ) where
 
     by-same : (b : Bool) (said : ℕ → Bool → Bool) → due_by Γ σ m b said ≡ due_by Δ σ m b said
     by-same b said =
-        ap (λ (d : Dispatched). cond b d Misnamed) (for_same (hearer Γ σ m said) ∙ ap (due_for Δ σ m) (hearer-same said))
+        ap (λ (d : Dispatched). cond b d Misnamed) (for_same (hearer Γ σ m said) ∙ ap (due_for Δ σ m)
+        (hearer-same said))
 
     pub due-same : (hs : List Heard) → due Γ σ m hs ≡ due Δ σ m hs
     unfolding due

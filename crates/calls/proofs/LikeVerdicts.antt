@@ -18,7 +18,8 @@ use Rattle.network.specs.Strategy.{time, known_from, known}
 use Rattle.network.specs.declared.Label.{Label}
 use Rattle.network.specs.declared.Constraint.{Constraint}
 use Rattle.network.specs.declared.Network.{Network}
-use Rattle.checker.specs.Verdict.{does_wait, is_placed, is_on_time, does_hold, is_indistinct, is_alike, late_in, first_late_lem}
+use Rattle.checker.specs.Verdict.{does_wait, is_placed, is_on_time, does_hold, is_indistinct, is_alike, late_in}
+use Rattle.checker.specs.Verdict.{first_late_lem}
 use Rattle.checker.specs.Verdict.{broken_in, first_broken_lem}
 use Rattle.checker.specs.Verdict.{unheard_in, unheard_from, first_unheard_lem, verdict_of, verdict}
 use Rattle.checker.specs.declared.Breach.TheVariants.{Late, Rule, Unheard}

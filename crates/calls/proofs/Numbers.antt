@@ -31,14 +31,16 @@ module _ (sheet : List ℕ) where
   net = (read sheet).network
 
   player : (t : List ℕ) (m : ℕ) (hs : List Heard)
-      → Answers sheet (plays (minutes t) t (misnamed_by hs) (unheard_by t m hs)) 0 (due_values (events_due_lem sheet t m hs))
+      → Answers sheet (plays (minutes t) t (misnamed_by hs) (unheard_by t m hs)) 0
+      (due_values (events_due_lem sheet t m hs))
   unfolding events_due_lem
   player t m hs =
       player-answers sheet (as_minutes t) (minutes t) (λ Γ. due Γ t m hs) (misnamed_by hs) (unheard_by t m hs)
       (λ _. minutes_rightly t net) (λ a. list-says net (lettered sheet a) t m hs)
 
   player_on : (t : List ℕ) (m x : ℕ)
-      → Answers sheet (plays (minutes t) t (misnamed_on x) (unheard_on t m x)) 0 (due_values (events_due_on_lem sheet t m x))
+      → Answers sheet (plays (minutes t) t (misnamed_on x) (unheard_on t m x)) 0
+      (due_values (events_due_on_lem sheet t m x))
   unfolding events_due_on_lem
   player_on t m x =
       player-answers sheet (as_minutes t) (minutes t) (λ Γ. due_on Γ t m x) (misnamed_on x) (unheard_on t m x)
@@ -57,7 +59,8 @@ module _ (sheet : List ℕ) where
 pub numbers : Numbers
 numbers = record {
   reader = λ sheet.
-      answers-call summary_values no_counts S.Refused (λ r. refl) sheet (λ _. []) (λ Γ. S.Accepted (counts_of Γ)) [] refl
+      answers-call summary_values no_counts S.Refused (λ r. refl) sheet (λ _. []) (λ Γ. S.Accepted (counts_of Γ)) []
+      refl
       (λ a. tt) (λ Γ. (refl, refl));
   judge = λ sheet t. judge-answers sheet (as_minutes t) (minutes t) (λ _. minutes_rightly t (read sheet).network);
   solver = λ sheet m. solver_writes sheet (in_place_lem m);

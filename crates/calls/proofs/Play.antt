@@ -39,6 +39,7 @@ pub events-due-said : (sheet t : List ℕ) (m : ℕ) (hs : List Heard)
     → events_due_on_lem sheet t m (said_from 0 hs) ≡ events_due_lem sheet t m hs
 unfolding events_due_lem events_due_on_lem
 events-due-said sheet t m hs =
-    playing-alike sheet (as_minutes t) (as_minutes t) (λ _. itself (as_minutes t) _) (λ Γ. due_on Γ t m (said_from 0 hs))
+    playing-alike sheet (as_minutes t) (as_minutes t) (λ _. itself (as_minutes t) _)
+    (λ Γ. due_on Γ t m (said_from 0 hs))
     (λ Γ. due Γ t m hs)
     (λ a _. due-said (read sheet).network t m hs (lettered sheet a))

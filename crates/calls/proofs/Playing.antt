@@ -106,7 +106,8 @@ module _ (sheet t : List ℕ) (Γ : Network) (reads : Reads sheet Γ) where
           indistinct_history Γ t m good wf k h (indistinct_comm Γ t m good wf h k i) letters hs,
         ),
         events-are m (history_of Γ t m s) s h (own m s)
-            ∙ (ap D.Events (indistinct_due Γ t m good wf h k i) ∙ sym (events-are m (history_of Γ t m r) r k (own m r))),
+            ∙ (ap D.Events (indistinct_due Γ t m good wf h k i) ∙ sym (events-are m (history_of Γ t m r) r k
+            (own m r))),
       );
     }
 

@@ -43,7 +43,8 @@ module _ (sheet : List ℕ) (a : (read sheet).outcome ≡ Accepted) where
   formed : WellFormed net × Named sheet net
   formed = accepted_well_formed sheet a
 
-  listed-on : (σ page : List ℕ) → Least net σ → most_listing ≤ length page → listing_on page sheet σ ≡ listing sheet net σ
+  listed-on : (σ page : List ℕ) → Least net σ → most_listing ≤ length page → listing_on page sheet σ ≡ listing sheet
+      net σ
   listed-on σ page least h =
       let good = least.solves in
       let short = listing-short sheet net σ formed.0 formed.1 (good-times net σ formed.0 good) in
@@ -65,7 +66,8 @@ module _ (sheet : List ℕ) (a : (read sheet).outcome ≡ Accepted) where
       → table_on_lem m page sheet ≡ refused_text (refused_as 13)
   none-on m page i h =
       refused-on (solving sheet m) _ (listing_on page sheet)
-      (ap (λ (l : Left Written). l.answer) (refuses_none sheet (in_place_lem m) a (omega (arith, cells-few formed.0)) i))
+      (ap (λ (l : Left Written). l.answer) (refuses_none sheet (in_place_lem m) a (omega (arith, cells-few formed.0))
+      i))
 
   many-on : (page : List ℕ) → L.rules < length (remaining_of net) → form_on page sheet ≡ refused_text (refused_as 17)
   many-on page h =

@@ -43,7 +43,8 @@ use Rattle.calls.specs.Lent.{Handed, Lent, as_minutes, as_bytes, in_place_lem}
 use Rattle.calls.specs.Calls.{counts_of, summary, judging_tests, judging, enough, writing}
 use Rattle.calls.specs.Calls.{refusing, rests, solving_tests, solving_into}
 use Rattle.calls.specs.Calls.{listing_tests, listing_of, fit, house_tests, housed}
-use Rattle.calls.specs.Play.{named, ever_heard, events_of, is_pass, playing_tests, playing, events_due_lem, events_due_on_lem}
+use Rattle.calls.specs.Play.{named, ever_heard, events_of, is_pass, playing_tests, playing, events_due_lem}
+use Rattle.calls.specs.Play.{events_due_on_lem}
 use Rattle.calls.specs.Bench.{bench_due}
 use Rattle.calls.specs.Recover.{recovery_tests, recovered_in, recovering_tests, recovering_into}
 use Rattle.calls.specs.Reacting.{SameAnswers}
@@ -105,7 +106,8 @@ module _ (sheet other : List ℕ) (a : (read sheet).outcome ≡ Accepted) (b : (
   tables m =
       calls_alike (refusing m) sheet other (solving_tests m) (solving_tests m) (λ Γ. writing m (found Γ))
       (λ Γ. writing m (found Γ)) a b
-      (ap₂ (λ (n : ℕ) (r : Bool). first_failing_lem (enough m n ∷ (r, without_line_lem C.Inconsistent) ∷ [])) size (rests-same m))
+      (ap₂ (λ (n : ℕ) (r : Bool). first_failing_lem (enough m n ∷ (r, without_line_lem C.Inconsistent) ∷ [])) size
+      (rests-same m))
       (λ h. ap (writing m) (least_unique
       ((same-least (same-events w.agrees) tables-same (found Γ)).0 (rested sheet m a h.1.0))
       (rested other m b (sym (rests-same m) ∙ h.1.0))))
@@ -113,7 +115,8 @@ module _ (sheet other : List ℕ) (a : (read sheet).outcome ≡ Accepted) (b : (
   -- playing, by what the player says of a network
   plays : (t : Handed) (said : Network → Dispatched) → said Γ ≡ said Δ → playing sheet t said ≡ playing other t said
   plays t said e =
-      calls_alike D.Refused sheet other (playing_tests t said) (playing_tests t said) (λ Γ. D.Events (events_of (said Γ)))
+      calls_alike D.Refused sheet other (playing_tests t said) (playing_tests t said)
+      (λ Γ. D.Events (events_of (said Γ)))
       (λ Γ. D.Events (events_of (said Γ))) a b
       (ap₂ (λ (n : ℕ) (v : Verdict). first n v (said Γ)) size (verdict-same w t.minutes)
       ∙ ap (first (cells Δ) (verdict Δ t.minutes)) e)

@@ -150,7 +150,8 @@ module _ (sheet : List ℕ) where
       (λ a h. omega (arith, form-short sheet a (fit-few (remaining_of net) h.0)))
 
   pub playing_small : (t : Handed) (said : Network → Dispatched)
-      → ((read sheet).outcome ≡ Accepted → events_of (said net) < 65536) → (due_values (playing sheet t said)).value < 65536
+      → ((read sheet).outcome ≡ Accepted → events_of (said net) < 65536) → (due_values (playing sheet t said)).value <
+      65536
   playing_small t said few =
       value_small due_values D.Refused (λ r. refl) sheet
       (playing_tests t said)

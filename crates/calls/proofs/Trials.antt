@@ -94,7 +94,8 @@ all_agree [] = true
 all_agree (t ∷ ts) = same (table_text (lines t.sheet)) (lines t.prints) && all_agree ts
 
 pub trials-agree : all_agree trials ≡ true
-unfolding is_number in_range satisfies happens covers reaction_of_lem section_tests event_tests signal_tests ends_tests rule_tests
+unfolding is_number in_range satisfies happens covers reaction_of_lem section_tests event_tests signal_tests ends_tests
+    rule_tests
     progress propagate masked solve listing
 trials-agree = refl
 
@@ -141,6 +142,7 @@ all_answered (q ∷ qs) =
     (eqb v.number q.number && (eqb v.line 0 && eqb v.value q.events)) && all_answered qs
 
 pub questions_answered : all_answered questions ≡ true
-unfolding is_number in_range satisfies happens covers reaction_of_lem section_tests event_tests signal_tests ends_tests rule_tests
+unfolding is_number in_range satisfies happens covers reaction_of_lem section_tests event_tests signal_tests ends_tests
+    rule_tests
     progress verdict due events_due_lem
 questions_answered = refl

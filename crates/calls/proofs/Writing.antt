@@ -60,7 +60,8 @@ module _ (sheet : List ℕ) (t : Handed) (right : Network → Type 0) (m : List 
       → WroteText (text net) m (listing_of sheet t m)
   listing-wrote a rightly h room =
       wrote (text net) m
-      (call_works (refusing (in_place_lem m)) sheet (listing_tests sheet t (in_place_lem m)) (λ Γ. writing (in_place_lem m) (text Γ))
+      (call_works (refusing (in_place_lem m)) sheet (listing_tests sheet t (in_place_lem m))
+      (λ Γ. writing (in_place_lem m) (text Γ))
       (read sheet) refl a
       (rightly.yes.1 h, (le-leb (length (text net)) (length m) room, tt)))
 
@@ -70,7 +71,8 @@ module _ (sheet m : List ℕ) where
 
   pub house_writes : Writes sheet (houses sheet m) written_values 0 (housed sheet m) m
   house_writes =
-      writes_call written_values 0 (refusing (in_place_lem m)) (λ r. refl) m (λ r. refl) sheet (house_tests sheet (in_place_lem m))
+      writes_call written_values 0 (refusing (in_place_lem m)) (λ r. refl) m (λ r. refl) sheet
+      (house_tests sheet (in_place_lem m))
       form_work
       (houses sheet m) refl
       (λ a. (
@@ -92,6 +94,7 @@ module _ (sheet m : List ℕ) where
     pub house-many : L.rules < length (remaining_of (read sheet).network)
         → housed sheet m ≡ refusing (in_place_lem m) (without_line_lem C.TooManyRows)
     house-many many =
-        sym (call_fails (refusing (in_place_lem m)) sheet (house_tests sheet (in_place_lem m)) form_work (read sheet) refl a
+        sym (call_fails (refusing (in_place_lem m)) sheet (house_tests sheet (in_place_lem m)) form_work
+        (read sheet) refl a
         (without_line_lem C.TooManyRows)
         (inl (many_do_not (remaining_of (read sheet).network) many, refl)))

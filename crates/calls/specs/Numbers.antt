@@ -114,13 +114,16 @@ pub record Numbers : Type 0 where
   pub recoverer : (sheet printed m : List ℕ)
       → Writes sheet (recovers sheet printed (length m)) written_values 0 (recovering sheet printed m) m
   pub player : (sheet t : List ℕ) (m : ℕ) (hs : List Heard)
-      → Answers sheet (plays (minutes t) t (misnamed_by hs) (unheard_by t m hs)) 0 (due_values (events_due_lem sheet t m hs))
+      → Answers sheet (plays (minutes t) t (misnamed_by hs) (unheard_by t m hs)) 0
+      (due_values (events_due_lem sheet t m hs))
   pub player_on : (sheet t : List ℕ) (m x : ℕ)
-      → Answers sheet (plays (minutes t) t (misnamed_on x) (unheard_on t m x)) 0 (due_values (events_due_on_lem sheet t m x))
+      → Answers sheet (plays (minutes t) t (misnamed_on x) (unheard_on t m x)) 0
+      (due_values (events_due_on_lem sheet t m x))
   -- of the bench's calls; its house form is that of the public call
   pub bench_judge : (sheet b : List ℕ)
       → Answers sheet (judges (bytes b)) no_finding (judgement_values (bench_judgement sheet b))
-  pub bench_solver : (sheet b : List ℕ) → Writes sheet (solves (length b / 2)) written_values 0 (bench_solving sheet b) b
+  pub bench_solver : (sheet b : List ℕ) → Writes sheet (solves (length b / 2)) written_values 0 (bench_solving sheet b)
+      b
   pub bench_lister : (sheet b m : List ℕ)
       → Writes sheet (lists (bytes b) sheet (minutes_of b) m) written_values 0 (bench_listed sheet b m) m
   pub bench_recoverer : (sheet printed b : List ℕ)

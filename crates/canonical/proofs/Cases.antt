@@ -83,7 +83,8 @@ module _ {sheet : List ℕ} {Γ : Network} (t : Faithful sheet Γ) where
         let w = ((each-labelled Γ).each j b).event in
         (labelled-once Γ).once i j a b
         (event-tells t (get_or us i 0) (get_or us j 0) w
-        (get_d_tabulate (name_of_lem Γ sheet) Γ.events (get_or us i 0) [] v ∙ sym (case_event i a) ∙ e ∙ case_event j b));
+        (get_d_tabulate (name_of_lem Γ sheet) Γ.events (get_or us i 0) [] v ∙ sym (case_event i a) ∙ e
+        ∙ case_event j b));
   }
 
   -- no 20

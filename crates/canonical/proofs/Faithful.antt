@@ -26,7 +26,8 @@ use Rattle.names.proofs.Tokens.{name-empty}
 use Rattle.sheet.specs.Reading.{read}
 use Rattle.sheet.specs.declared.Outcome.TheVariants.{Accepted}
 use Rattle.sheet.proofs.WellFormed.{accepted_well_formed}
-use Rattle.layout.specs.Contents.{Signal, Contents, no_signal, no_rule, no_case, signal_letters, case_events, listed_cases}
+use Rattle.layout.specs.Contents.{Signal, Contents, no_signal, no_rule, no_case, signal_letters, case_events}
+use Rattle.layout.specs.Contents.{listed_cases}
 use Rattle.layout.specs.Keeps.{KeepsLabel, Keeps}
 use Rattle.layout.specs.Contains.{Contains}
 use Rattle.layout.proofs.Finds.{letter_is, mask_is}
@@ -69,7 +70,8 @@ module _ {sheet : List ℕ} {Γ : Network} {c : Contents} (h : Contains sheet Γ
   signals-held = tabulate-is (signal_at sheet Γ) no_signal Γ.signals c.signals h.signals signal-held
 
 -- among names that stand once, a name tells its place; behind the last there is none
-pub name-tells : {ns : List (List ℕ)} → Each (λ n. is_name_lem n ≡ true) ns [] → Distinct ns [] → (u v : ℕ) → v < length ns
+pub name-tells : {ns : List (List ℕ)} → Each (λ n. is_name_lem n ≡ true) ns [] → Distinct ns [] → (u v : ℕ)
+    → v < length ns
     → get_or ns u [] ≡ get_or ns v [] → u ≡ v
 name-tells {ns} names once u v h e =
     elim (lt_or_ge u (length ns)) [

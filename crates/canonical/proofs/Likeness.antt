@@ -22,7 +22,8 @@ use Rattle.layout.specs.Contents.{Signal, Case}
 use Rattle.layout.specs.Layout.{text_of}
 use Rattle.tighten.specs.Tightest.{remaining_of}
 use Rattle.canonical.specs.Listed.{slow_by, slow_at, slow_of, labelled_at, labelled_of, section_of, before_labels}
-use Rattle.canonical.specs.House.{literal_by, literal_at, literals_of, signal_at, as_rule, as_case, house_of, house_text}
+use Rattle.canonical.specs.House.{literal_by, literal_at, literals_of, signal_at, as_rule, as_case, house_of}
+use Rattle.canonical.specs.House.{house_text}
 use Rattle.canonical.specs.Same.{Same}
 use Rattle.canonical.proofs.Labelled.{IsLabelled, each-labelled}
 use Rattle.canonical.proofs.Faithful.{Faithful}

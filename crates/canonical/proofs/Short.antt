@@ -25,7 +25,8 @@ use Rattle.names.proofs.Tokens.{name-short}
 use Rattle.layout.specs.Contents.{Signal, Rule, Reaction, Case, Contents, no_signal, no_rule, no_reaction, no_case}
 use Rattle.layout.specs.Contents.{signal_letters, listed_cases}
 use Rattle.layout.specs.Keeps.{KeepsSignal, KeepsRule, KeepsReaction, KeepsCase, Keeps}
-use Rattle.layout.specs.Layout.{signed_text, sign_text, reaction_line, reactions_text, literals_text, label_text, kind_text}
+use Rattle.layout.specs.Layout.{signed_text, sign_text, reaction_line, reactions_text, literals_text, label_text}
+use Rattle.layout.specs.Layout.{kind_text}
 use Rattle.layout.specs.Layout.{section, signal_line, rule_line, case_line, cases_text, text_of}
 use Rattle.canonical.specs.Most.{most_count, most_events, most_signals, most_label, most_rule, most_rules}
 use Rattle.canonical.specs.Most.{most_reaction, most_reactions, most_case, most_cases, most_form}

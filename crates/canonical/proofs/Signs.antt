@@ -76,7 +76,11 @@ module _ (Γ : Network) (ℓ : Label) (apart : Apart ℓ) (k : ℕ) (bs : List �
   weights-below : (n : ℕ) → n ≤ k → weights k bs v (gather n (literal_at Γ ℓ)) ≡ sum_below n (weight_in (sum_of v ℓ))
   weights-below zero h = refl
   weights-below (suc n) h =
-      rw (gather-more (literal_at Γ ℓ) n, weights-append k bs v (gather n (literal_at Γ ℓ)) (ahead (literal_at Γ ℓ n) []))
+      rw (
+        gather-more (literal_at Γ ℓ) n,
+        weights-append k bs v (gather n (literal_at Γ ℓ))
+            (ahead (literal_at Γ ℓ n) []),
+      )
       (omega (arith, weights-below n (omega arith), weight-at n h))
 
   weights-literals : sum_of v ℓ < 2 ^ k → weights k bs v (literals_of Γ ℓ) ≡ sum_of v ℓ

@@ -74,7 +74,8 @@ module _ {sheet : List ℕ} {Γ : Network} (t : Faithful sheet Γ) where
     includes-at p q u h m l k e f =
         let o : observation Γ q < Γ.events = t.formed.observed q l in
         let event : observation Γ q ≡ u =
-        event-tells t (observation Γ q) u k (get_d_tabulate (name_of_lem Γ sheet) Γ.events (observation Γ q) [] o ∙ f) in
+        event-tells t (observation Γ q) u k (get_d_tabulate (name_of_lem Γ sheet) Γ.events (observation Γ q) [] o
+        ∙ f) in
         let same : observation Γ p ≡ u = ap (observation Γ) (letter-tells (letters-held t) p q h l e) ∙ event in
         rw (← same) (literals_included ℓ (event_label Γ (observation Γ p)) apart (complete.includes p h m))
 
@@ -91,7 +92,8 @@ module _ {sheet : List ℕ} {Γ : Network} (t : Faithful sheet Γ) where
           letter-by (letter Γ p) (truth ℓ.positive p) (truth ℓ.negative p) l is,
         )
 
-    signal_in : (x : Signal) → In x (signals_of sheet Γ) no_signal → (q : ℕ) × (q < Γ.signals) × (signal_at sheet Γ q ≡ x)
+    signal_in : (x : Signal) → In x (signals_of sheet Γ) no_signal → (q : ℕ) × (q < Γ.signals) ×
+        (signal_at sheet Γ q ≡ x)
     signal_in x i =
         let h : i.place < Γ.signals =
         omega (arith, i.place_lt, length-tabulate (signal_at sheet Γ) Γ.signals) in

@@ -8,12 +8,14 @@ use mathlib.Core.List.{List}
 use Prim.Native.Nat.{ℕ, ◌<◌}
 use lib.ListN.{length}
 use Rattle.prelude.specs.Search.{or_else}
-use Rattle.prelude.proofs.Search.{or_else_none, or_else_some, some_of_first_below, none_of_first_below, first_below-none}
+use Rattle.prelude.proofs.Search.{or_else_none, or_else_some, some_of_first_below, none_of_first_below}
+use Rattle.prelude.proofs.Search.{first_below-none}
 use Rattle.prelude.proofs.Tests.{zero-is-one}
 use Rattle.network.specs.Build.{constraint, scenarios, cells}
 use Rattle.network.specs.Solution.{OnTime, Holds, Alike, Solution}
 use Rattle.network.specs.declared.Network.{Network}
-use Rattle.checker.specs.Verdict.{is_on_time, does_hold, is_alike, first_late_lem, first_broken_lem, unheard_from, first_unheard_lem}
+use Rattle.checker.specs.Verdict.{is_on_time, does_hold, is_alike, first_late_lem, first_broken_lem, unheard_from}
+use Rattle.checker.specs.Verdict.{first_unheard_lem}
 use Rattle.checker.specs.Verdict.{first_breach, verdict_of, verdict}
 use Rattle.checker.specs.First.{First, FirstLate, FirstRule, FirstUnheard}
 use Rattle.checker.specs.declared.Breach.{Breach}

@@ -1,6 +1,7 @@
 -- What the code's own parts are told by plain numbers: n events to a scenario, σ the strategy, and no network, except
 -- for what a list of times from which on propositions are known is a list of.
-use Rattle.std.specs.Prelude.{◌≡◌, Bool, ◌&&◌, ◌||◌, not, cond, List, ℕ, ◌+◌, ◌*◌, ◌≤◌, ◌<◌, eqb, leb, ltb, length, get_or}
+use Rattle.std.specs.Prelude.{◌≡◌, Bool, ◌&&◌, ◌||◌, not, cond, List, ℕ, ◌+◌, ◌*◌, ◌≤◌, ◌<◌, eqb, leb, ltb, length}
+use Rattle.std.specs.Prelude.{get_or}
 use Rattle.prelude.specs.Bounded.{all_below, min_where}
 use Rattle.network.specs.Limits as L
 use Rattle.network.specs.Build.{no_label}

@@ -10,7 +10,8 @@ ghost use Rattle.network.specs.Constraint as C;
 ghost use Rattle.network.specs.Strategy.{reaction_of_lem};
 ghost use Rattle.network.specs.WellFormed.{FewLetters, WellFormed};
 ghost use Rattle.network.specs.declared.Network.{Network};
-ghost use Rattle.checker.specs.Verdict.{does_hold, first_late_lem, first_broken_lem, first_unheard_lem, verdict_of, verdict};
+ghost use Rattle.checker.specs.Verdict.{does_hold, first_late_lem, first_broken_lem, first_unheard_lem, verdict_of};
+ghost use Rattle.checker.specs.Verdict.{verdict};
 ghost use Rattle.checker.specs.Plain as P;
 
 use network::{Constraint, Kind, Label, Network, times};

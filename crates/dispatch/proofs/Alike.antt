@@ -140,7 +140,8 @@ module _ (Γ : Network) (σ : List ℕ) (m : ℕ) where
 
       pub indistinct_due : due_in_lem Γ σ m s ≡ due_in_lem Γ σ m r
       indistinct_due =
-          sum_below-same (λ u. cond (is_due_lem Γ σ m s u) (2 ^ u) 0) (λ u. cond (is_due_lem Γ σ m r u) (2 ^ u) 0) Γ.events
+          sum_below-same (λ u. cond (is_due_lem Γ σ m s u) (2 ^ u) 0) (λ u. cond (is_due_lem Γ σ m r u) (2 ^ u) 0)
+          Γ.events
           (λ u h. rw (both_ways (λ x. is_due_lem Γ σ m x u) (due_carried u h) hs hr i))
 
     -- "Two cases that have heard the same get the same events"

@@ -61,7 +61,8 @@ powers = refl
 
 pub truth-power : (j k : ℕ) → j < 64 → k < 64 → truth (2 ^ j) k ≡ eqb j k
 truth-power j k h l =
-    let tested = true_of_all_below (one_bit j) 64 (true_of_all_below (λ j. all_below 64 (one_bit j)) 64 powers j h) k l in
+    let tested = true_of_all_below (one_bit j) 64 (true_of_all_below (λ j. all_below 64 (one_bit j)) 64 powers j h) k
+    l in
     ap (λ (x : ℕ). eqb x 1) (eqb-true (2 ^ j / 2 ^ k % 2) (digit (eqb j k)) tested) ∙ digit-is (eqb j k)
 
 -- a power that is in or not

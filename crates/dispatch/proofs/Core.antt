@@ -106,7 +106,8 @@ module _ {Γ : Network} {σ : List ℕ} {m x s : ℕ} (here : Hearing Γ σ m x 
   pub hearing_on : s < scenarios Γ → has_heard_lem Γ σ m (said_on x) s ≡ false → Hearing Γ σ m x (s + 1)
   hearing_on h e = record { named = here.named; search = finds_on (has_heard_lem Γ σ m (said_on x)) here.search h e }
 
-  pub heard-on : s < scenarios Γ → has_heard_lem Γ σ m (said_on x) s ≡ true → Events (due_in_lem Γ σ m s) ≡ due_on Γ σ m x
+  pub heard-on : s < scenarios Γ → has_heard_lem Γ σ m (said_on x) s ≡ true → Events (due_in_lem Γ σ m s)
+      ≡ due_on Γ σ m x
   unfolding due_on
   heard-on h e = rw (here.named, finds_at (has_heard_lem Γ σ m (said_on x)) here.search h e)
 

@@ -77,7 +77,8 @@ module _ (Γ : Network) (σ : List ℕ) (m : ℕ) (lettered : Lettered Γ) where
       λ n.
           elim (either (is_heard_lem text)) [
             | inl e ↦
-                due-heard e ∙ (due-misnamed Γ σ m lettered (heard_in text)).1 (λ w. n (record { formed = e; named = w }))
+                due-heard e ∙ (due-misnamed Γ σ m lettered (heard_in text)).1
+                (λ w. n (record { formed = e; named = w }))
             | inr e ↦ due-other e
           ],
     )

@@ -96,9 +96,15 @@ module _ (Γ : Network) (lettered : Lettered Γ) where
         (all_defined-every Γ.signals Γ.letters (letters_of rs) ∙ known) fitting.1
 
   -- a mask is well named where it is that of a list that is
-  pub well_named_on_iff : (x : ℕ) → (well_named_on Γ x ≡ true) ↔ ((hs : List Heard) × (said_from 0 hs ≡ x) × WellNamed Γ hs)
+  pub well_named_on_iff : (x : ℕ) → (well_named_on Γ x ≡ true) ↔ ((hs : List Heard) × (said_from 0 hs ≡ x)
+      × WellNamed Γ hs)
   well_named_on_iff x = (
-    λ e. (records_on Γ x, eqb-true (said_from 0 (records_on Γ x)) x e, (well_named Γ (records_on Γ x)).0 (records_well x)),
+    λ e. (
+      records_on Γ x,
+      eqb-true (said_from 0 (records_on Γ x)) x e,
+      (well_named Γ (records_on Γ x)).0
+          (records_well x),
+    ),
     λ w. rw (← w.1) (eq-eqb _ (said_from 0 w.0) (again w.0 ((well_named Γ w.0).1 w.2))),
   )
 

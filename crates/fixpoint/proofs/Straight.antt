@@ -34,7 +34,8 @@ module _ (n : ℕ) (step : List ℕ → List ℕ) (N : Nonexpansive n step) (t d
     step_at-most i h = below_by n (step (on i)) (on (suc i)) (N.sized (on i) (on-sized i)) (λ c b.
         let b' : c < length t = omega arith in
         let ahead : ℕ → ℕ = λ k. get_or d k 0 - get_or d c 0 in
-        let o = over_moved (i * get_or d c 0) t i j (λ k. get_or d k 0) ahead (λ k. lead i j (get_or d k 0) (get_or d c 0) h) in
+        let o = over_moved (i * get_or d c 0) t i j (λ k. get_or d k 0) ahead (λ k. lead i j (get_or d k 0)
+        (get_or d c 0) h) in
         omega (
           arith,
           (N.near (i * get_or d c 0) (moved t j ahead) (on i) (length_moved t j ahead ∙ l) (on-sized i) o).at c,

@@ -12,7 +12,8 @@ use Rattle.prelude.specs.Bytes.{every}
 use Rattle.prelude.proofs.Bytes.{same_true}
 use Rattle.prelude.proofs.Tests.{either, clash, and-true, and_both}
 use Rattle.text.specs.Lines.{plain}
-use Rattle.names.specs.Names.{is_letter_lem, are_literals_lem, is_dash_lem, is_label_lem, Literal, literals, label_of, letters_of}
+use Rattle.names.specs.Names.{is_letter_lem, are_literals_lem, is_dash_lem, is_label_lem, Literal, literals, label_of}
+use Rattle.names.specs.Names.{letters_of}
 use Rattle.layout.specs.Layout.{sign_text, literals_text, label_text}
 use Rattle.names.proofs.Tokens.{letter-bounds}
 use Rattle.layout.proofs.Plain.{plain-letter}
@@ -57,7 +58,8 @@ are_literals-literals_text (l ∷ ls) e =
     are_literals_sign l.letter l.value (literals_text ls) (first-is l ls e)
     (are_literals-literals_text ls (others-are l ls e))
 
-plain-literals_text : (ls : List Literal) → every is_letter_lem (letters_of ls) ≡ true → every plain (literals_text ls) ≡ true
+plain-literals_text : (ls : List Literal) → every is_letter_lem (letters_of ls) ≡ true → every plain (literals_text ls)
+    ≡ true
 plain-literals_text [] e = refl
 plain-literals_text (l ∷ ls) e =
     plain_sign l.letter l.value (literals_text ls) (first-is l ls e) (plain-literals_text ls (others-are l ls e))
@@ -102,19 +104,23 @@ label_of_dash f e = rw (e, label_of)
 label_of_letters : (f : List ℕ) → is_dash_lem f ≡ false → label_of f ≡ literals false f
 label_of_letters f e = rw (e, label_of)
 
-pub label_of_label_text : (ls : List Literal) → every is_letter_lem (letters_of ls) ≡ true → label_of (label_text ls) ≡ ls
+pub label_of_label_text : (ls : List Literal) → every is_letter_lem (letters_of ls) ≡ true → label_of (label_text ls)
+    ≡ ls
 label_of_label_text [] e = refl
 label_of_label_text (l ∷ ls) e =
-    label_of_letters (literals_text (l ∷ ls)) (not_dash (literals_text (l ∷ ls)) (are_literals-literals_text (l ∷ ls) e))
+    label_of_letters (literals_text (l ∷ ls)) (not_dash (literals_text (l ∷ ls)) (are_literals-literals_text
+    (l ∷ ls) e))
     ∙ literals-literals_text (l ∷ ls) e
 
-pub is_label-label_text : (ls : List Literal) → every is_letter_lem (letters_of ls) ≡ true → is_label_lem (label_text ls) ≡ true
+pub is_label-label_text : (ls : List Literal) → every is_letter_lem (letters_of ls) ≡ true → is_label_lem
+    (label_text ls) ≡ true
 is_label-label_text [] e = refl
 is_label-label_text (l ∷ ls) e =
     let a = are_literals-literals_text (l ∷ ls) e in
     rw (not_dash (literals_text (l ∷ ls)) a, le-leb 1 (length (literals_text (l ∷ ls))) (some-text l ls), a)
 
-pub plain-label_text : (ls : List Literal) → every is_letter_lem (letters_of ls) ≡ true → every plain (label_text ls) ≡ true
+pub plain-label_text : (ls : List Literal) → every is_letter_lem (letters_of ls) ≡ true → every plain (label_text ls)
+    ≡ true
 plain-label_text [] e = refl
 plain-label_text (l ∷ ls) e = plain-literals_text (l ∷ ls) e
 

@@ -78,7 +78,8 @@ module _ {sheet : List ℕ} {Γ : Network} {h : ℕ} {ns : List (List ℕ)} {xs 
     labelled : (i : ℕ) → i < length (ks ++ k ∷ []) → (v : ℕ) → get_or ns v [] ≡ (get_or (ks ++ k ∷ []) i no_case).event
         → event_label grown v ≡ mask (signal_letters xs) (get_or (ks ++ k ∷ []) i no_case)
     labelled =
-        by_place no_case ks k (λ i j. (v : ℕ) → get_or ns v [] ≡ j.event → event_label grown v ≡ mask (signal_letters xs) j)
+        by_place no_case ks k (λ i j. (v : ℕ) → get_or ns v [] ≡ j.event → event_label grown v ≡ mask
+        (signal_letters xs) j)
         (λ i m v e.
         let listed : In (get_or ns v []) (case_events ks) [] = record {
           place = i;

@@ -19,7 +19,8 @@ use Rattle.prelude.proofs.Tests.{and_both}
 use Rattle.text.specs.Lines.{field, plain}
 use Rattle.text.specs.Number.{magnitude}
 use Rattle.text.specs.Decimal.{decimal}
-use Rattle.text.proofs.Numbers.{is_number_decimal, magnitude-decimal, in_range-decimal, plain-decimal, decimal-magnitude}
+use Rattle.text.proofs.Numbers.{is_number_decimal, magnitude-decimal, in_range-decimal, plain-decimal}
+use Rattle.text.proofs.Numbers.{decimal-magnitude}
 use Rattle.network.specs.Limits as L
 use Rattle.network.specs.Build.{reaction_stated}
 use Rattle.network.specs.declared.Network.{Network}

@@ -141,7 +141,8 @@ module _ (sheet : List ℕ) (h : ℕ) (ns : List (List ℕ)) (xs : List Signal) 
         (events-read behind-events
         (record { each = k.names; once = k.names_once }) k.some_event k.events
         (horizon-reads (events_text ns ++ behind-events) k.horizon
-        (apart sheet (horizon_text h) (events_text ns) (signals_text xs) (rules_text rs) (reactions_text o) (cases_text q)
+        (apart sheet (horizon_text h) (events_text ns) (signals_text xs) (rules_text rs) (reactions_text o)
+        (cases_text q)
         t)))))))
 
 -- the reading comes to its end with a network that holds the contents

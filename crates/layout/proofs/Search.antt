@@ -19,5 +19,6 @@ module _ (t : ℕ → Bool) (n : ℕ) where
   finds k h e =
       elim (some_or_none (first_below n (λ i. when (t i) i))) [
         | inl p ↦ p
-        | inr p ↦ some-not-none k (sym (ap (λ (b : Bool). when b k) e) ∙ none_of_first_below (λ i. when (t i) i) n p k h)
+        | inr p ↦ some-not-none k (sym (ap (λ (b : Bool). when b k) e) ∙ none_of_first_below (λ i. when (t i) i) n p k
+            h)
       ]

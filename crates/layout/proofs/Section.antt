@@ -25,7 +25,8 @@ use Rattle.sheet.proofs.ReadLine.{went}
 use Rattle.layout.specs.Layout.{lines, section}
 use Rattle.prelude.proofs.Lists.{all_of}
 use Rattle.text.proofs.Written.{line_of, is_read, line_read}
-use Rattle.text.proofs.Numbers.{is_number_decimal, magnitude-decimal, in_range-decimal, plain-decimal, decimal-magnitude}
+use Rattle.text.proofs.Numbers.{is_number_decimal, magnitude-decimal, in_range-decimal, plain-decimal}
+use Rattle.text.proofs.Numbers.{decimal-magnitude}
 use Rattle.layout.proofs.Entries.{Understood, entries-read, Reads, entries-reads, read_line-passes, joins, parts}
 
 -- a count, behind its word

@@ -64,7 +64,8 @@ empty_stands sheet h = record {
 
 module _ {sheet : List ℕ} {Γ : Network} {h : ℕ} {ns : List (List ℕ)} where
   pub event-added : Stands sheet Γ (contents h ns [] []) → (n : List ℕ) (at : ℕ) → NewName ns n → length ns < L.events
-      → take (length n) (drop at sheet) ≡ n → Stands sheet (with_event Γ at (length n)) (contents h (ns ++ n ∷ []) [] [])
+      → take (length n) (drop at sheet) ≡ n → Stands sheet (with_event Γ at (length n))
+      (contents h (ns ++ n ∷ []) [] [])
   event-added c n at m few part = record {
     holds = event-contains c.arrays c.holds n at few part;
     arrays = arrays-event c.arrays at (length n);

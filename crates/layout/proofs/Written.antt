@@ -44,7 +44,8 @@ module _ (sheet : List ℕ) where
 
   abbrev EventsRead : ℕ → ℕ → Network → ℕ → Type 0
   EventsRead h at Γ end =
-      SectionRead sheet (λ Γ ns. Stands sheet Γ (contents h ns [] [])) (heading_of_lem 0 Events) (λ n. line n []) at Γ end
+      SectionRead sheet (λ Γ ns. Stands sheet Γ (contents h ns [] [])) (heading_of_lem 0 Events) (λ n. line n []) at Γ
+      end
 
   abbrev SignalsRead : ℕ → List (List ℕ) → ℕ → Network → ℕ → Type 0
   SignalsRead h ns at Γ end =
@@ -56,7 +57,8 @@ module _ (sheet : List ℕ) where
 
   horizon-read : (Γ : Network) (at k : ℕ) → read_horizon_lem sheet ≡ Go Γ at k → HorizonRead Γ at
   horizon-read Γ at k e =
-      let c = count-line-read sheet horizon_heading 0 1 (λ fs. Go (empty (second_number fs)) (after_line sheet 0) 2) Γ at
+      let c = count-line-read sheet horizon_heading 0 1 (λ fs. Go (empty (second_number fs)) (after_line sheet 0) 2) Γ
+      at
       k e in
       let h = second_number c.fs in
       let then = c.then in
@@ -96,7 +98,8 @@ module _ (sheet : List ℕ) where
 
     from-signals : (h : HorizonRead Γ₁ a) (es : EventsRead h.horizon a Γ₂ b)
         → SignalsRead h.horizon es.items b Γ₃ c
-        → (l m n o : ℕ) → read_section_lem sheet Rules Γ₃ c l ≡ Go Γ₄ d m → read_optional_lem sheet Reactions Γ₄ d m ≡ Go Γ₅ i n
+        → (l m n o : ℕ) → read_section_lem sheet Rules Γ₃ c l ≡ Go Γ₄ d m → read_optional_lem sheet Reactions Γ₄ d m
+        ≡ Go Γ₅ i n
         → read_optional_lem sheet Cases Γ₅ i n ≡ Go Γ₆ j o → Layout sheet
     from-signals h es ss l m n o t u v =
         from-rules h es ss
@@ -105,14 +108,16 @@ module _ (sheet : List ℕ) where
 
     from-events : (h : HorizonRead Γ₁ a) → EventsRead h.horizon a Γ₂ b → (k l m n o : ℕ)
         → read_section_lem sheet Signals Γ₂ b k ≡ Go Γ₃ c l → read_section_lem sheet Rules Γ₃ c l ≡ Go Γ₄ d m
-        → read_optional_lem sheet Reactions Γ₄ d m ≡ Go Γ₅ i n → read_optional_lem sheet Cases Γ₅ i n ≡ Go Γ₆ j o → Layout sheet
+        → read_optional_lem sheet Reactions Γ₄ d m ≡ Go Γ₅ i n → read_optional_lem sheet Cases Γ₅ i n ≡ Go Γ₆ j o
+        → Layout sheet
     from-events h es k l m n o r t u v =
         from-signals h es
         (section-read (signals-understood sheet h.horizon es.items) Γ₂ b k (λ _. es.held) Γ₃ c l r) l m n o t u v
 
     from-horizon : HorizonRead Γ₁ a → (g k l m n o : ℕ) → read_section_lem sheet Events Γ₁ a g ≡ Go Γ₂ b k
         → read_section_lem sheet Signals Γ₂ b k ≡ Go Γ₃ c l → read_section_lem sheet Rules Γ₃ c l ≡ Go Γ₄ d m
-        → read_optional_lem sheet Reactions Γ₄ d m ≡ Go Γ₅ i n → read_optional_lem sheet Cases Γ₅ i n ≡ Go Γ₆ j o → Layout sheet
+        → read_optional_lem sheet Reactions Γ₄ d m ≡ Go Γ₅ i n → read_optional_lem sheet Cases Γ₅ i n ≡ Go Γ₆ j o
+        → Layout sheet
     from-horizon h g k l m n o q r t u v =
         from-events h (section-read (events-understood sheet h.horizon) Γ₁ a g (λ _. h.held) Γ₂ b k q)
         k l m n o r t u v

@@ -38,7 +38,8 @@ module _ {frame : Frame} {counts lists : List ℕ} where
   -- all of a rise is between none and the longest horizon
   pub moved-whole : {Γ : Network} → Compiled Γ frame counts lists → (t d : List ℕ) (j : ℕ)
       → FrameTimes frame d
-      → moved (held Γ t) j (λ i. part_of 0 10080 (get_or (held Γ d) i 0)) ≡ moved (held Γ t) j (λ i. get_or (held Γ d) i 0)
+      → moved (held Γ t) j (λ i. part_of 0 10080 (get_or (held Γ d) i 0)) ≡ moved (held Γ t) j
+      (λ i. get_or (held Γ d) i 0)
   moved-whole {Γ} C t d j D =
       moved_ext (held Γ t) j (λ i. part_of 0 10080 (get_or (held Γ d) i 0)) (λ i. get_or (held Γ d) i 0) (λ i b.
       omega (

@@ -22,12 +22,14 @@ module _ {A : Type 0} where
   all_hold ((false, c) ∷ ts) e i = some-not-none c e
 
   -- tests behind others: the first to fail is among those, or, where they hold, among these
-  pub fails_before : (ts us : List (Bool × A)) (c : A) → first_failing_lem ts ≡ some c → first_failing_lem (ts ++ us) ≡ some c
+  pub fails_before : (ts us : List (Bool × A)) (c : A) → first_failing_lem ts ≡ some c → first_failing_lem (ts ++ us)
+      ≡ some c
   fails_before [] us c e = none-not-some c e
   fails_before ((true, a) ∷ ts) us c e = fails_before ts us c e
   fails_before ((false, a) ∷ ts) us c e = e
 
-  pub fails_behind : (ts us : List (Bool × A)) → first_failing_lem ts ≡ none → first_failing_lem (ts ++ us) ≡ first_failing_lem us
+  pub fails_behind : (ts us : List (Bool × A)) → first_failing_lem ts ≡ none → first_failing_lem (ts ++ us)
+      ≡ first_failing_lem us
   fails_behind [] us e = refl
   fails_behind ((true, a) ∷ ts) us e = fails_behind ts us e
   fails_behind ((false, a) ∷ ts) us e = some-not-none a e

@@ -41,7 +41,8 @@ module _ (sheet : List ℕ) (Γ : Network) where
     label-count n = rw (ne_eqb (length fs) 2 n)
 
     pub label-placed : length fs ≡ 2
-        → first_failing_lem (label_tests sheet Γ fs) ≡ first_failing_lem (placed_tests sheet Γ (field 0 fs) (field 1 fs))
+        → first_failing_lem (label_tests sheet Γ fs) ≡ first_failing_lem (placed_tests sheet Γ (field 0 fs)
+        (field 1 fs))
     unfolding label_tests
     label-placed n = rw (eq-eqb (length fs) 2 n)
 
@@ -99,7 +100,8 @@ module _ (sheet : List ℕ) (Γ : Network) where
   later_tests Cases zero fs = whole_tests (with_line sheet Cases Γ 0 fs)
   later_tests Cases (suc m) fs = []
 
-  own_fails : (s : Section) (m : ℕ) (fs : List (List ℕ)) (c : Cause) → first_failing_lem (own_tests sheet s Γ fs) ≡ some c
+  own_fails : (s : Section) (m : ℕ) (fs : List (List ℕ)) (c : Cause) → first_failing_lem (own_tests sheet s Γ fs)
+      ≡ some c
       → first_failing_lem (tests_of sheet s m Γ fs) ≡ some c
   own_fails Events m fs c e = e
   own_fails Signals m fs c e = e

@@ -89,7 +89,8 @@ module _ (sheet : List ℕ) (Γ : Network) (fs : List (List ℕ)) where
     rule-beyond h b = rw (eq-eqb (length fs) 5 n, e, h, b)
 
     pub rule-tests : is_number (field 3 fs) ≡ true → leb (magnitude (field 3 fs)) L.horizon ≡ true
-        → first_failing_lem (rule_tests sheet Γ fs) ≡ first_failing_lem (ends_tests sheet Γ (field 1 fs) (field 2 fs) (field 4 fs))
+        → first_failing_lem (rule_tests sheet Γ fs) ≡ first_failing_lem (ends_tests sheet Γ (field 1 fs) (field 2 fs)
+        (field 4 fs))
     unfolding rule_tests
     rule-tests h b = rw (eq-eqb (length fs) 5 n, e, h, b)
 
@@ -98,7 +99,8 @@ module _ (sheet : List ℕ) (Γ : Network) (from to label t : List ℕ) (is : li
   pub ends-tests : {a b : Found} {named defined unlike : Bool} → a ≡ found_of (event_of sheet Γ from) → b
       ≡ found_of (event_of sheet Γ to)
       → named ≡ is_name_lem from && (is_name_lem to && is_label_lem label)
-      → defined ≡ is_found_lem a && (is_found_lem b && all_defined_lem Γ.signals Γ.letters (letters_of (literals false t)))
+      → defined ≡ is_found_lem a && (is_found_lem b && all_defined_lem Γ.signals Γ.letters
+      (letters_of (literals false t)))
       → unlike ≡ distinct (letters_of (literals false t))
       → first_failing_lem ((named, C.IllFormedName) ∷ (defined, C.Undefined) ∷ (unlike, C.RepeatedLetter) ∷ [])
       ≡ first_failing_lem (ends_tests sheet Γ from to label)
@@ -131,7 +133,8 @@ pub ends_entry : (sheet : List ℕ) (Γ : Network) (fs : List (List ℕ)) (k : K
 ends_entry sheet Γ fs k z n five e w =
     let value = w.value in
     let kind : get_or (kind_of (field 0 fs)) Max ≡ k = ap (λ (o : Option Kind). get_or o Max) e in
-    let made : rule_of sheet Γ fs ≡ constraint_of sheet Γ k (field 1 fs) (field 2 fs) z (field 4 fs) = rw (kind, value) in
+    let made : rule_of sheet Γ fs ≡ constraint_of sheet Γ k (field 1 fs) (field 2 fs) z (field 4 fs) =
+    rw (kind, value) in
     sym (rw (rule-tests sheet Γ fs k five e w.well_formed w.in_range_lem, made))
 
 pub limit-fits : (f : List ℕ) (z : ℤ) → LimitIs f z → to_z w32 (of_z w32 z) ≡ z

@@ -3,7 +3,8 @@ ghost use Rattle.std.specs.Prelude.{◌≡◌, ◌<◌};
 ghost use Rattle.prelude.specs.Checks.{first_failing_lem};
 ghost use Rattle.network.specs.Limits as L;
 ghost use Rattle.network.specs.WellFormed.{FewLetters};
-ghost use Rattle.line.specs.Labelling.{Read, is_none_lem, is_part_lem, lacks_none_lem, events_include_lem, rules_include_lem};
+ghost use Rattle.line.specs.Labelling.{Read, is_none_lem, is_part_lem, lacks_none_lem, events_include_lem};
+ghost use Rattle.line.specs.Labelling.{rules_include_lem};
 ghost use Rattle.line.specs.Labelling.{are_complete_lem, whole_tests};
 ghost use Rattle.line.specs.Answers.{check_of};
 

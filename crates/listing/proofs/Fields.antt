@@ -12,7 +12,8 @@ line-tabulate_from : (f : List ℕ) (g : ℕ → List ℕ) (i n : ℕ)
 line-tabulate_from f g i zero = refl
 line-tabulate_from f g i (suc n) =
     ap (λ (t : List ℕ). f ++ comma ∷ t)
-    (append_assoc (g i) (join_from (suc i) n (λ j. comma ∷ g j)) (line_feed ∷ []) ∙ line-tabulate_from (g i) g (suc i) n)
+    (append_assoc (g i) (join_from (suc i) n (λ j. comma ∷ g j)) (line_feed ∷ []) ∙ line-tabulate_from (g i) g
+    (suc i) n)
 
 pub line-tabulate : (f : List ℕ) (n : ℕ) (g : ℕ → List ℕ) → f ++ fields_of n g ≡ line f (tabulate n g)
 line-tabulate f n g = line-tabulate_from f g 0 n

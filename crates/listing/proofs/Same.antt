@@ -35,14 +35,15 @@ texts-same k n f g head e =
     (λ s l. line_same (scenario_text k s) n (f s) (g s) (λ u h. e s u (omega arith) h)))
 
 module _ (sheet : List ℕ) (Γ : Network) (other : List ℕ) (Δ : Network) (events : Γ.events ≡ Δ.events)
-    (signals : Γ.signals ≡ Δ.signals) (names : (u : ℕ) → u < Γ.events → name_of_lem Γ sheet u ≡ name_of_lem Δ other u) where
-  pub header-same : header sheet Γ ≡ header other Δ
-  header-same =
-      line_same (ascii "case") Γ.events (name_of_lem Γ sheet) (name_of_lem Δ other) names
-      ∙ ap (λ (n : ℕ). line (ascii "case") (tabulate n (name_of_lem Δ other))) events
+    (signals : Γ.signals ≡ Δ.signals) (names : (u : ℕ) → u < Γ.events → name_of_lem Γ sheet u ≡ name_of_lem Δ other u)
+  where
+    pub header-same : header sheet Γ ≡ header other Δ
+    header-same =
+        line_same (ascii "case") Γ.events (name_of_lem Γ sheet) (name_of_lem Δ other) names
+        ∙ ap (λ (n : ℕ). line (ascii "case") (tabulate n (name_of_lem Δ other))) events
 
-  pub listing-same : (σ : List ℕ) → listing sheet Γ σ ≡ listing other Δ σ
-  unfolding listing
-  listing-same σ =
-      ap (listing_over Γ.signals Γ.events (time_texts Γ.events σ)) header-same
-      ∙ ap₂ (λ (n k : ℕ). listing_over k n (time_texts n σ) (header other Δ)) events signals
+    pub listing-same : (σ : List ℕ) → listing sheet Γ σ ≡ listing other Δ σ
+    unfolding listing
+    listing-same σ =
+        ap (listing_over Γ.signals Γ.events (time_texts Γ.events σ)) header-same
+        ∙ ap₂ (λ (n k : ℕ). listing_over k n (time_texts n σ) (header other Δ)) events signals

@@ -60,7 +60,8 @@ pub between_next : {t d o : List ℕ} {l least most i : ℕ} → Between t d l l
     → (get_or d i 0 ≡ l → (get_or t i 0 + least ≤ get_or o i 0) × (get_or o i 0 ≤ get_or t i 0 + most))
     → Between t d l least most o (i + 1)
 between_next {t} {d} {o} {l} {least} {most} {i} B h = record {
-  at = each_next (λ k. get_or d k 0 ≡ l → (get_or t k 0 + least ≤ get_or o k 0) × (get_or o k 0 ≤ get_or t k 0 + most)) i
+  at = each_next (λ k. get_or d k 0 ≡ l → (get_or t k 0 + least ≤ get_or o k 0) × (get_or o k 0 ≤ get_or t k 0 + most))
+      i
       B.at h;
 }
 

@@ -33,7 +33,8 @@ module _ (t : ℕ → Bool) where
 
   pub finds_nothing : (n : ℕ) → answers (first_below n (λ v. when (t v) v)) ≡ false → (v : ℕ) → v < n → t v ≡ false
   finds_nothing n e v h =
-      when-none (t v) v (none_of_first_below (λ v. when (t v) v) n (unanswered (first_below n (λ v. when (t v) v)) e) v h)
+      when-none (t v) v (none_of_first_below (λ v. when (t v) v) n (unanswered (first_below n (λ v. when (t v) v)) e) v
+      h)
 
 -- the turns of such a search: a loop over i has come to i
 module _ (t : ℕ → Bool) {n i : ℕ} (here : Searching (λ v. when (t v) v) n i) where
@@ -65,7 +66,8 @@ found_none (some v) e = zero-is-one cc
 
 -- the event that a field names, found by a part of the line
 module _ (sheet : List ℕ) (n : ℕ) (starts lengths f g : List ℕ) (same : g ≡ f) (r : Found) where
-  pub event-is : r ≡ found_of (event_named sheet n starts lengths g) → r ≡ found_of (event_named sheet n starts lengths f)
+  pub event-is : r ≡ found_of (event_named sheet n starts lengths g) → r ≡ found_of
+      (event_named sheet n starts lengths f)
   event-is e = rw same at e
 
   pub event-answers : (b : Bool) → r ≡ found_of (event_named sheet n starts lengths g) → b ≡ is_found_lem r

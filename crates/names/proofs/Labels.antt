@@ -42,7 +42,8 @@ unfolding step_at
 one_more k m p kh mh ph e =
     let t = true_of_all_below (step_at k m) k
     (true_of_all_below (λ m. all_below k (step_at k m)) (2 ^ k)
-    (true_of_all_below (λ k. all_below (2 ^ k) (λ m. all_below k (step_at k m))) 5 steps_hold k (omega arith)) m mh) p ph in
+    (true_of_all_below (λ k. all_below (2 ^ k) (λ m. all_below k (step_at k m))) 5 steps_hold k (omega arith)) m mh) p
+    ph in
     let b = ltb (m + 2 ^ p) (2 ^ k) in
     let all = all_below L.signals (λ q. beq (truth (m + 2 ^ p) q) (eqb q p || truth m q)) in
     elim (or-true (truth m p) (b && all) t) [

@@ -75,7 +75,8 @@ module _ (k : ℕ) (letters : List ℕ) where
             record { literal = w.literal; member = Memᴰ.tail w.member; place = w.place; value = w.value }
       ]
 
-  module _ (s : ℕ) (ls : List Literal) (few : k ≤ L.signals) (defined : all_defined_lem k letters (letters_of ls) ≡ true)
+  module _ (s : ℕ) (ls : List Literal) (few : k ≤ L.signals) (defined : all_defined_lem k letters (letters_of ls)
+      ≡ true)
       (unlike : distinct (letters_of ls) ≡ true) where
     abbrev ℓ : Label
     ℓ = mask_of k letters ls

@@ -76,7 +76,8 @@ literals_cons false bang b s = refl
 
 module _ (bang : Bool) (f : List ℕ) (i : ℕ) where
   pub literals_turn : i < length f
-      → are_literals_lem bang (drop i f) ≡ may_follow_lem bang (get_or f i 0) && are_literals_lem (eqb (get_or f i 0) 33) (drop (i + 1) f)
+      → are_literals_lem bang (drop i f) ≡ may_follow_lem bang (get_or f i 0) && are_literals_lem
+      (eqb (get_or f i 0) 33) (drop (i + 1) f)
   literals_turn h = ap (are_literals_lem bang) (drop_here f i h)
       ∙ literals_cons (eqb (get_or f i 0) 33) bang (get_or f i 0) (drop (i + 1) f)
 
@@ -84,7 +85,8 @@ module _ (bang : Bool) (f : List ℕ) (i : ℕ) where
       → are_literals_lem bang (drop i f) ≡ are_literals_lem (eqb (get_or f i 0) 33) (drop (i + 1) f)
   literals-on h e = literals_turn h ∙ rw e
 
-  pub literals-stop : i < length f → may_follow_lem bang (get_or f i 0) ≡ false → are_literals_lem bang (drop i f) ≡ false
+  pub literals-stop : i < length f → may_follow_lem bang (get_or f i 0) ≡ false → are_literals_lem bang (drop i f)
+      ≡ false
   literals-stop h e = literals_turn h ∙ rw e
 
   pub literals_end : length f ≤ i → are_literals_lem bang (drop i f) ≡ not bang
@@ -126,7 +128,8 @@ module _ (t : List ℕ) (i : ℕ) where
   pub letters_bang_at : i < length t → get_or t i 0 ≡ 33 → letters_in (drop i t) ≡ letters_in (drop (i + 1) t)
   letters_bang_at h e = ap letters_in (drop_here t i h) ∙ letters_skip (get_or t i 0) (drop (i + 1) t) e
 
-  pub letters-at : i < length t → (get_or t i 0 ≡ 33 → ⊥) → letters_in (drop i t) ≡ get_or t i 0 ∷ letters_in (drop (i + 1) t)
+  pub letters-at : i < length t → (get_or t i 0 ≡ 33 → ⊥) → letters_in (drop i t) ≡ get_or t i 0 ∷ letters_in
+      (drop (i + 1) t)
   letters-at h n = ap letters_in (drop_here t i h) ∙ letters_cons (get_or t i 0) (drop (i + 1) t) n
 
   pub letters-end : length t ≤ i → letters_in (drop i t) ≡ []
@@ -179,7 +182,8 @@ weights_cons k letters v bang b s = by_bang (eqb b 33)
 module _ (k : ℕ) (letters : List ℕ) (v bang : Bool) (t : List ℕ) (i : ℕ) where
   pub weights-at : i < length t
       → weights k letters v (literals bang (drop i t))
-      ≡ added_by_lem k letters v bang (get_or t i 0) + weights k letters v (literals (eqb (get_or t i 0) 33) (drop (i + 1) t))
+      ≡ added_by_lem k letters v bang (get_or t i 0) + weights k letters v (literals (eqb (get_or t i 0) 33)
+      (drop (i + 1) t))
   weights-at h = ap (λ (s : List ℕ). weights k letters v (literals bang s)) (drop_here t i h)
       ∙ weights_cons k letters v bang (get_or t i 0) (drop (i + 1) t)
 

@@ -1,7 +1,8 @@
 // Names, letters and labels, byte by byte.
 ghost use Rattle.std.specs.Prelude.{◌≡◌, false, ◌||◌, get_or};
 ghost use Rattle.text.specs.Number.{is_digit};
-ghost use Rattle.names.specs.Names.{is_letter_lem, is_name_lem, is_one_letter_lem, are_literals_lem, is_dash_lem, is_label_lem, literals};
+ghost use Rattle.names.specs.Names.{is_letter_lem, is_name_lem, is_one_letter_lem, are_literals_lem, is_dash_lem};
+ghost use Rattle.names.specs.Names.{is_label_lem, literals};
 ghost use Rattle.names.specs.Names.{label_of};
 ghost use Rattle.names.specs.Scan.{may_follow_lem};
 

@@ -106,7 +106,8 @@ scenarios-and-signals = refl
 abbrev some-cases : Network
 some-cases =
     with_label
-    (with_signal (with_signal (with_signal (with_event (with_event (with_event (empty 60) 0 5) 6 4) 11 4) 112 1) 113 0) 114 2)
+    (with_signal (with_signal (with_signal (with_event (with_event (with_event (empty 60) 0 5) 6 4) 11 4) 112 1) 113 0)
+    114 2)
     1 (record { positive = 2; negative = 4 })
 
 -- a rule from the start to the call, for the cases where p is true

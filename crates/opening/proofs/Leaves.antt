@@ -71,7 +71,8 @@ module _ (sheet t m : List ℕ) (g : Reading) (e : g ≡ handed_in_lem sheet (le
 
   pub listing-refused : (r : Refusal) → g.outcome ≡ Refused r → Leaves (listed sheet t m) (W.Refused r) m
   listing-refused r p =
-      kept m r (handed-refused sheet t g e (refusing (in_place_lem m)) rest (λ Γ. writing (in_place_lem m) (text Γ)) r p)
+      kept m r (handed-refused sheet t g e (refusing (in_place_lem m)) rest (λ Γ. writing (in_place_lem m) (text Γ)) r
+      p)
 
   pub listing-written : g.outcome ≡ Accepted → (x : List ℕ) (w : PD.Filled) → FilledIs (text g.network) m x w
       → Leaves (listed sheet t m) (handed_out_lem w) x
@@ -103,7 +104,8 @@ module _ (sheet m : List ℕ) (g : Reading) (e : g ≡ read sheet) where
         → FilledIs (house_text sheet g.network) m x w → Leaves (housed sheet m) (handed_out_lem w) x
     house-written h x w is =
         written-by (house_text sheet g.network) m x w is
-        (λ room. call_works (refusing (in_place_lem m)) sheet (house_tests sheet (in_place_lem m)) form g e a (h, (room, tt)))
+        (λ room. call_works (refusing (in_place_lem m)) sheet (house_tests sheet (in_place_lem m)) form g e a
+        (h, (room, tt)))
         (λ short.
         call_fails (refusing (in_place_lem m)) sheet (house_tests sheet (in_place_lem m)) form g e a _
         (inr (h, inl (short, refl))))

@@ -44,7 +44,8 @@ pub record Fills (sheet : List ℕ) : Type 0 where
 
 abbrev pub solver_fills : (sheet : List ℕ) → Fills sheet
 solver_fills sheet = record {
-  tests = λ roomy Γ. (roomy, without_line_lem BufferTooShort) ∷ (rests (solve Γ).end, without_line_lem Inconsistent) ∷ [];
+  tests = λ roomy Γ. (roomy, without_line_lem BufferTooShort) ∷ (rests (solve Γ).end, without_line_lem Inconsistent) ∷
+      [];
   text = λ Γ. found Γ;
   sized = λ a roomy h.
       let Γ = (read sheet).network in
@@ -97,7 +98,8 @@ module _ (sheet : List ℕ) (fills : Fills sheet) (b z : List ℕ) (size : lengt
   data Both : Type 0 where
     both_refused : (r : Refusal) → refusing (in_place_lem m) r ≡ into (in_place_lem m)
         → refusing (in_pairs b) r ≡ into (in_pairs b) → Both
-    both_wrote : (σ : List ℕ) → length σ ≤ length b / 2 → length σ ≤ 256 → writing (in_place_lem m) σ ≡ into (in_place_lem m)
+    both_wrote : (σ : List ℕ) → length σ ≤ length b / 2 → length σ ≤ 256 → writing (in_place_lem m) σ ≡ into
+        (in_place_lem m)
         → writing (in_pairs b) σ ≡ into (in_pairs b) → Both
 
   both : Both

@@ -32,7 +32,8 @@ use Rattle.calls.proofs.Play.{lettered as letters}
 use Rattle.opening.specs.Prologue.{after_test, handed_in_lem}
 
 -- both passed
-pub after_test_accepted : (o : Outcome) (b : Bool) (c : Cause) → after_test o b c ≡ Accepted → (o ≡ Accepted) × (b ≡ true)
+pub after_test_accepted : (o : Outcome) (b : Bool) (c : Cause) → after_test o b c ≡ Accepted → (o ≡ Accepted) ×
+    (b ≡ true)
 after_test_accepted Accepted true c e = (refl, refl)
 after_test_accepted Accepted false c e = zero-is-one cc
 after_test_accepted (Refused r) b c e = zero-is-one cc
@@ -55,7 +56,8 @@ module _ {A : Type 0} (refuse : Refusal → A) (sheet : List ℕ) (test : Networ
       by_outcome Accepted p true q e = zero-is-one cc
       by_outcome Accepted p false q e =
           let same : without_line_lem c ≡ r = cc in
-          ap refuse (sym same) ∙ call_fails refuse sheet tests work (read sheet) refl p (without_line_lem c) (inl (q, refl))
+          ap refuse (sym same) ∙ call_fails refuse sheet tests work (read sheet) refl p (without_line_lem c)
+          (inl (q, refl))
       by_outcome (Refused x) p b q e =
           let same : x ≡ r = cc in
           ap refuse (sym same) ∙ call-refused refuse sheet tests work (read sheet) refl x p

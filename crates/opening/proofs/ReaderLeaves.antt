@@ -35,7 +35,8 @@ module _ (sheet bytes m : List ℕ) where
   pub back-refused : (g : Reading) → g ≡ read sheet → (r : Refusal) → g.outcome ≡ Refused r
       → Leaves (recovering sheet bytes m) (W.Refused r) m
   back-refused g e r p =
-      kept m r (call-refused (refusing (in_place_lem m)) sheet (recovering_tests sheet bytes (in_place_lem m)) work g e r p)
+      kept m r (call-refused (refusing (in_place_lem m)) sheet (recovering_tests sheet bytes (in_place_lem m)) work g e
+      r p)
 
   module _ (a : (read sheet).outcome ≡ Accepted) where
     abbrev net : Network
@@ -49,7 +50,8 @@ module _ (sheet bytes m : List ℕ) where
     by-times e x r (no_minute l q) = kept m _ (sym (refuses_unread sheet bytes (in_place_lem m) a e l q))
     by-times e x r (short q h) =
         kept m _
-        (call_fails (refusing (in_place_lem m)) sheet (recovering_tests sheet bytes (in_place_lem m)) work (read sheet) refl a _
+        (call_fails (refusing (in_place_lem m)) sheet (recovering_tests sheet bytes (in_place_lem m)) work
+        (read sheet) refl a _
         (inr (none-holds OtherForm _ e, inr (none-holds NoMinute _ q, inl (lt-leb (cells net) (length m) h, refl)))))
     by-times e x r (full q h) =
         let size = length-recovered (header sheet net) net.signals net.events bytes in

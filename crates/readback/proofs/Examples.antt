@@ -13,7 +13,8 @@ use Rattle.prelude.specs.Bytes.{ascii, same}
 use Rattle.text.specs.Lines.{line_feed}
 use Rattle.text.specs.Number.{is_number, in_range}
 use Rattle.readback.specs.Minute.{is_minute, minute_of}
-use Rattle.readback.specs.Rows.{is_row_lem, are_minutes, rows_misfit, rows_unread, rows_table, misfit, unread, recovered}
+use Rattle.readback.specs.Rows.{is_row_lem, are_minutes, rows_misfit, rows_unread, rows_table, misfit, unread}
+use Rattle.readback.specs.Rows.{recovered}
 
 -- lines of text, each with its line feed
 abbrev lines : List String → List ℕ

@@ -14,7 +14,8 @@ use Rattle.prelude.specs.Search.{first_below, unless}
 use Rattle.prelude.proofs.Search.{or_else_none, true_of_unless, when-none, all_pass, none_of_all-pass}
 use Rattle.listing.specs.Listing.{listing_over}
 use Rattle.readback.specs.Form.{longest_read, Fitting, Formed}
-use Rattle.readback.specs.Rows.{line_number_lem, place_of, row_fits_lem, row_misfit, rows_misfit, header_fits, text_of, misfit}
+use Rattle.readback.specs.Rows.{line_number_lem, place_of, row_fits_lem, row_misfit, rows_misfit, header_fits, text_of}
+use Rattle.readback.specs.Rows.{misfit}
 use Rattle.readback.proofs.Passes.{rows_decide}
 use Rattle.readback.proofs.Begun.{FitsTo, StandsTo, stands-to, begins, texts-plain}
 

@@ -17,7 +17,8 @@ use Rattle.text.specs.Lines.{fields, field, line_at, ends_at, after_line}
 use Rattle.text.proofs.Lines.{same_length, line-inside}
 use Rattle.listing.specs.Listing.{scenario_text}
 use Rattle.readback.specs.Form.{longest_read}
-use Rattle.readback.specs.Rows.{is_row_lem, line_number_lem, place_of, row_fits_lem, row_misfit, rows_misfit, header_fits, misfit}
+use Rattle.readback.specs.Rows.{is_row_lem, line_number_lem, place_of, row_fits_lem, row_misfit, rows_misfit}
+use Rattle.readback.specs.Rows.{header_fits, misfit}
 use Rattle.readback.specs.Answers.{fault_answer, line_answer}
 use Rattle.readback.specs.declared.Line.TheVariants as L
 use Rattle.readback.specs.declared.Fault.TheVariants as F

@@ -18,7 +18,8 @@ use Rattle.text.specs.Lines.{line_feed, up_to, fields, line_at, ends_at}
 use Rattle.text.proofs.Lines.{take-drop, take_up_to, line-inside}
 use Rattle.network.specs.Limits as L
 use Rattle.listing.proofs.Truths.{few-scenarios}
-use Rattle.readback.specs.Rows.{is_row_lem, line_number_lem, place_of, row_of, cell_of, row_fits_lem, row_misfit, rows_misfit}
+use Rattle.readback.specs.Rows.{is_row_lem, line_number_lem, place_of, row_of, cell_of, row_fits_lem, row_misfit}
+use Rattle.readback.specs.Rows.{rows_misfit}
 use Rattle.readback.specs.Rows.{row_unread, rows_unread}
 use Rattle.readback.specs.Answers.{RowRead, RowsRead}
 use Rattle.readback.specs.declared.Fault.TheVariants as F

@@ -61,7 +61,13 @@ module _ (made : ℕ → ℕ → ℕ) (c : ℕ) (t : List ℕ) where
 module _ (c : ℕ) (f : ℕ → ℕ → ℕ) {xs : List ℕ} (R : Row xs (λ u. max_below c (λ s. f s u))) where
   pub le_greatest : (s u : ℕ) → s < c → u < 16 → f s u ≤ greatest xs
   unfolding greatest
-  le_greatest s u h l = omega (arith, R.is u l, le_max_below (λ r. f r u) c s h, le_max_below (λ v. get_or xs v 0) 16 u l)
+  le_greatest s u h l = omega (
+    arith,
+    R.is u l,
+    le_max_below (λ r. f r u) c s h,
+    le_max_below (λ v. get_or xs v 0) 16 u
+        l,
+  )
 
   module _ (m : ℕ) (few : (s u : ℕ) → s < c → u < 16 → f s u ≤ m) where
     row-at-most : Few m xs

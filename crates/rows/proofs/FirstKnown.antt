@@ -112,7 +112,8 @@ first-fewer f g k m F h l e = record {
   is =
       λ d b.
       let up : 2 ^ k ≤ 2 ^ m = pow-le-pow_right (omega arith) h in
-      F.is d (omega arith) ∙ first_of_more f k m d h l b ∙ min_where_ext (truth d) (truth d) f g 32767 k (λ p c. refl) e;
+      F.is d (omega arith) ∙ first_of_more f k m d h l b ∙ min_where_ext (truth d) (truth d) f g 32767 k
+      (λ p c. refl) e;
 }
 
 -- from when on p is known, by a row of its scenario; the remainder changes nothing, since observations are events

@@ -1,6 +1,7 @@
 -- Tables as the rounds keep them: a row of sixteen times for each scenario, of which the first n are those of the n
 -- events.
-use Rattle.std.specs.Prelude.{◌≡◌, false, cond, ◌⊎◌, List, ℕ, ◌+◌, ◌-◌, ◌*◌, ◌/◌, ◌%◌, ◌≤◌, ◌<◌, max, length, get_or, take, drop}
+use Rattle.std.specs.Prelude.{◌≡◌, false, cond, ◌⊎◌, List, ℕ, ◌+◌, ◌-◌, ◌*◌, ◌/◌, ◌%◌, ◌≤◌, ◌<◌, max, length, get_or}
+use Rattle.std.specs.Prelude.{take, drop}
 use Rattle.prelude.specs.Bounded.{tabulate}
 use Rattle.network.specs.Limits as L
 use Rattle.network.specs.Build.{no_label}

@@ -5,7 +5,8 @@ use mathlib.Core.Bool.{true, false}
 use Prim.Native.Nat.{ℕ}
 use lib.ListN.{length-set, length-replicate}
 use Rattle.network.specs.Limits as L
-use Rattle.network.specs.Build.{no_label, no_constraint, empty, with_event, with_signal, with_rule, with_reaction, with_label}
+use Rattle.network.specs.Build.{no_label, no_constraint, empty, with_event, with_signal, with_rule, with_reaction}
+use Rattle.network.specs.Build.{with_label}
 use Rattle.network.specs.WellFormed.{Arrays}
 use Rattle.network.specs.declared.Label.{Label}
 use Rattle.network.specs.declared.Constraint.{Constraint}

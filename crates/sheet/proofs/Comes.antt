@@ -19,7 +19,8 @@ use Rattle.line.specs.Tests.{Tests, second_number}
 use Rattle.line.specs.Sections.{with_line}
 use Rattle.line.specs.declared.Section.{Section}
 use Rattle.line.specs.declared.Section.TheVariants.{Events, Signals, Rules, Reactions, Cases}
-use Rattle.sheet.specs.Reading.{Progress, Stop, Go, stop_or, and_then, read_entries_lem, read_section_lem, read_horizon_lem}
+use Rattle.sheet.specs.Reading.{Progress, Stop, Go, stop_or, and_then, read_entries_lem, read_section_lem}
+use Rattle.sheet.specs.Reading.{read_horizon_lem}
 use Rattle.sheet.specs.Reading.{follows, read_optional_lem}
 use Rattle.sheet.specs.Place.{Expected, Horizon, Heading, Entry, NoMore, behind, entries, Place, tests_at}
 use Rattle.sheet.specs.Place.{expected_after, defined_after, next, place, tests}
@@ -59,7 +60,8 @@ module _ (sheet : List ℕ) where
 
     goes_on : Hold (tests_at sheet d Γ at)
         → let fs = fields (line_at sheet at) in
-        At (expected_after d (follows sheet (after_line sheet at)) fs) (defined_after sheet d Γ at fs) (after_line sheet at)
+        At (expected_after d (follows sheet (after_line sheet at)) fs) (defined_after sheet d Γ at fs)
+        (after_line sheet at)
         (suc k)
     goes_on h = record {
       above = suc a.above;
@@ -138,7 +140,8 @@ module _ (sheet : List ℕ) where
       (then_comes (next_of Rules) (next_of Reactions) (to_rules sheet) (read_optional_lem sheet Reactions)
       (then_comes (λ at. Heading Rules) (next_of Rules) (to_signals sheet) (read_section_lem sheet Rules)
       (then_comes (λ at. Heading Signals) (λ at. Heading Rules) (to_events sheet) (read_section_lem sheet Signals)
-      (then_comes (λ at. Heading Events) (λ at. Heading Signals) (read_horizon_lem sheet) (read_section_lem sheet Events)
+      (then_comes (λ at. Heading Events) (λ at. Heading Signals) (read_horizon_lem sheet)
+      (read_section_lem sheet Events)
       horizon_comes
       (section_comes Events))
       (section_comes Signals))

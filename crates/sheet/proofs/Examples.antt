@@ -11,7 +11,8 @@ use Rattle.prelude.specs.Bytes.{ascii}
 use Rattle.text.specs.Lines.{line_feed}
 use Rattle.text.specs.Number.{is_number, in_range}
 use Rattle.refusal.specs.Refusal.{number_of}
-use Rattle.line.specs.Tests.{section_tests, event_tests, signal_tests, ends_tests, rule_tests, letter_tests, reaction_tests}
+use Rattle.line.specs.Tests.{section_tests, event_tests, signal_tests, ends_tests, rule_tests, letter_tests}
+use Rattle.line.specs.Tests.{reaction_tests}
 use Rattle.line.specs.Tests.{placed_tests, label_tests}
 use Rattle.line.specs.Labelling.{whole_tests}
 use Rattle.sheet.specs.Reading.{Progress, Stop, Go, progress}
@@ -195,6 +196,7 @@ all_end [] = true
 all_end (x ∷ xs) = ends (progress x.sheet) x.number x.line && all_end xs
 
 pub examples_end : all_end examples ≡ true
-unfolding is_number in_range section_tests event_tests signal_tests ends_tests rule_tests letter_tests reaction_tests placed_tests
+unfolding is_number in_range section_tests event_tests signal_tests ends_tests rule_tests letter_tests reaction_tests
+    placed_tests
     label_tests whole_tests progress
 examples_end = refl

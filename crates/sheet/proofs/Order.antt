@@ -69,7 +69,8 @@ first_fails_of_line (t ∷ ts) c o (inr f) =
 
 module _ (sheet : List ℕ) where
   expected_in_order : (d : Expected) (Γ : Network) (at : ℕ) → InOrder 1 21 (tests_at sheet d Γ at)
-  unfolding section_tests event_tests signal_tests ends_tests rule_tests letter_tests reaction_tests placed_tests label_tests
+  unfolding section_tests event_tests signal_tests ends_tests rule_tests letter_tests reaction_tests placed_tests
+      label_tests
       whole_tests
   expected_in_order Horizon Γ at = omega arith & omega arith & omega arith & omega arith & omega arith
   expected_in_order (Heading s) Γ at = omega arith & omega arith & omega arith & omega arith & omega arith
@@ -92,7 +93,8 @@ module _ (sheet : List ℕ) where
   tests_in_order k = let p = place sheet k in expected_in_order p.expected p.network p.at
 
   expected_of_line : (d : Expected) (Γ : Network) (at : ℕ) → are_of_line (tests_at sheet d Γ at) ≡ true
-  unfolding section_tests event_tests signal_tests ends_tests rule_tests letter_tests reaction_tests placed_tests label_tests
+  unfolding section_tests event_tests signal_tests ends_tests rule_tests letter_tests reaction_tests placed_tests
+      label_tests
       whole_tests
   expected_of_line Horizon Γ at = refl
   expected_of_line (Heading s) Γ at = refl

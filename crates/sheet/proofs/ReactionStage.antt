@@ -38,7 +38,8 @@ module _ (sheet : List ℕ) (Γ : Network) (at k : ℕ) where
       (all_hold (reaction_tests Γ fs) p.accepted 5)).index_lt
 
   pub stage_reaction : (m : ℕ) → Stage sheet (to_come Reactions (suc m)) Γ at k → Passes sheet at k (reaction_tests Γ)
-      → Stage sheet (to_come Reactions m) (with_line sheet Reactions Γ at (cells sheet at)) (after_line sheet at) (suc k)
+      → Stage sheet (to_come Reactions m) (with_line sheet Reactions Γ at (cells sheet at)) (after_line sheet at)
+      (suc k)
   unfolding letter_tests reaction_tests
   stage_reaction m g p =
       let w = g.forming in

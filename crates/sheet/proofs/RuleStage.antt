@@ -43,7 +43,8 @@ limits_of f h =
 module _ (sheet : List ℕ) {m : ℕ} {Γ : Network} {at k : ℕ} where
   -- a rule
   pub stage_rule : Stage sheet (to_come Rules (suc m)) Γ at k → Passes sheet at k (rule_tests sheet Γ)
-      → Stage sheet (to_come Rules m) (with_line sheet Rules Γ at (fields (line_at sheet at))) (after_line sheet at) (suc k)
+      → Stage sheet (to_come Rules m) (with_line sheet Rules Γ at (fields (line_at sheet at))) (after_line sheet at)
+      (suc k)
   unfolding ends_tests rule_tests
   stage_rule g p =
       let w = g.forming in

@@ -21,7 +21,8 @@ use Rattle.line.specs.declared.Section.{Section}
 use Rattle.line.proofs.Answered.{section-answer-refused, section-answer}
 use Rattle.line.specs.declared.Section.TheVariants.{Events, Signals, Rules, Reactions, Cases}
 use Rattle.line.specs.declared.HeadingLine.TheVariants as S
-use Rattle.sheet.specs.Reading.{Progress, Stop, Go, and_then, read_line, read_entries_lem, read_section_lem, read_horizon_lem}
+use Rattle.sheet.specs.Reading.{Progress, Stop, Go, and_then, read_line, read_entries_lem, read_section_lem}
+use Rattle.sheet.specs.Reading.{read_horizon_lem}
 use Rattle.sheet.specs.Reading.{read_optional_lem, read_end, longest, answered, read}
 use Rattle.sheet.specs.Stage.{to_come, whole, Stage}
 use Rattle.sheet.proofs.ReadLine.{refusal_at, passes, read_line-stop, read_line-on}

@@ -22,7 +22,8 @@ use Rattle.line.specs.Sections.{heading_of_lem, horizon_heading, heading_tests}
 use Rattle.network.proofs.Strategy.{reaction-empty}
 use Rattle.line.specs.declared.Section.{Section}
 use Rattle.line.specs.declared.Section.TheVariants.{Events, Signals, Rules, Reactions, Cases}
-use Rattle.sheet.specs.Reading.{Progress, Stop, Go, stop_or, and_then, read_entries_lem, read_section_lem, read_horizon_lem}
+use Rattle.sheet.specs.Reading.{Progress, Stop, Go, stop_or, and_then, read_entries_lem, read_section_lem}
+use Rattle.sheet.specs.Reading.{read_horizon_lem}
 use Rattle.sheet.specs.Reading.{follows, read_optional_lem, end_tests, read_end, progress, read, answered}
 use Rattle.sheet.specs.Stage.{to_come, whole, Stage}
 use Rattle.sheet.specs.Reached.{Ready}
@@ -61,7 +62,8 @@ module _ (sheet : List ℕ) where
   -- the sheet is ready for the events behind the horizon, and behind each section for the next
   pub horizon_ready : (p : Progress) → p ≡ read_horizon_lem sheet → Ready sheet (whole Events) p
   horizon_ready p i Γ at k e =
-      let w = went sheet 0 1 (heading_tests horizon_heading) (λ fs. Go (empty (second_number fs)) (after_line sheet 0) 2)
+      let w = went sheet 0 1 (heading_tests horizon_heading) (λ fs. Go (empty (second_number fs)) (after_line sheet 0)
+      2)
       Γ at k (sym i ∙ e) in
       let fs = fields (line_at sheet 0) in
       let c = counted horizon_heading fs w.passed.accepted in
@@ -75,7 +77,8 @@ module _ (sheet : List ℕ) where
       by_go : {Γ Δ : Network} {a b j k : ℕ} → Go Γ a j ≡ Go Δ b k → (Γ ≡ Δ) × (a ≡ b) × (j ≡ k)
       by_go e = (cc, cc, cc)
 
-  pub section_ready : (s : Section) (p q : Progress) → q ≡ and_then p (read_section_lem sheet s) → Ready sheet (whole s) p
+  pub section_ready : (s : Section) (p q : Progress) → q ≡ and_then p (read_section_lem sheet s) → Ready sheet
+      (whole s) p
       → Ready sheet (to_come s 0) q
   section_ready s p q i h Δ b j e =
       let c = came p (read_section_lem sheet s) Δ b j (sym i ∙ e) in
@@ -87,7 +90,8 @@ module _ (sheet : List ℕ) where
       let w = went sheet at k (heading_tests head)
       (λ fs. read_entries_lem sheet s (second_number fs) Γ (after_line sheet at) (suc k)) Δ b j c.then in
       let n = counted head fs w.passed.accepted in
-      entries-keep sheet s (Before sheet s) (stage_keeps sheet s) (second_number fs) Γ Δ (after_line sheet at) (suc k) b j
+      entries-keep sheet s (Before sheet s) (stage_keeps sheet s) (second_number fs) Γ Δ (after_line sheet at)
+      (suc k) b j
       (stage_section sheet s (second_number fs) w.passed.ends n.least n.most (h Γ at k c.first)) w.then
 
   -- an optional section: behind it, or where it would begin, the sheet is ready for the end
@@ -118,7 +122,8 @@ module _ (sheet : List ℕ) where
       (optional_ready Reactions (to_rules sheet) (to_reactions sheet) refl (λ Γ at k g. g)
       (section_ready Rules (to_signals sheet) (to_rules sheet) refl
       (section_ready Signals (to_events sheet) (to_signals sheet) refl
-      (section_ready Events (read_horizon_lem sheet) (to_events sheet) refl (horizon_ready (read_horizon_lem sheet) refl)))))
+      (section_ready Events (read_horizon_lem sheet) (to_events sheet) refl
+      (horizon_ready (read_horizon_lem sheet) refl)))))
 
   read_stage : (Γ : Network) (at k : ℕ) → progress sheet ≡ Go Γ at k → (b : ℕ) × (j : ℕ)
       × Stage sheet (to_come Cases 0) Γ b j

@@ -3,7 +3,8 @@
 ghost use Rattle.std.specs.Prelude.{◌≡◌, ◌≤◌, length, drop};
 ghost use Rattle.refusal.specs.Refusal.{refusal};
 ghost use Rattle.line.specs.declared.Section.TheVariants.{Reactions, Cases};
-ghost use Rattle.sheet.specs.Reading.{longest, Stop, and_then, read_entries_lem, read_section_lem, read_horizon_lem, read_end};
+ghost use Rattle.sheet.specs.Reading.{longest, Stop, and_then, read_entries_lem, read_section_lem, read_horizon_lem};
+ghost use Rattle.sheet.specs.Reading.{read_end};
 ghost use Rattle.sheet.specs.Reading.{read_optional_lem, answered};
 ghost use Rattle.sheet.specs.Stage.{Stage, to_come, whole};
 ghost use Rattle.sheet.specs.Reached.{progress_of, Ready};

@@ -48,7 +48,8 @@ alone w = with_rule (with_event (empty 60) 0 0) (rule Max 0 0 w 0 0)
 abbrev duress : Network
 duress =
     with_label (with_reaction
-    (with_rule (with_signal (with_event (with_event (with_event (empty 60) 0 0) 0 0) 0 0) 112 1) (rule Min 0 1 (pos 5) 0 0))
+    (with_rule (with_signal (with_event (with_event (with_event (empty 60) 0 0) 0 0) 0 0) 112 1)
+    (rule Min 0 1 (pos 5) 0 0))
     0 3)
     2 (record { positive = 1; negative = 0 })
 

@@ -1,6 +1,7 @@
 -- Masked strategies, cell by cell; and what a solution says of the cells that have their event is said of every
 -- strategy that agrees with it there. Assumes nothing.
-use Rattle.std.proofs.Common.{◌≡◌, ℕ, ◌+◌, ◌*◌, ◌/◌, ◌%◌, ◌<◌, true, false, cond, List, length, get_or, sym, ◌∙◌, inl, inr, arith, ext_get_or}
+use Rattle.std.proofs.Common.{◌≡◌, ℕ, ◌+◌, ◌*◌, ◌/◌, ◌%◌, ◌<◌, true, false, cond, List, length, get_or, sym, ◌∙◌, inl}
+use Rattle.std.proofs.Common.{inr, arith, ext_get_or}
 use Rattle.prelude.proofs.Tests.{either}
 use Rattle.prelude.proofs.Bounded.{length-tabulate, get_d_tabulate}
 use Rattle.prelude.proofs.Cells.{cell_lt, row_of_lem, column_of, by-cell}

@@ -1,5 +1,7 @@
 -- A run from all zeros with a budget of more than the room below the limits is the solver's. Assumes nothing.
-use Rattle.std.proofs.Common.{◌≡◌, ℕ, zero, suc, ◌+◌, ◌-◌, ◌*◌, ◌/◌, ◌%◌, ◌<◌, ◌≤◌, cond, List, ◌++◌, length, get_or, drop, replicate, sym, refl, ap, ◌∙◌, mul-le-mul, arith, length-append, length-drop, ext_get_or}
+use Rattle.std.proofs.Common.{◌≡◌, ℕ, zero, suc, ◌+◌, ◌-◌, ◌*◌, ◌/◌, ◌%◌, ◌<◌, ◌≤◌, cond, List, ◌++◌, length, get_or}
+use Rattle.std.proofs.Common.{drop, replicate, sym, refl, ap, ◌∙◌, mul-le-mul, arith, length-append, length-drop}
+use Rattle.std.proofs.Common.{ext_get_or}
 use lib.ListN.{length-replicate}
 use Rattle.prelude.specs.Bounded.{sum_below, tabulate}
 use Rattle.prelude.proofs.Bounded.{length-tabulate, get_d_tabulate}

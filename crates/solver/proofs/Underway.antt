@@ -1,6 +1,7 @@
 -- What the loop of `run` keeps, and where it ends: the run from t comes to u after k rounds, and ends there as u's
 -- next rounds say. Assumes nothing.
-use Rattle.std.proofs.Common.{◌≡◌, ℕ, suc, ◌+◌, ◌-◌, ◌*◌, ◌<◌, ◌≤◌, List, length, get_or, sym, refl, ◌∙◌, ⊎_elim, zero-add, add-one, arith}
+use Rattle.std.proofs.Common.{◌≡◌, ℕ, suc, ◌+◌, ◌-◌, ◌*◌, ◌<◌, ◌≤◌, List, length, get_or, sym, refl, ◌∙◌, ⊎_elim}
+use Rattle.std.proofs.Common.{zero-add, add-one, arith}
 use Rattle.fixpoint.specs.Run.{Run, ran, run_from}
 use Rattle.fixpoint.specs.Run as run
 use Rattle.network.specs.declared.Network.{Network}

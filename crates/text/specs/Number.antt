@@ -1,6 +1,7 @@
 -- Numbers as they are read: "`0`, or digits without a leading zero, with one `-` before it if it is negative" (01,
 -- The sheet).
-use Rattle.std.specs.Prelude.{Bool, false, ◌&&◌, ◌||◌, not, cond, List, [], ◌∷◌, ℕ, ◌+◌, ◌-◌, ◌*◌, ℤ, pos, neg_ℤ, eqb, leb, length, get_or, drop}
+use Rattle.std.specs.Prelude.{Bool, false, ◌&&◌, ◌||◌, not, cond, List, [], ◌∷◌, ℕ, ◌+◌, ◌-◌, ◌*◌, ℤ, pos, neg_ℤ, eqb}
+use Rattle.std.specs.Prelude.{leb, length, get_or, drop}
 use Prim.Native.Char.{code}
 use Rattle.prelude.specs.Bytes.{every}
 

@@ -5,7 +5,8 @@ use Rattle.bounds.specs.Listed.{Added}
 use Rattle.bounds.proofs.list_bound.Given as goal
 
 abbrev pub invariant-loop-s : goal.invariant-loop-s
-invariant-loop-s l = (l.s ≤ l.scenarios) × Added l.label l.target l.source l.weight l.initial.counts l.initial.lists l.counts l.lists l.s
+invariant-loop-s l = (l.s ≤ l.scenarios) × Added l.label l.target l.source l.weight l.initial.counts l.initial.lists
+    l.counts l.lists l.s
 
 abbrev pub decreases-loop-s : goal.decreases-loop-s
 decreases-loop-s l = l.scenarios - l.s

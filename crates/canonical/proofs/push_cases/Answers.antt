@@ -6,8 +6,11 @@ use Rattle.canonical.proofs.Labelled.{labelled-few}
 use Rattle.canonical.proofs.push_cases.Goals as goal
 
 pub loop-u-preserved : goal.loop-u-preserved
-loop-u-preserved c =
-    (join-next c.loop-u.invariant.0 {j = most_case} (omega arith) c.push_case-next.ensures (omega arith), c.loop-u.invariant.1)
+loop-u-preserved c = (
+  join-next c.loop-u.invariant.0 {j = most_case} (omega arith) c.push_case-next.ensures
+      (omega arith),
+  c.loop-u.invariant.1,
+)
 
 pub returns : goal.returns
 returns c =

@@ -11,7 +11,8 @@ use Rattle.canonical.proofs.CaseLines.{line_of}
 use Rattle.canonical.proofs.push_cases.Given as goal
 
 abbrev pub invariant-loop-u : goal.invariant-loop-u
-invariant-loop-u l = Joining most_case (λ i. line_by (line_of l.sheet l.network) (labelled_at l.network i)) l.network.events l.initial.page l.initial.next l.u l.page
+invariant-loop-u l = Joining most_case (λ i. line_by (line_of l.sheet l.network) (labelled_at l.network i))
+    l.network.events l.initial.page l.initial.next l.u l.page
     l.next
     × (l.u-end ≡ l.network.events)
 

@@ -10,7 +10,8 @@ use Rattle.network.specs.Build.{name_of_lem}
 use Rattle.canonical.proofs.push_events.Given as goal
 
 abbrev pub invariant-loop-u : goal.invariant-loop-u
-invariant-loop-u l = Joining 9 (λ i. line (name_of_lem l.network l.sheet i) []) l.network.events l.initial.page l.initial.next l.u l.page l.next
+invariant-loop-u l = Joining 9 (λ i. line (name_of_lem l.network l.sheet i) []) l.network.events l.initial.page
+    l.initial.next l.u l.page l.next
     × (l.u-end ≡ l.network.events)
 
 abbrev pub decreases-loop-u : goal.decreases-loop-u

@@ -32,4 +32,5 @@ pub returns : goal.returns
 returns c =
     let args = c.args in
     let all = join-all c.loop-p.invariant.0 (omega arith) in
-    append_as (label-some args.network args.label (λ none. c.if-next-at.false (omega (arith, all.ends)))) all (omega arith)
+    append_as (label-some args.network args.label (λ none. c.if-next-at.false (omega (arith, all.ends)))) all
+    (omega arith)

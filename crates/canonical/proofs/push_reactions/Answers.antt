@@ -10,13 +10,15 @@ use Rattle.canonical.specs.Most.{most_reaction}
 use Rattle.canonical.proofs.Gathered.{line_by}
 use Rattle.canonical.proofs.SlowLines.{slow_appended}
 use Rattle.canonical.proofs.Slow.{slow_few}
-use Rattle.canonical.proofs.push_reactions.Goals.{else-count-eq0-via-then-count-eq0+else-labelled-eq0, else-count-eq0-via-else-count-eq0}
+use Rattle.canonical.proofs.push_reactions.Goals.{else-count-eq0-via-then-count-eq0+else-labelled-eq0}
+use Rattle.canonical.proofs.push_reactions.Goals.{else-count-eq0-via-else-count-eq0}
 use Rattle.canonical.proofs.push_reactions.Goals as goal
 
 pub loop-p-preserved : goal.loop-p-preserved
 loop-p-preserved c =
     let Γ = c.args.network in
-    let text = ap (λ (x : ℕ). line_by reaction_line (slow_by (letter Γ c.loop-p.p) x)) c.reaction_of-reaction.ensures in (
+    let text = ap (λ (x : ℕ). line_by reaction_line (slow_by (letter Γ c.loop-p.p) x))
+    c.reaction_of-reaction.ensures in (
       join-next c.loop-p.invariant.0 {j = most_reaction} (omega arith)
           (append_as text c.push_reaction-next.ensures (omega arith)) (omega arith),
       c.loop-p.invariant.1,

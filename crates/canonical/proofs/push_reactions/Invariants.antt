@@ -11,7 +11,8 @@ use Rattle.canonical.proofs.Gathered.{line_by}
 use Rattle.canonical.proofs.push_reactions.Given as goal
 
 abbrev pub invariant-loop-p : goal.invariant-loop-p
-invariant-loop-p l = Joining most_reaction (λ i. line_by reaction_line (slow_at l.network i)) l.network.signals l.initial.page l.initial.next l.p l.page l.next
+invariant-loop-p l = Joining most_reaction (λ i. line_by reaction_line (slow_at l.network i)) l.network.signals
+    l.initial.page l.initial.next l.p l.page l.next
     × (l.p-end ≡ l.network.signals)
 
 abbrev pub decreases-loop-p : goal.decreases-loop-p

@@ -45,17 +45,20 @@ returns c =
     let sheet = a.sheet.now in
     let Γ = a.network in
     let upper = a.upper in
-    let ends-written : Appended 21 a.page.now a.at (ends sheet Γ upper) c.push_field-next-2.new.page c.push_field-next-2.result =
+    let ends-written : Appended 21 a.page.now a.at (ends sheet Γ upper) c.push_field-next-2.new.page
+    c.push_field-next-2.result =
     append_as
     (ap₂ ends_text c.name_of.ensures.0 c.name_of-2.ensures.0)
     (append_both c.push_all-next.ensures (append_both c.push_field-next.ensures c.push_field-next-2.ensures))
     (omega (arith, c.name_of.ensures.1, c.name_of-2.ensures.1)) in
-    let limit-written : Appended 28 a.page.now a.at (limited sheet Γ upper) c.push_limit-next.new.page c.push_limit-next.result =
+    let limit-written : Appended 28 a.page.now a.at (limited sheet Γ upper) c.push_limit-next.new.page
+    c.push_limit-next.result =
     append_then
     ends-written
     (rw (read_back upper.bound c.requires.2.bound) at c.push_limit-next.ensures)
     (omega arith) in
-    let label-written : Appended 37 a.page.now a.at (labelled sheet Γ upper) c.push_label-next.new.page c.push_label-next.result =
+    let label-written : Appended 37 a.page.now a.at (labelled sheet Γ upper) c.push_label-next.new.page
+    c.push_label-next.result =
     append_then
     limit-written
     (append_both c.push-next.ensures c.push_label-next.ensures)

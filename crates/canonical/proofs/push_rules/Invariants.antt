@@ -12,7 +12,8 @@ use Rattle.canonical.specs.Most.{most_rule}
 use Rattle.canonical.proofs.push_rules.Given as goal
 
 abbrev pub invariant-loop-i : goal.invariant-loop-i
-invariant-loop-i l = Joining most_rule (λ k. rule_line (as_rule l.sheet l.network (get_or l.remaining.uppers k no_constraint)))
+invariant-loop-i l = Joining most_rule
+    (λ k. rule_line (as_rule l.sheet l.network (get_or l.remaining.uppers k no_constraint)))
     l.remaining.count l.initial.page l.initial.next l.i l.page l.next
     × (l.i-end ≡ l.remaining.count)
 

@@ -9,7 +9,8 @@ use Rattle.canonical.specs.House.{signal_at}
 use Rattle.canonical.proofs.push_signals.Given as goal
 
 abbrev pub invariant-loop-p : goal.invariant-loop-p
-invariant-loop-p l = Joining 11 (λ i. signal_line (signal_at l.sheet l.network i)) l.network.signals l.initial.page l.initial.next l.p l.page l.next
+invariant-loop-p l = Joining 11 (λ i. signal_line (signal_at l.sheet l.network i)) l.network.signals l.initial.page
+    l.initial.next l.p l.page l.next
     × (l.p-end ≡ l.network.signals)
 
 abbrev pub decreases-loop-p : goal.decreases-loop-p

@@ -16,7 +16,8 @@ pub loop-c-preserved : goal.loop-c-preserved
 loop-c-preserved c =
     let tested : let a = c.args in
     let s = c.broken.s in
-    c.keeps.result ≡ does_hold a.network a.table.now s (constraint a.network c.loop-c.c) = c.keeps.ensures c.args.network refl refl refl in
+    c.keeps.result ≡ does_hold a.network a.table.now s (constraint a.network c.loop-c.c) =
+    c.keeps.ensures c.args.network refl refl refl in
     let kept = sym tested ∙ c.if-not-keeps.false in
     seeking_on c.loop-c.invariant c.loop-c-test.true (rw kept)
 
@@ -29,7 +30,8 @@ pub returns-then-not-keeps : goal.returns-then-not-keeps
 returns-then-not-keeps c =
     let tested : let a = c.args in
     let s = c.broken.s in
-    c.keeps.result ≡ does_hold a.network a.table.now s (constraint a.network c.loop-c.c) = c.keeps.ensures c.args.network refl refl refl in
+    c.keeps.result ≡ does_hold a.network a.table.now s (constraint a.network c.loop-c.c) =
+    c.keeps.ensures c.args.network refl refl refl in
     let broken = sym tested ∙ c.if-not-keeps.true in
     let at = row_hit c.broken.invariant c.loop-c.invariant refl in
     ap verdict_of (sym (at _ (omega arith) c.loop-c-test.true (rw broken)))

@@ -15,7 +15,8 @@ pub in_place-requires : goal.in_place-requires
 in_place-requires c =
     let known : let a = c.args in
     let from = c.known_in-known.result.from in
-    KnownIn a.network a.table.now c.late.s a.network.signals from = c.known_in-known.ensures c.args.network refl refl refl refl in
+    KnownIn a.network a.table.now c.late.s a.network.signals from = c.known_in-known.ensures c.args.network refl refl
+    refl refl in
     let W = c.requires.0 in (
       event-letters W c.loop-u.u,
       known.four,
@@ -27,9 +28,11 @@ pub loop-u-preserved : goal.loop-u-preserved
 loop-u-preserved c =
     let known : let a = c.args in
     let from = c.known_in-known.result.from in
-    KnownIn a.network a.table.now c.late.s a.network.signals from = c.known_in-known.ensures c.args.network refl refl refl refl in
+    KnownIn a.network a.table.now c.late.s a.network.signals from = c.known_in-known.ensures c.args.network refl refl
+    refl refl in
     let tested : let a = c.args in
-    c.in_place.result ≡ is_on_time a.network a.table.now c.late.s c.loop-u.u = in_place c.requires.0 c.args.table.now c.late.s c.loop-u.u
+    c.in_place.result ≡ is_on_time a.network a.table.now c.late.s c.loop-u.u = in_place c.requires.0 c.args.table.now
+    c.late.s c.loop-u.u
     c.loop-u-test.true known c.in_place.ensures c.time_of-time.ensures in
     let kept = sym tested ∙ c.if-not-in_place.false in
     seeking_on c.loop-u.invariant c.loop-u-test.true (rw kept)
@@ -42,9 +45,11 @@ pub returns-then-not-in_place : goal.returns-then-not-in_place
 returns-then-not-in_place c =
     let known : let a = c.args in
     let from = c.known_in-known.result.from in
-    KnownIn a.network a.table.now c.late.s a.network.signals from = c.known_in-known.ensures c.args.network refl refl refl refl in
+    KnownIn a.network a.table.now c.late.s a.network.signals from = c.known_in-known.ensures c.args.network refl refl
+    refl refl in
     let tested : let a = c.args in
-    c.in_place.result ≡ is_on_time a.network a.table.now c.late.s c.loop-u.u = in_place c.requires.0 c.args.table.now c.late.s c.loop-u.u
+    c.in_place.result ≡ is_on_time a.network a.table.now c.late.s c.loop-u.u = in_place c.requires.0 c.args.table.now
+    c.late.s c.loop-u.u
     c.loop-u-test.true known c.in_place.ensures c.time_of-time.ensures in
     let late = sym tested ∙ c.if-not-in_place.true in
     let at = row_hit c.late.invariant c.loop-u.invariant refl in

@@ -12,16 +12,20 @@ use Rattle.checker.proofs.first_unheard.Goals as goal
 
 pub known_in-known-requires : goal.known_in-known-requires
 known_in-known-requires c =
-    let s-in : c.unheard.s < scenarios c.args.network = omega (arith, c.unheard-test.true, c.scenario_count-scenarios.ensures) in
+    let s-in : c.unheard.s < scenarios c.args.network =
+    omega (arith, c.unheard-test.true, c.scenario_count-scenarios.ensures) in
     observed c.requires.0 c.args.table.now c.requires.1 c.unheard.s s-in
 
 pub apart-told-requires : goal.apart-told-requires
 apart-told-requires c =
-    let s-in : c.unheard.s < scenarios c.args.network = omega (arith, c.unheard-test.true, c.scenario_count-scenarios.ensures) in
-    let r-in : c.loop-r.r < scenarios c.args.network = omega (arith, c.loop-r-test.true, c.scenario_count-scenarios.ensures) in
+    let s-in : c.unheard.s < scenarios c.args.network =
+    omega (arith, c.unheard-test.true, c.scenario_count-scenarios.ensures) in
+    let r-in : c.loop-r.r < scenarios c.args.network =
+    omega (arith, c.loop-r-test.true, c.scenario_count-scenarios.ensures) in
     let known : let a = c.args in
     let from = c.known_in-known.result.from in
-    KnownIn a.network a.table.now c.unheard.s a.network.signals from = c.known_in-known.ensures c.args.network refl refl refl refl in
+    KnownIn a.network a.table.now c.unheard.s a.network.signals from = c.known_in-known.ensures c.args.network refl
+    refl refl refl in
     let W = c.requires.0 in (
       known.four,
       W.signals,
@@ -31,8 +35,10 @@ apart-told-requires c =
 
 pub alike-requires : goal.alike-requires
 alike-requires c =
-    let s-in : c.unheard.s < scenarios c.args.network = omega (arith, c.unheard-test.true, c.scenario_count-scenarios.ensures) in
-    let r-in : c.loop-r.r < scenarios c.args.network = omega (arith, c.loop-r-test.true, c.scenario_count-scenarios.ensures) in
+    let s-in : c.unheard.s < scenarios c.args.network =
+    omega (arith, c.unheard-test.true, c.scenario_count-scenarios.ensures) in
+    let r-in : c.loop-r.r < scenarios c.args.network =
+    omega (arith, c.loop-r-test.true, c.scenario_count-scenarios.ensures) in
     let W = c.requires.0 in (
       scenario_lt W c.unheard.s s-in,
       scenario_lt W c.loop-r.r r-in,
@@ -43,7 +49,8 @@ pub loop-u-preserved : goal.loop-u-preserved
 loop-u-preserved c =
     let known : let a = c.args in
     let from = c.known_in-known.result.from in
-    KnownIn a.network a.table.now c.unheard.s a.network.signals from = c.known_in-known.ensures c.args.network refl refl refl refl in
+    KnownIn a.network a.table.now c.unheard.s a.network.signals from = c.known_in-known.ensures c.args.network refl
+    refl refl refl in
     let tested : let a = c.args in
     c.alike.result
     ≡ is_alike a.network a.table.now c.unheard.s c.loop-r.r
@@ -65,11 +72,14 @@ unheard-preserved c =
 
 pub returns-then-not-alike : goal.returns-then-not-alike
 returns-then-not-alike c =
-    let s-in : c.unheard.s < scenarios c.args.network = omega (arith, c.unheard-test.true, c.scenario_count-scenarios.ensures) in
-    let r-in : c.loop-r.r < scenarios c.args.network = omega (arith, c.loop-r-test.true, c.scenario_count-scenarios.ensures) in
+    let s-in : c.unheard.s < scenarios c.args.network =
+    omega (arith, c.unheard-test.true, c.scenario_count-scenarios.ensures) in
+    let r-in : c.loop-r.r < scenarios c.args.network =
+    omega (arith, c.loop-r-test.true, c.scenario_count-scenarios.ensures) in
     let known : let a = c.args in
     let from = c.known_in-known.result.from in
-    KnownIn a.network a.table.now c.unheard.s a.network.signals from = c.known_in-known.ensures c.args.network refl refl refl refl in
+    KnownIn a.network a.table.now c.unheard.s a.network.signals from = c.known_in-known.ensures c.args.network refl
+    refl refl refl in
     let tested : let a = c.args in
     c.alike.result
     ≡ is_alike a.network a.table.now c.unheard.s c.loop-r.r

@@ -10,7 +10,8 @@ use Rattle.checker.proofs.Seeking.{Seeking}
 use Rattle.checker.proofs.first_unheard.Given as goal
 
 abbrev pub invariant-loop-u : goal.invariant-loop-u
-invariant-loop-u l = Seeking (λ v. unless (is_alike l.network l.table l.s l.r v) (Unheard l.s l.r v)) l.events l.u l.found
+invariant-loop-u l = Seeking (λ v. unless (is_alike l.network l.table l.s l.r v) (Unheard l.s l.r v)) l.events l.u
+    l.found
 
 abbrev pub decreases-loop-u : goal.decreases-loop-u
 decreases-loop-u l = l.events - l.u

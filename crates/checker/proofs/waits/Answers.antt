@@ -15,7 +15,8 @@ waits_for-requires c =
 pub returns-then-not-waits_for : goal.returns-then-not-waits_for
 returns-then-not-waits_for c =
     let by_mask : let a = c.args in all_below a.signals (waits_for a.known.now a.time (letters a.label))
-    ≡ P.waits a.known.now a.signals a.label a.time = waits-letters c.args.known.now c.args.time c.args.signals c.args.label c.requires.0
+    ≡ P.waits a.known.now a.signals a.label a.time = waits-letters c.args.known.now c.args.time c.args.signals
+    c.args.label c.requires.0
     c.requires.2 in
     let sooner = sym c.waits_for.ensures ∙ c.if-not-waits_for.true in
     sym (failed_at c.loop-p.invariant c.loop-p-test.true sooner)
@@ -24,6 +25,7 @@ returns-then-not-waits_for c =
 pub returns : goal.returns
 returns c =
     let by_mask : let a = c.args in all_below a.signals (waits_for a.known.now a.time (letters a.label))
-    ≡ P.waits a.known.now a.signals a.label a.time = waits-letters c.args.known.now c.args.time c.args.signals c.args.label c.requires.0
+    ≡ P.waits a.known.now a.signals a.label a.time = waits-letters c.args.known.now c.args.time c.args.signals
+    c.args.label c.requires.0
     c.requires.2 in
     sym (passed-all c.loop-p.invariant c.loop-p-test.false) ∙ by_mask

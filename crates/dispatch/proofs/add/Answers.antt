@@ -7,7 +7,8 @@ use Rattle.names.specs.Names.{is_letter_lem}
 use Rattle.dispatch.specs.Said.{with_bit}
 use Rattle.dispatch.proofs.Letters.{letter-between, not-letter}
 use Rattle.dispatch.proofs.Fold.{with_heard_free, with_heard-other}
-use Rattle.dispatch.proofs.add.Goals.{then-letter-lt97-via-then-letter-lt97, then-letter-lt97-via-else-letter-lt97+then-letter-gt122}
+use Rattle.dispatch.proofs.add.Goals.{then-letter-lt97-via-then-letter-lt97}
+use Rattle.dispatch.proofs.add.Goals.{then-letter-lt97-via-else-letter-lt97+then-letter-gt122}
 use Rattle.dispatch.proofs.add.Goals as goal
 
 pub returns-then-letter-lt97 : goal.returns-then-letter-lt97

@@ -8,7 +8,8 @@ use Rattle.page.proofs.Join.{Joining}
 use Rattle.listing.proofs.push_lines.Given as goal
 
 abbrev pub invariant-loop-s : goal.invariant-loop-s
-invariant-loop-s l = Joining most_line (line_of l.signals l.events l.table) (2 ^ l.signals) l.initial.page l.at l.s l.page l.next
+invariant-loop-s l = Joining most_line (line_of l.signals l.events l.table) (2 ^ l.signals) l.initial.page l.at l.s
+    l.page l.next
 
 abbrev pub decreases-loop-s : goal.decreases-loop-s
 decreases-loop-s l = 2 ^ l.signals - l.s

@@ -10,7 +10,8 @@ use Rattle.page.proofs.Join.{Joining}
 use Rattle.listing.proofs.push_names.Given as goal
 
 abbrev pub invariant-loop-u : goal.invariant-loop-u
-invariant-loop-u l = Joining 9 (λ i. comma ∷ name_of_lem l.network l.sheet i) l.network.events l.initial.page l.at l.u l.page l.next × (l.u-end ≡ l.network.events)
+invariant-loop-u l = Joining 9 (λ i. comma ∷ name_of_lem l.network l.sheet i) l.network.events l.initial.page l.at l.u
+    l.page l.next × (l.u-end ≡ l.network.events)
 
 abbrev pub decreases-loop-u : goal.decreases-loop-u
 decreases-loop-u l = l.network.events - l.u

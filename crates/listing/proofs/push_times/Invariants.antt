@@ -8,7 +8,8 @@ use Rattle.listing.specs.Listing.{time_texts}
 use Rattle.listing.proofs.push_times.Given as goal
 
 abbrev pub invariant-loop-u : goal.invariant-loop-u
-invariant-loop-u l = Joining 6 (λ i. comma ∷ time_texts l.events l.table l.s i) l.events l.initial.page l.at l.u l.page l.next
+invariant-loop-u l = Joining 6 (λ i. comma ∷ time_texts l.events l.table l.s i) l.events l.initial.page l.at l.u l.page
+    l.next
 
 abbrev pub decreases-loop-u : goal.decreases-loop-u
 decreases-loop-u l = l.events - l.u

@@ -20,5 +20,6 @@ loop-p-preserved c =
 pub returns : goal.returns
 returns c =
     let args = c.args in
-    append_as (scenario_text-some args.s args.signals c.if-signals-eq0.false) (join-all c.loop-p.invariant.0 (omega arith))
+    append_as (scenario_text-some args.s args.signals c.if-signals-eq0.false) (join-all c.loop-p.invariant.0
+    (omega arith))
     (omega arith)

@@ -27,7 +27,8 @@ returns-in-At c =
     let short : length c.args.printed.now ≤ longest_read = omega (arith, c.if-printed-gt-LONGEST.false) in
     let begins : c.head_of-head.result.fits ≡ true = not-false _ c.if-not-head.false in
     let fits : let args = c.args in
-    header_fits (header args.sheet.now args.network) args.printed.now ≡ true = sym c.head_of-head.ensures.answer ∙ begins in
+    header_fits (header args.sheet.now args.network) args.printed.now ≡ true = sym c.head_of-head.ensures.answer
+    ∙ begins in
     let form : let args = c.args in
     c.rows_form-form.result
     ≡ fault_answer (rows_misfit args.printed.now (length (header args.sheet.now args.network))
@@ -40,7 +41,8 @@ returns-in-Nowhere c =
     let short : length c.args.printed.now ≤ longest_read = omega (arith, c.if-printed-gt-LONGEST.false) in
     let begins : c.head_of-head.result.fits ≡ true = not-false _ c.if-not-head.false in
     let fits : let args = c.args in
-    header_fits (header args.sheet.now args.network) args.printed.now ≡ true = sym c.head_of-head.ensures.answer ∙ begins in
+    header_fits (header args.sheet.now args.network) args.printed.now ≡ true = sym c.head_of-head.ensures.answer
+    ∙ begins in
     let form : let args = c.args in
     c.rows_form-form.result
     ≡ fault_answer (rows_misfit args.printed.now (length (header args.sheet.now args.network))

@@ -31,19 +31,22 @@ slice_bounds-until-start c =
 pub overflow_add-end : goal.overflow_add-end
 overflow_add-end c =
     let more : suc c.loop-u.u < length (fields c.args.line.now) = omega (arith, c.requires.0) in
-    let text : TextAt c.args.line.now c.loop-u.u c.loop-u.at c.until-e.result = text_at c.loop-u.invariant.reached more _ c.until-e.ensures in
+    let text : TextAt c.args.line.now c.loop-u.u c.loop-u.at c.until-e.result = text_at c.loop-u.invariant.reached more
+    _ c.until-e.ensures in
     omega (arith, text.inside)
 
 pub slice_bounds-put_minute-end : goal.slice_bounds-put_minute-end
 slice_bounds-put_minute-end c =
     let more : suc c.loop-u.u < length (fields c.args.line.now) = omega (arith, c.requires.0) in
-    let text : TextAt c.args.line.now c.loop-u.u c.loop-u.at c.until-e.result = text_at c.loop-u.invariant.reached more _ c.until-e.ensures in
+    let text : TextAt c.args.line.now c.loop-u.u c.loop-u.at c.until-e.result = text_at c.loop-u.invariant.reached more
+    _ c.until-e.ensures in
     omega (arith, text.inside)
 
 pub returns-then-not-put_minute : goal.returns-then-not-put_minute
 returns-then-not-put_minute c =
     let more : suc c.loop-u.u < length (fields c.args.line.now) = omega (arith, c.requires.0) in
-    let text : TextAt c.args.line.now c.loop-u.u c.loop-u.at c.until-e.result = text_at c.loop-u.invariant.reached more _ c.until-e.ensures in
+    let text : TextAt c.args.line.now c.loop-u.u c.loop-u.at c.until-e.result = text_at c.loop-u.invariant.reached more
+    _ c.until-e.ensures in
     let no = c.if-not-put_minute.true in
     row-fault c.loop-u.invariant (omega arith)
     (rw (no, text.text) at c.put_minute.ensures)
@@ -51,7 +54,8 @@ returns-then-not-put_minute c =
 pub loop-u-preserved : goal.loop-u-preserved
 loop-u-preserved c =
     let more : suc c.loop-u.u < length (fields c.args.line.now) = omega (arith, c.requires.0) in
-    let text : TextAt c.args.line.now c.loop-u.u c.loop-u.at c.until-e.result = text_at c.loop-u.invariant.reached more _ c.until-e.ensures in
+    let text : TextAt c.args.line.now c.loop-u.u c.loop-u.at c.until-e.result = text_at c.loop-u.invariant.reached more
+    _ c.until-e.ensures in
     let yes = c.if-not-put_minute.false in
     row_next c.loop-u.invariant (omega arith) c.requires.1
     (rw (yes, text.text) at c.put_minute.ensures) _ text.next

@@ -22,7 +22,8 @@ slice_bounds-is_row-end c =
 pub returns-then-is_row : goal.returns-then-is_row
 returns-then-is_row c =
     let fits-is : let a = c.args in
-    ends_at a.rest.now 0 && is_row_lem a.signals a.events a.s (line_at a.rest.now 0) ≡ c.is_row.result = let rest = c.args.rest.now in
+    ends_at a.rest.now 0 && is_row_lem a.signals a.events a.s (line_at a.rest.now 0) ≡ c.is_row.result = let rest =
+    c.args.rest.now in
     let until = c.until-e in
     rw (
       line-ends rest until.result until.ensures c.if-e-rest.false,
@@ -34,7 +35,8 @@ returns-then-is_row c =
 pub returns : goal.returns
 returns c =
     let fits-is : let a = c.args in
-    ends_at a.rest.now 0 && is_row_lem a.signals a.events a.s (line_at a.rest.now 0) ≡ c.is_row.result = let rest = c.args.rest.now in
+    ends_at a.rest.now 0 && is_row_lem a.signals a.events a.s (line_at a.rest.now 0) ≡ c.is_row.result = let rest =
+    c.args.rest.now in
     let until = c.until-e in
     rw (
       line-ends rest until.result until.ensures c.if-e-rest.false,

@@ -24,7 +24,8 @@ returns-in-Misfit c =
     let row_is : let args = c.args in
     let bytes = args.printed.now in
     c.row_at-row.result
-    ≡ line_answer (ends_at bytes c.loop-s.at && is_row_lem args.signals args.events c.loop-s.s (line_at bytes c.loop-s.at))
+    ≡ line_answer (ends_at bytes c.loop-s.at && is_row_lem args.signals args.events c.loop-s.s
+    (line_at bytes c.loop-s.at))
     (length (line_at bytes c.loop-s.at)) = rw (take-drop c.args.printed.now c.loop-s.at) at c.row_at-row.ensures in
     rw c.line_number.ensures
     (forming-fault c.loop-s.invariant more
@@ -36,7 +37,8 @@ overflow_add-at c =
     let row_is : let args = c.args in
     let bytes = args.printed.now in
     c.row_at-row.result
-    ≡ line_answer (ends_at bytes c.loop-s.at && is_row_lem args.signals args.events c.loop-s.s (line_at bytes c.loop-s.at))
+    ≡ line_answer (ends_at bytes c.loop-s.at && is_row_lem args.signals args.events c.loop-s.s
+    (line_at bytes c.loop-s.at))
     (length (line_at bytes c.loop-s.at)) = rw (take-drop c.args.printed.now c.loop-s.at) at c.row_at-row.ensures in
     let next : let args = c.args in
     Forming args.printed.now args.first args.signals args.events (c.loop-s.s + 1)
@@ -50,7 +52,8 @@ overflow_add-at-in-Fits c =
     let row_is : let args = c.args in
     let bytes = args.printed.now in
     c.row_at-row.result
-    ≡ line_answer (ends_at bytes c.loop-s.at && is_row_lem args.signals args.events c.loop-s.s (line_at bytes c.loop-s.at))
+    ≡ line_answer (ends_at bytes c.loop-s.at && is_row_lem args.signals args.events c.loop-s.s
+    (line_at bytes c.loop-s.at))
     (length (line_at bytes c.loop-s.at)) = rw (take-drop c.args.printed.now c.loop-s.at) at c.row_at-row.ensures in
     let next : let args = c.args in
     Forming args.printed.now args.first args.signals args.events (c.loop-s.s + 1)
@@ -65,7 +68,8 @@ loop-s-preserved c =
     let row_is : let args = c.args in
     let bytes = args.printed.now in
     c.row_at-row.result
-    ≡ line_answer (ends_at bytes c.loop-s.at && is_row_lem args.signals args.events c.loop-s.s (line_at bytes c.loop-s.at))
+    ≡ line_answer (ends_at bytes c.loop-s.at && is_row_lem args.signals args.events c.loop-s.s
+    (line_at bytes c.loop-s.at))
     (length (line_at bytes c.loop-s.at)) = rw (take-drop c.args.printed.now c.loop-s.at) at c.row_at-row.ensures in
     let fits = line-fits _ _ _ (sym c.in-Fits.is ∙ row_is) in
     forming-next c.loop-s.invariant more fits.0 _ fits.1

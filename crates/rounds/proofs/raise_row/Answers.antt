@@ -95,7 +95,8 @@ raise_by_scenario-requires c =
     let a = c.args in
     ruled_is a.counts.now a.lists.now a.t.now a.s row_of_lem lift.ensures
     raise-by-bounds.ensures c.lower.ensures in
-    let o-few : Few 32767 c.loop-d.o = raising_few c.requires.1 c.requires.2 c.args.s c.requires.0 firsts c.loop-d.d c.loop-d.invariant.1
+    let o-few : Few 32767 c.loop-d.o = raising_few c.requires.1 c.requires.2 c.args.s c.requires.0 firsts c.loop-d.d
+    c.loop-d.invariant.1
     by-bounds c.loop-d.invariant.2 in
     let d = c.loop-d.d in
     let taken = c.loop-d-test.true in
@@ -126,13 +127,16 @@ store_row-requires c =
     let a = c.args in
     ruled_is a.counts.now a.lists.now a.t.now a.s row_of_lem lift.ensures
     raise-by-bounds.ensures c.lower.ensures in
-    let cleared : Row c.if-frame.o (λ u. cond (present c.args.frame c.args.s u) (get_or c.loop-d.o u 0) 0) = elim c.if-frame.branch [
+    let cleared : Row c.if-frame.o (λ u. cond (present c.args.frame c.args.s u) (get_or c.loop-d.o u 0) 0) =
+    elim c.if-frame.branch [
       | then-frame w ↦ rw w.o-is w.clear_absent.ensures
       | else-frame w ↦ rw w.o-is (kept_row c.args.frame c.args.s w.if-frame.false c.loop-d.invariant.2.sized)
     ] in
-    let o-few : Few 32767 c.loop-d.o = raising_few c.requires.1 c.requires.2 c.args.s c.requires.0 firsts c.loop-d.d c.loop-d.invariant.1
+    let o-few : Few 32767 c.loop-d.o = raising_few c.requires.1 c.requires.2 c.args.s c.requires.0 firsts c.loop-d.d
+    c.loop-d.invariant.1
     by-bounds c.loop-d.invariant.2 in
-    let cleared-few : Few 32767 c.if-frame.o = λ u l. rw (cleared.is u l) (cond_le (present c.args.frame c.args.s u) _ 32767 (λ _. o-few u l)) in
+    let cleared-few : Few 32767 c.if-frame.o = λ u l. rw (cleared.is u l) (cond_le (present c.args.frame c.args.s u) _
+    32767 (λ _. o-few u l)) in
     let a = c.args in (
       s-in,
       c.requires.3,
@@ -167,7 +171,8 @@ returns c =
     let a = c.args in
     ruled_is a.counts.now a.lists.now a.t.now a.s row_of_lem lift.ensures
     raise-by-bounds.ensures c.lower.ensures in
-    let cleared : Row c.if-frame.o (λ u. cond (present c.args.frame c.args.s u) (get_or c.loop-d.o u 0) 0) = elim c.if-frame.branch [
+    let cleared : Row c.if-frame.o (λ u. cond (present c.args.frame c.args.s u) (get_or c.loop-d.o u 0) 0) =
+    elim c.if-frame.branch [
       | then-frame w ↦ rw w.o-is w.clear_absent.ensures
       | else-frame w ↦ rw w.o-is (kept_row c.args.frame c.args.s w.if-frame.false c.loop-d.invariant.2.sized)
     ] in

@@ -8,7 +8,8 @@ use Rattle.rounds.proofs.Raise.{across}
 use Rattle.rounds.proofs.raise_row.Given as goal
 
 abbrev pub invariant-loop-d : goal.invariant-loop-d
-invariant-loop-d l = (1 ≤ l.d) × (l.d ≤ l.scenarios) × Row l.o (λ u. max (get_or l.initial.o u 0) (across l.t l.first l.s l.d u))
+invariant-loop-d l = (1 ≤ l.d) × (l.d ≤ l.scenarios) × Row l.o (λ u. max (get_or l.initial.o u 0)
+    (across l.t l.first l.s l.d u))
 
 abbrev pub decreases-loop-d : goal.decreases-loop-d
 decreases-loop-d l = l.scenarios - l.d

@@ -7,7 +7,8 @@ use Rattle.rounds.proofs.Rounding.{greatest, Rounding}
 use Rattle.rounds.proofs.Rounding.{climb_at-most, highest_at-most}
 use Rattle.rounds.proofs.Rounded.{framed-times, framed-rounds, ends_passing, ends_resting, ends_rising}
 use Rattle.rounds.proofs.Usable.{raised-few}
-use Rattle.rounds.proofs.round.Goals.{then-frame-greatest-via-then-frame-greatest, then-frame-greatest-via-else-frame-greatest+then-highest-gt0}
+use Rattle.rounds.proofs.round.Goals.{then-frame-greatest-via-then-frame-greatest}
+use Rattle.rounds.proofs.round.Goals.{then-frame-greatest-via-else-frame-greatest+then-highest-gt0}
 use Rattle.rounds.proofs.round.Goals as goal
 
 pub raise_row-requires : goal.raise_row-requires
@@ -17,7 +18,8 @@ raise_row-requires c =
     a.t.now c.loop-s.new c.loop-s.climb c.loop-s.highest c.loop-s.s in
     let rounding : Invariant = let U = c.requires.0 in c.loop-s.invariant U.network U.compiled in
     let made-few : (r u : ℕ) → r < c.args.frame.scenarios → u < 16
-    → raised_at c.requires.0.network c.args.counts.now c.args.lists.now c.args.t.now r u ≤ 32767 = λ r u h l. omega (arith, raised-few c.requires.0 c.requires.1 r h u l) in
+    → raised_at c.requires.0.network c.args.counts.now c.args.lists.now c.args.t.now r u ≤ 32767 = λ r u h l. omega
+    (arith, raised-few c.requires.0 c.requires.1 r h u l) in
     let climb-few : Few 32767 c.loop-s.climb = climb_at-most rounding 32767 made-few in
     let highest-few : Few 32767 c.loop-s.highest = highest_at-most rounding 32767 made-few in
     let pre = c.requires in
@@ -31,7 +33,8 @@ greatest-requires c =
     a.t.now c.loop-s.new c.loop-s.climb c.loop-s.highest c.loop-s.s in
     let rounding : Invariant = let U = c.requires.0 in c.loop-s.invariant U.network U.compiled in
     let made-few : (r u : ℕ) → r < c.args.frame.scenarios → u < 16
-    → raised_at c.requires.0.network c.args.counts.now c.args.lists.now c.args.t.now r u ≤ 32767 = λ r u h l. omega (arith, raised-few c.requires.0 c.requires.1 r h u l) in
+    → raised_at c.requires.0.network c.args.counts.now c.args.lists.now c.args.t.now r u ≤ 32767 = λ r u h l. omega
+    (arith, raised-few c.requires.0 c.requires.1 r h u l) in
     let highest-few : Few 32767 c.loop-s.highest = highest_at-most rounding 32767 made-few in
     highest-few
 
@@ -53,7 +56,8 @@ greatest-requires-2 c =
     a.t.now c.loop-s.new c.loop-s.climb c.loop-s.highest c.loop-s.s in
     let rounding : Invariant = let U = c.requires.0 in c.loop-s.invariant U.network U.compiled in
     let made-few : (r u : ℕ) → r < c.args.frame.scenarios → u < 16
-    → raised_at c.requires.0.network c.args.counts.now c.args.lists.now c.args.t.now r u ≤ 32767 = λ r u h l. omega (arith, raised-few c.requires.0 c.requires.1 r h u l) in
+    → raised_at c.requires.0.network c.args.counts.now c.args.lists.now c.args.t.now r u ≤ 32767 = λ r u h l. omega
+    (arith, raised-few c.requires.0 c.requires.1 r h u l) in
     let climb-few : Few 32767 c.loop-s.climb = climb_at-most rounding 32767 made-few in
     climb-few
 

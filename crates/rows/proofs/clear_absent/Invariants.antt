@@ -8,7 +8,8 @@ use Rattle.rows.specs.Rows.{Wrote}
 use Rattle.rows.proofs.clear_absent.Given as goal
 
 abbrev pub invariant-loop-u : goal.invariant-loop-u
-invariant-loop-u l = (l.u ≤ 16) × Wrote l.initial.o l.o 0 l.u (λ k. cond (present l.frame l.s k) (get_or l.initial.o k 0) 0)
+invariant-loop-u l = (l.u ≤ 16) × Wrote l.initial.o l.o 0 l.u (λ k. cond (present l.frame l.s k)
+    (get_or l.initial.o k 0) 0)
 
 abbrev pub decreases-loop-u : goal.decreases-loop-u
 decreases-loop-u l = 16 - l.u

@@ -8,7 +8,8 @@ use Rattle.rows.specs.Rows.{Wrote}
 use Rattle.rows.proofs.copy_row.Given as goal
 
 abbrev pub invariant-loop-u : goal.invariant-loop-u
-invariant-loop-u l = (l.u ≤ l.n) × Wrote l.initial.out l.out l.a l.u (λ k. cond (present l.frame l.s k) (get_or l.t (l.s * 16 + k) 0) 65535)
+invariant-loop-u l = (l.u ≤ l.n) × Wrote l.initial.out l.out l.a l.u (λ k. cond (present l.frame l.s k)
+    (get_or l.t (l.s * 16 + k) 0) 65535)
 
 abbrev pub decreases-loop-u : goal.decreases-loop-u
 decreases-loop-u l = l.n - l.u

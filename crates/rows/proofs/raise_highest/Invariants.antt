@@ -5,7 +5,8 @@ use Rattle.rows.specs.Rows.{Wrote}
 use Rattle.rows.proofs.raise_highest.Given as goal
 
 abbrev pub invariant-loop-u : goal.invariant-loop-u
-invariant-loop-u l = (l.u ≤ 16) × Wrote l.initial.highest l.highest 0 l.u (λ k. max (get_or l.initial.highest k 0) (get_or l.o k 0))
+invariant-loop-u l = (l.u ≤ 16) × Wrote l.initial.highest l.highest 0 l.u (λ k. max (get_or l.initial.highest k 0)
+    (get_or l.o k 0))
 
 abbrev pub decreases-loop-u : goal.decreases-loop-u
 decreases-loop-u l = 16 - l.u

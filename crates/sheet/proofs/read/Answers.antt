@@ -16,15 +16,19 @@ returns-then-sheet-gt-LONGEST c =
 pub read_after-events-requires : goal.read_after-events-requires
 read_after-events-requires c =
     let sheet-1 : List ℕ = c.args.sheet.now in
-    let at-events : Ready sheet-1 (whole Events) (progress_of c.read_horizon-horizon.result) = horizon_ready sheet-1 (progress_of c.read_horizon-horizon.result) c.read_horizon-horizon.ensures in
+    let at-events : Ready sheet-1 (whole Events) (progress_of c.read_horizon-horizon.result) = horizon_ready sheet-1
+    (progress_of c.read_horizon-horizon.result) c.read_horizon-horizon.ensures in
     (c.if-sheet-gt-LONGEST.false, at-events)
 
 pub read_after-signals-requires : goal.read_after-signals-requires
 read_after-signals-requires c =
     let sheet-1 : List ℕ = c.args.sheet.now in
     let sheet-2 : List ℕ = sheet-1 in
-    let at-events : Ready sheet-1 (whole Events) (progress_of c.read_horizon-horizon.result) = horizon_ready sheet-1 (progress_of c.read_horizon-horizon.result) c.read_horizon-horizon.ensures in
-    let at-signals : Ready sheet-2 (whole Signals) (progress_of c.read_after-events.result) = section_ready sheet-2 Events (progress_of c.read_horizon-horizon.result) (progress_of c.read_after-events.result)
+    let at-events : Ready sheet-1 (whole Events) (progress_of c.read_horizon-horizon.result) = horizon_ready sheet-1
+    (progress_of c.read_horizon-horizon.result) c.read_horizon-horizon.ensures in
+    let at-signals : Ready sheet-2 (whole Signals) (progress_of c.read_after-events.result) =
+    section_ready sheet-2 Events (progress_of c.read_horizon-horizon.result)
+    (progress_of c.read_after-events.result)
     c.read_after-events.ensures at-events in
     (c.if-sheet-gt-LONGEST.false, at-signals)
 
@@ -33,10 +37,14 @@ read_after-rules-requires c =
     let sheet-1 : List ℕ = c.args.sheet.now in
     let sheet-2 : List ℕ = sheet-1 in
     let sheet-3 : List ℕ = sheet-2 in
-    let at-events : Ready sheet-1 (whole Events) (progress_of c.read_horizon-horizon.result) = horizon_ready sheet-1 (progress_of c.read_horizon-horizon.result) c.read_horizon-horizon.ensures in
-    let at-signals : Ready sheet-2 (whole Signals) (progress_of c.read_after-events.result) = section_ready sheet-2 Events (progress_of c.read_horizon-horizon.result) (progress_of c.read_after-events.result)
+    let at-events : Ready sheet-1 (whole Events) (progress_of c.read_horizon-horizon.result) = horizon_ready sheet-1
+    (progress_of c.read_horizon-horizon.result) c.read_horizon-horizon.ensures in
+    let at-signals : Ready sheet-2 (whole Signals) (progress_of c.read_after-events.result) =
+    section_ready sheet-2 Events (progress_of c.read_horizon-horizon.result)
+    (progress_of c.read_after-events.result)
     c.read_after-events.ensures at-events in
-    let at-rules : Ready sheet-3 (whole Rules) (progress_of c.read_after-signals.result) = section_ready sheet-3 Signals (progress_of c.read_after-events.result) (progress_of c.read_after-signals.result)
+    let at-rules : Ready sheet-3 (whole Rules) (progress_of c.read_after-signals.result) =
+    section_ready sheet-3 Signals (progress_of c.read_after-events.result) (progress_of c.read_after-signals.result)
     c.read_after-signals.ensures at-signals in
     (c.if-sheet-gt-LONGEST.false, at-rules)
 
@@ -46,12 +54,17 @@ read_last-last-requires c =
     let sheet-2 : List ℕ = sheet-1 in
     let sheet-3 : List ℕ = sheet-2 in
     let sheet-4 : List ℕ = sheet-3 in
-    let at-events : Ready sheet-1 (whole Events) (progress_of c.read_horizon-horizon.result) = horizon_ready sheet-1 (progress_of c.read_horizon-horizon.result) c.read_horizon-horizon.ensures in
-    let at-signals : Ready sheet-2 (whole Signals) (progress_of c.read_after-events.result) = section_ready sheet-2 Events (progress_of c.read_horizon-horizon.result) (progress_of c.read_after-events.result)
+    let at-events : Ready sheet-1 (whole Events) (progress_of c.read_horizon-horizon.result) = horizon_ready sheet-1
+    (progress_of c.read_horizon-horizon.result) c.read_horizon-horizon.ensures in
+    let at-signals : Ready sheet-2 (whole Signals) (progress_of c.read_after-events.result) =
+    section_ready sheet-2 Events (progress_of c.read_horizon-horizon.result)
+    (progress_of c.read_after-events.result)
     c.read_after-events.ensures at-events in
-    let at-rules : Ready sheet-3 (whole Rules) (progress_of c.read_after-signals.result) = section_ready sheet-3 Signals (progress_of c.read_after-events.result) (progress_of c.read_after-signals.result)
+    let at-rules : Ready sheet-3 (whole Rules) (progress_of c.read_after-signals.result) =
+    section_ready sheet-3 Signals (progress_of c.read_after-events.result) (progress_of c.read_after-signals.result)
     c.read_after-signals.ensures at-signals in
-    let at-reactions : Ready sheet-4 (whole Reactions) (progress_of c.read_after-rules.result) = section_ready sheet-4 Rules (progress_of c.read_after-signals.result) (progress_of c.read_after-rules.result)
+    let at-reactions : Ready sheet-4 (whole Reactions) (progress_of c.read_after-rules.result) =
+    section_ready sheet-4 Rules (progress_of c.read_after-signals.result) (progress_of c.read_after-rules.result)
     c.read_after-rules.ensures at-rules in
     (c.if-sheet-gt-LONGEST.false, at-reactions)
 

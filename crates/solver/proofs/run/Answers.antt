@@ -29,7 +29,8 @@ pub pass_over-made-requires : goal.pass_over-made-requires
 pass_over-made-requires c =
     let turned : let args = c.args in
     Underway args.frame args.counts.now args.lists.now args.a.now c.keep-at.new.base
-    c.copy.new.a c.keep-at.result (c.loop-rounds.rounds + 1) = underway_turn c.loop-rounds.invariant.5 c.requires.0 c.in-Rises.is
+    c.copy.new.a c.keep-at.result (c.loop-rounds.rounds + 1) = underway_turn c.loop-rounds.invariant.5 c.requires.0
+    c.in-Rises.is
     c.round.ensures c.cells_of-cells.ensures.0 c.copy.ensures
     c.keep-at.ensures in
     let K = turned in
@@ -39,13 +40,15 @@ pub returns-then-last-gt0 : goal.returns-then-last-gt0
 returns-then-last-gt0 c =
     let turned : let args = c.args in
     Underway args.frame args.counts.now args.lists.now args.a.now c.keep-at.new.base
-    c.copy.new.a c.keep-at.result (c.loop-rounds.rounds + 1) = underway_turn c.loop-rounds.invariant.5 c.requires.0 c.in-Rises.is
+    c.copy.new.a c.keep-at.result (c.loop-rounds.rounds + 1) = underway_turn c.loop-rounds.invariant.5 c.requires.0
+    c.in-Rises.is
     c.round.ensures c.cells_of-cells.ensures.0 c.copy.ensures
     c.keep-at.ensures in
     let leapt : let args = c.args in
     Underway args.frame args.counts.now args.lists.now args.a.now c.pass_over-made.new.a
     c.pass_over-made.new.x (c.keep-at.result + c.pass_over-made.result)
-    (c.loop-rounds.rounds + 1 + c.pass_over-made.result) = underway_leapt turned c.pass_over-made.ensures.1 c.pass_over-made.ensures.2 in
+    (c.loop-rounds.rounds + 1 + c.pass_over-made.result) = underway_leapt turned c.pass_over-made.ensures.1
+    c.pass_over-made.ensures.2 in
     let taken = c.loop-rounds-test.true in
     let J = leapt in (
       J.from_base.times.sized,
@@ -58,13 +61,15 @@ pub loop-rounds-preserved : goal.loop-rounds-preserved
 loop-rounds-preserved c =
     let turned : let args = c.args in
     Underway args.frame args.counts.now args.lists.now args.a.now c.keep-at.new.base
-    c.copy.new.a c.keep-at.result (c.loop-rounds.rounds + 1) = underway_turn c.loop-rounds.invariant.5 c.requires.0 c.in-Rises.is
+    c.copy.new.a c.keep-at.result (c.loop-rounds.rounds + 1) = underway_turn c.loop-rounds.invariant.5 c.requires.0
+    c.in-Rises.is
     c.round.ensures c.cells_of-cells.ensures.0 c.copy.ensures
     c.keep-at.ensures in
     let leapt : let args = c.args in
     Underway args.frame args.counts.now args.lists.now args.a.now c.pass_over-made.new.a
     c.pass_over-made.new.x (c.keep-at.result + c.pass_over-made.result)
-    (c.loop-rounds.rounds + 1 + c.pass_over-made.result) = underway_leapt turned c.pass_over-made.ensures.1 c.pass_over-made.ensures.2 in
+    (c.loop-rounds.rounds + 1 + c.pass_over-made.result) = underway_leapt turned c.pass_over-made.ensures.1
+    c.pass_over-made.ensures.2 in
     let usable = c.requires.0 in
     let round = c.round in (
       omega (arith, c.loop-rounds-test.true, c.pass_over-made.ensures.0),

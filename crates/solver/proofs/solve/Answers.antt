@@ -34,19 +34,22 @@ copy_out-requires c =
 
 pub returns-in-Passes : goal.returns-in-Passes
 returns-in-Passes c =
-    let ran : RunIs c.args.network budget zeros c.run-ended.new.a c.run-ended.result = c.run-ended.ensures.1 _ c.compile.ensures in
+    let ran : RunIs c.args.network budget zeros c.run-ended.new.a c.run-ended.result =
+    c.run-ended.ensures.1 _ c.compile.ensures in
     solved_stopped _ c.requires.0 Passes _ (λ e. zero-is-one cc)
     (run_as c.in-Passes.is ran) _
 
 pub returns-in-Spent : goal.returns-in-Spent
 returns-in-Spent c =
-    let ran : RunIs c.args.network budget zeros c.run-ended.new.a c.run-ended.result = c.run-ended.ensures.1 _ c.compile.ensures in
+    let ran : RunIs c.args.network budget zeros c.run-ended.new.a c.run-ended.result =
+    c.run-ended.ensures.1 _ c.compile.ensures in
     solved_stopped _ c.requires.0 Spent _ (λ e. zero-is-one cc)
     (run_as c.in-Spent.is ran) _
 
 pub returns-in-Rests : goal.returns-in-Rests
 returns-in-Rests c =
-    let ran : RunIs c.args.network budget zeros c.run-ended.new.a c.run-ended.result = c.run-ended.ensures.1 _ c.compile.ensures in
+    let ran : RunIs c.args.network budget zeros c.run-ended.new.a c.run-ended.result =
+    c.run-ended.ensures.1 _ c.compile.ensures in
     solved_resting _ c.requires.0 (run_as c.in-Rests.is ran) _ _
     (copied_framed _ _ c.compile.ensures.framed _ _ _ _ refl
     c.copy_out.ensures)

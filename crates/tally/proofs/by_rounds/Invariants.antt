@@ -5,7 +5,7 @@ use Rattle.rows.specs.Rows.{FrameTimes}
 use Rattle.tally.proofs.by_rounds.Given as goal
 
 abbrev pub invariant-loop-rounds : goal.invariant-loop-rounds
-invariant-loop-rounds l =    (l.rounds ≤ 2580481) × (length l.b ≡ 256) × FrameTimes l.frame l.a
+invariant-loop-rounds l = (l.rounds ≤ 2580481) × (length l.b ≡ 256) × FrameTimes l.frame l.a
 
 abbrev pub decreases-loop-rounds : goal.decreases-loop-rounds
 decreases-loop-rounds l = 2580481 - l.rounds

@@ -7,7 +7,8 @@ pub loop-i-preserved : goal.loop-i-preserved
 loop-i-preserved c =
     let here = c.loop-i.invariant in
     elim c.if-line-i-eq44.branch [
-      | then-line-i-eq44 w ↦ rw (w.ends-is ∙ w.put_end.ensures, w.count-is) (cutting_comma here c.loop-i-test.true w.if-line-i-eq44.true)
+      | then-line-i-eq44 w ↦ rw (w.ends-is ∙ w.put_end.ensures, w.count-is)
+          (cutting_comma here c.loop-i-test.true w.if-line-i-eq44.true)
       | else-line-i-eq44 w ↦ rw (w.ends-is, w.count-is) (cutting_byte here c.loop-i-test.true w.if-line-i-eq44.false)
     ]
 

@@ -37,6 +37,7 @@ loop-encodings-preserved c =
     let next = c.decode.ensures in (
       omega arith,
       λ xs h are.
-          collected_more _ h are (c.loop-encodings.invariant.1 xs h are) least.result least.ensures some_left (omega arith) next
+          collected_more _ h are (c.loop-encodings.invariant.1 xs h are) least.result least.ensures some_left
+          (omega arith) next
           c.floor_after-floor.ensures,
     )

@@ -13,6 +13,7 @@ decreases-loop titles last₀ number₀ at₀ last number at = length titles + 1
 pub trials-spec : {M : Type 1} → statement M
 trials-spec =
     tie.close
-    (tie.spec invariant-loop decreases-loop (λ c. search rules) (λ c κs. search rules) (λ c. search rules) (λ c. search rules)
+    (tie.spec invariant-loop decreases-loop (λ c. search rules) (λ c κs. search rules) (λ c. search rules)
+    (λ c. search rules)
     (λ c. search rules) (λ c κs. search rules) (λ c. search rules) (λ c. search rules) (λ c. search rules)
     (λ c. search rules) (λ c. search rules))

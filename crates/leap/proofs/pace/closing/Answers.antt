@@ -36,5 +36,6 @@ loop-q-preserved c =
       omega (arith, c.loop-q-test.true),
       two.times.sized,
       advanced_join c.loop-q.invariant.2 (advanced_copied one c.loop-q.invariant.2.times.sized copy.ensures),
-      advanced_join c.loop-q.invariant.3 (advanced_copied two c.loop-q.invariant.3.times.sized c.copy-in-loop-q.ensures),
+      advanced_join c.loop-q.invariant.3 (advanced_copied two c.loop-q.invariant.3.times.sized
+          c.copy-in-loop-q.ensures),
     )

@@ -7,7 +7,8 @@ use Rattle.leap.specs.Tables.{Advanced}
 use Rattle.leap.proofs.pace.closing.Given as goal
 
 abbrev pub invariant-loop-q : goal.invariant-loop-q
-invariant-loop-q l = (l.q ≤ l.most) × (length l.b ≡ 256) × Advanced l.frame l.counts l.lists l.q l.initial.low l.low × Advanced l.frame l.counts l.lists l.q l.initial.high l.high
+invariant-loop-q l = (l.q ≤ l.most) × (length l.b ≡ 256) × Advanced l.frame l.counts l.lists l.q l.initial.low l.low
+    × Advanced l.frame l.counts l.lists l.q l.initial.high l.high
 
 abbrev pub decreases-loop-q : goal.decreases-loop-q
 decreases-loop-q l = l.most - l.q

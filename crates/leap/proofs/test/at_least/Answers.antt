@@ -14,8 +14,11 @@ pub between-requires : goal.between-requires
 between-requires c =
     let args = c.args in
     let pre = c.requires in
-    let h : args.j * c.loop-frame.l ≤ 10080 * 10080 = mul-le-mul pre.3 c.loop-frame.invariant.in_range_lem in
-    (omega (arith, scenarios_in pre.0), omega (arith, c.reached-last.ensures, c.loop-frame.invariant.in_range_lem), omega arith)
+    let h : args.j * c.loop-frame.l ≤ 10080 * 10080 = mul-le-mul pre.3 c.loop-frame.invariant.in_range_lem in (
+      omega (arith, scenarios_in pre.0),
+      omega (arith, c.reached-last.ensures, c.loop-frame.invariant.in_range_lem),
+      omega arith,
+    )
 
 pub returns-then-next-eq0 : goal.returns-then-next-eq0
 returns-then-next-eq0 c =

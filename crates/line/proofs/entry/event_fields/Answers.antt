@@ -25,7 +25,8 @@ returns-then-not-is_name c =
     let parts : Network = parts_of c.args.n c.args.starts.now c.args.lengths.now 0 [] [] [] [] in
     let parted : List (List ℕ) = fields c.args.line.now in
     let one : length parted ≡ 1 = sym c.cut-cuts.ensures.counted ∙ c.if-cuts-ne1.false in
-    let named : is_name_lem (field 0 parted) ≡ c.is_name.result = ap is_name_lem (sym c.field-name.ensures.text) ∙ sym c.is_name.ensures in
+    let named : is_name_lem (field 0 parted) ≡ c.is_name.result = ap is_name_lem (sym c.field-name.ensures.text)
+    ∙ sym c.is_name.ensures in
     sym (rw (event_ill c.args.sheet.now parts parted one
     (named ∙ c.if-not-is_name.true)))
 
@@ -34,7 +35,8 @@ returns-then-is_found c =
     let parts : Network = parts_of c.args.n c.args.starts.now c.args.lengths.now 0 [] [] [] [] in
     let parted : List (List ℕ) = fields c.args.line.now in
     let one : length parted ≡ 1 = sym c.cut-cuts.ensures.counted ∙ c.if-cuts-ne1.false in
-    let named : is_name_lem (field 0 parted) ≡ c.is_name.result = ap is_name_lem (sym c.field-name.ensures.text) ∙ sym c.is_name.ensures in
+    let named : is_name_lem (field 0 parted) ≡ c.is_name.result = ap is_name_lem (sym c.field-name.ensures.text)
+    ∙ sym c.is_name.ensures in
     let known : answers (event_of c.args.sheet.now parts
     (field 0 parted))
     ≡ c.is_found.result = let args = c.args in
@@ -52,7 +54,8 @@ returns c =
     let parts : Network = parts_of c.args.n c.args.starts.now c.args.lengths.now 0 [] [] [] [] in
     let parted : List (List ℕ) = fields c.args.line.now in
     let one : length parted ≡ 1 = sym c.cut-cuts.ensures.counted ∙ c.if-cuts-ne1.false in
-    let named : is_name_lem (field 0 parted) ≡ c.is_name.result = ap is_name_lem (sym c.field-name.ensures.text) ∙ sym c.is_name.ensures in
+    let named : is_name_lem (field 0 parted) ≡ c.is_name.result = ap is_name_lem (sym c.field-name.ensures.text)
+    ∙ sym c.is_name.ensures in
     let known : answers (event_of c.args.sheet.now parts
     (field 0 parted))
     ≡ c.is_found.result = let args = c.args in

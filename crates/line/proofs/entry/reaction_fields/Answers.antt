@@ -34,7 +34,8 @@ overflow_cast-count c =
     let answer : List ℕ → HeadingLine =
     λ f. section_answer (first_failing_lem (count_tests L.fastest L.slowest f)) (magnitude f) n in
     c.count_of-read.ensures ∙ ap answer c.field.ensures.text in
-    let told = section-answer why (magnitude (field 1 cells)) (length c.args.line.now) c.in-Count.count c.in-Count.length
+    let told = section-answer why (magnitude (field 1 cells)) (length c.args.line.now) c.in-Count.count
+    c.in-Count.length
     (sym said ∙ c.in-Count.is) in
     let w = count-within L.fastest L.slowest (field 1 cells) told.0 in
     omega (arith, w.most, told.1)
@@ -65,7 +66,8 @@ returns-in-Count c =
     let answer : List ℕ → HeadingLine =
     λ f. section_answer (first_failing_lem (count_tests L.fastest L.slowest f)) (magnitude f) n in
     c.count_of-read.ensures ∙ ap answer c.field.ensures.text in
-    let told = section-answer why (magnitude (field 1 cells)) (length c.args.line.now) c.in-Count.count c.in-Count.length
+    let told = section-answer why (magnitude (field 1 cells)) (length c.args.line.now) c.in-Count.count
+    c.in-Count.length
     (sym said ∙ c.in-Count.is) in
     let text = c.field-in-Count.ensures.text in
     λ sheet.

@@ -27,7 +27,8 @@ returns-in_default c =
     let parts : Network = parts_of c.args.n c.args.starts.now c.args.lengths.now c.args.k c.args.letters.now []
     [] [] in
     let parted : List (List ℕ) = fields c.args.line.now in
-    let kind-is : kind_found (kind_of (field 0 parted)) ≡ c.kind_of-found.result = ap (λ (f : List ℕ). kind_found (kind_of f)) (sym c.field.ensures.text) ∙ sym c.kind_of-found.ensures in
+    let kind-is : kind_found (kind_of (field 0 parted)) ≡ c.kind_of-found.result =
+    ap (λ (f : List ℕ). kind_found (kind_of f)) (sym c.field.ensures.text) ∙ sym c.kind_of-found.ensures in
     let fs = parted in
     let other = kind-none (kind_of (field 0 fs)) (kind-is ∙ c.in_default.is) in
     sym (rw (rule-other c.args.sheet.now parts fs other))
@@ -37,12 +38,14 @@ returns-in-IllFormed c =
     let parts : Network = parts_of c.args.n c.args.starts.now c.args.lengths.now c.args.k c.args.letters.now []
     [] [] in
     let parted : List (List ℕ) = fields c.args.line.now in
-    let kind-is : kind_found (kind_of (field 0 parted)) ≡ c.kind_of-found.result = ap (λ (f : List ℕ). kind_found (kind_of f)) (sym c.field.ensures.text) ∙ sym c.kind_of-found.ensures in
+    let kind-is : kind_found (kind_of (field 0 parted)) ≡ c.kind_of-found.result =
+    ap (λ (f : List ℕ). kind_found (kind_of f)) (sym c.field.ensures.text) ∙ sym c.kind_of-found.ensures in
     let kind : kind_of (field 0 parted) ≡ some c.in-Is.kind = kind-some (kind_of (field 0 parted)) c.in-Is.kind (kind-is
     ∙ c.in-Is.is) in
     let five : length parted ≡ 5 = sym c.cut-cuts.ensures.counted
     ∙ c.if-cuts-ne5.false in
-    let says : (x : Limit) → c.limit_of-limit.result ≡ x → LimitSays (field 3 parted) x = λ x e. let read = ap limit_of_lem (sym c.field-2.ensures.text) ∙ sym c.limit_of-limit.ensures ∙ e in
+    let says : (x : Limit) → c.limit_of-limit.result ≡ x → LimitSays (field 3 parted) x = λ x e. let read =
+    ap limit_of_lem (sym c.field-2.ensures.text) ∙ sym c.limit_of-limit.ensures ∙ e in
     rw read at (limit-says (field 3 parted)) in
     let fs = parted in
     let ill = says _ c.in-IllFormed.is in
@@ -54,12 +57,14 @@ returns-in-Beyond c =
     let parts : Network = parts_of c.args.n c.args.starts.now c.args.lengths.now c.args.k c.args.letters.now []
     [] [] in
     let parted : List (List ℕ) = fields c.args.line.now in
-    let kind-is : kind_found (kind_of (field 0 parted)) ≡ c.kind_of-found.result = ap (λ (f : List ℕ). kind_found (kind_of f)) (sym c.field.ensures.text) ∙ sym c.kind_of-found.ensures in
+    let kind-is : kind_found (kind_of (field 0 parted)) ≡ c.kind_of-found.result =
+    ap (λ (f : List ℕ). kind_found (kind_of f)) (sym c.field.ensures.text) ∙ sym c.kind_of-found.ensures in
     let kind : kind_of (field 0 parted) ≡ some c.in-Is.kind = kind-some (kind_of (field 0 parted)) c.in-Is.kind (kind-is
     ∙ c.in-Is.is) in
     let five : length parted ≡ 5 = sym c.cut-cuts.ensures.counted
     ∙ c.if-cuts-ne5.false in
-    let says : (x : Limit) → c.limit_of-limit.result ≡ x → LimitSays (field 3 parted) x = λ x e. let read = ap limit_of_lem (sym c.field-2.ensures.text) ∙ sym c.limit_of-limit.ensures ∙ e in
+    let says : (x : Limit) → c.limit_of-limit.result ≡ x → LimitSays (field 3 parted) x = λ x e. let read =
+    ap limit_of_lem (sym c.field-2.ensures.text) ∙ sym c.limit_of-limit.ensures ∙ e in
     rw read at (limit-says (field 3 parted)) in
     let fs = parted in
     let over = says _ c.in-Beyond.is in
@@ -71,12 +76,14 @@ returns-in-Minutes c =
     let parts : Network = parts_of c.args.n c.args.starts.now c.args.lengths.now c.args.k c.args.letters.now []
     [] [] in
     let parted : List (List ℕ) = fields c.args.line.now in
-    let kind-is : kind_found (kind_of (field 0 parted)) ≡ c.kind_of-found.result = ap (λ (f : List ℕ). kind_found (kind_of f)) (sym c.field.ensures.text) ∙ sym c.kind_of-found.ensures in
+    let kind-is : kind_found (kind_of (field 0 parted)) ≡ c.kind_of-found.result =
+    ap (λ (f : List ℕ). kind_found (kind_of f)) (sym c.field.ensures.text) ∙ sym c.kind_of-found.ensures in
     let kind : kind_of (field 0 parted) ≡ some c.in-Is.kind = kind-some (kind_of (field 0 parted)) c.in-Is.kind (kind-is
     ∙ c.in-Is.is) in
     let five : length parted ≡ 5 = sym c.cut-cuts.ensures.counted
     ∙ c.if-cuts-ne5.false in
-    let says : (x : Limit) → c.limit_of-limit.result ≡ x → LimitSays (field 3 parted) x = λ x e. let read = ap limit_of_lem (sym c.field-2.ensures.text) ∙ sym c.limit_of-limit.ensures ∙ e in
+    let says : (x : Limit) → c.limit_of-limit.result ≡ x → LimitSays (field 3 parted) x = λ x e. let read =
+    ap limit_of_lem (sym c.field-2.ensures.text) ∙ sym c.limit_of-limit.ensures ∙ e in
     rw read at (limit-says (field 3 parted)) in
     let field3 = c.field-in-Minutes in
     let field4 = c.field-in-Minutes-2 in
@@ -91,6 +98,8 @@ returns-in-Minutes c =
     (limit-fits (field 3 fs) c.in-Minutes.bound limit)
     ∙ ap (λ (f : List ℕ). ends_answer sheet Γ f field4.result.now field5.result.now c.in-Is.kind c.in-Minutes.bound n)
     field3.ensures.text
-    ∙ ap (λ (f : List ℕ). ends_answer sheet Γ (field 1 fs) f field5.result.now c.in-Is.kind c.in-Minutes.bound n) field4.ensures.text
-    ∙ ap (λ (f : List ℕ). ends_answer sheet Γ (field 1 fs) (field 2 fs) f c.in-Is.kind c.in-Minutes.bound n) field5.ensures.text
+    ∙ ap (λ (f : List ℕ). ends_answer sheet Γ (field 1 fs) f field5.result.now c.in-Is.kind c.in-Minutes.bound n)
+    field4.ensures.text
+    ∙ ap (λ (f : List ℕ). ends_answer sheet Γ (field 1 fs) (field 2 fs) f c.in-Is.kind c.in-Minutes.bound n)
+    field5.ensures.text
     ∙ ends_entry sheet Γ fs c.in-Is.kind c.in-Minutes.bound n five kind limit

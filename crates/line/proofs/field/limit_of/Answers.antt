@@ -12,14 +12,16 @@ pub returns-then-most-v : goal.returns-then-most-v
 returns-then-most-v c =
     let args = c.args in
     let read_number = c.read_number-n in
-    let f = args.f.now in sym (limit-beyond f false c.in-Plus.v (number_plus L.horizon f c.in-Plus.v (sym read_number.ensures ∙ c.in-Plus.is))
+    let f = args.f.now in sym (limit-beyond f false c.in-Plus.v (number_plus L.horizon f c.in-Plus.v
+    (sym read_number.ensures ∙ c.in-Plus.is))
     c.if-most-v.true)
 
 pub returns-then-most-v-2 : goal.returns-then-most-v-2
 returns-then-most-v-2 c =
     let args = c.args in
     let read_number = c.read_number-n in
-    let f = args.f.now in sym (limit-beyond f true c.in-Minus.v (number_minus L.horizon f c.in-Minus.v (sym read_number.ensures ∙ c.in-Minus.is))
+    let f = args.f.now in sym (limit-beyond f true c.in-Minus.v (number_minus L.horizon f c.in-Minus.v
+    (sym read_number.ensures ∙ c.in-Minus.is))
     c.if-most-v-2.true)
 
 pub returns-in-IllFormed : goal.returns-in-IllFormed
@@ -32,11 +34,13 @@ returns-else-most-v c =
     let args = c.args in
     let read_number = c.read_number-n in
     let f = args.f.now in ap M.Minutes (signed_plus c.in-Plus.v c.if-most-v.false) ∙ sym
-    (limit_plus f c.in-Plus.v (number_plus L.horizon f c.in-Plus.v (sym read_number.ensures ∙ c.in-Plus.is)) c.if-most-v.false)
+    (limit_plus f c.in-Plus.v (number_plus L.horizon f c.in-Plus.v (sym read_number.ensures ∙ c.in-Plus.is))
+    c.if-most-v.false)
 
 pub returns-else-most-v-2 : goal.returns-else-most-v-2
 returns-else-most-v-2 c =
     let args = c.args in
     let read_number = c.read_number-n in
     let f = args.f.now in ap M.Minutes (signed_minus c.in-Minus.v c.if-most-v-2.false) ∙ sym
-    (limit_minus f c.in-Minus.v (number_minus L.horizon f c.in-Minus.v (sym read_number.ensures ∙ c.in-Minus.is)) c.if-most-v-2.false)
+    (limit_minus f c.in-Minus.v (number_minus L.horizon f c.in-Minus.v (sym read_number.ensures ∙ c.in-Minus.is))
+    c.if-most-v-2.false)

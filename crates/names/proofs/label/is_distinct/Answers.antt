@@ -12,12 +12,14 @@ use Rattle.names.proofs.label.is_distinct.Goals as goal
 
 -- the part behind i is the list behind i
 lt-part : (t : List ℕ) (i b : ℕ)
-    → length (up_to b (take (length t - (i + 1)) (drop (i + 1) t))) < length (take (length t - (i + 1)) (drop (i + 1) t))
+    → length (up_to b (take (length t - (i + 1)) (drop (i + 1) t))) < length (take (length t - (i + 1))
+    (drop (i + 1) t))
     → length (up_to b (drop (i + 1) t)) < length (drop (i + 1) t)
 lt-part t i b h = rw (take-drop t (i + 1)) at h
 
 le-part : (t : List ℕ) (i b : ℕ)
-    → length (take (length t - (i + 1)) (drop (i + 1) t)) ≤ length (up_to b (take (length t - (i + 1)) (drop (i + 1) t)))
+    → length (take (length t - (i + 1)) (drop (i + 1) t)) ≤ length
+    (up_to b (take (length t - (i + 1)) (drop (i + 1) t)))
     → length (drop (i + 1) t) ≤ length (up_to b (drop (i + 1) t))
 le-part t i b h = rw (take-drop t (i + 1)) at h
 

@@ -9,7 +9,8 @@ use Rattle.names.specs.Defined.{weights}
 use Rattle.names.proofs.label.weights_of.Given as goal
 
 abbrev pub invariant-loop-i : goal.invariant-loop-i
-invariant-loop-i l = (l.i ≤ length l.t) × (weights l.k l.letters l.v (literals false l.t) ≡ l.sum + weights l.k l.letters l.v (literals l.bang (drop l.i l.t)))
+invariant-loop-i l = (l.i ≤ length l.t) × (weights l.k l.letters l.v (literals false l.t) ≡ l.sum + weights l.k
+    l.letters l.v (literals l.bang (drop l.i l.t)))
 
 abbrev pub decreases-loop-i : goal.decreases-loop-i
 decreases-loop-i l = length l.t - l.i

@@ -44,9 +44,11 @@ loop-p-preserved c =
         | then-mentions t ↦ rw (t.counts-is, t.lists-is)
             (asking_as
             (wait-next c.requires.0 c.requires.1 w p i c.loop-w-test.true c.loop-p-test.true
-            (sym e ∙ t.if-mentions.true) (rw (t.wait_of-wait.ensures, t.reaction_of-reaction.ensures) at t.list_lower.ensures)) (omega arith) (λ σ s u. refl))
+            (sym e ∙ t.if-mentions.true) (rw (t.wait_of-wait.ensures, t.reaction_of-reaction.ensures) at
+            t.list_lower.ensures)) (omega arith) (λ σ s u. refl))
         | else-mentions t ↦ rw (t.counts-is, t.lists-is)
-            (asking_as (wait_skip c.requires.0 c.requires.1 w p i (sym e ∙ t.if-mentions.false)) (omega arith) (λ σ s u. refl))
+            (asking_as (wait_skip c.requires.0 c.requires.1 w p i (sym e ∙ t.if-mentions.false)) (omega arith)
+            (λ σ s u. refl))
       ],
     )
 

@@ -6,13 +6,15 @@ use Rattle.rounds.specs.Compiled.{Asking, all_ask}
 use Rattle.rounds.proofs.compile.list_waits.Given as goal
 
 abbrev pub invariant-loop-p : goal.invariant-loop-p
-invariant-loop-p l = (l.p ≤ l.signals) × Asking l.network l.frame l.counts l.lists (128 + l.w * 4 + l.p) (all_ask l.network l.w l.p)
+invariant-loop-p l = (l.p ≤ l.signals) × Asking l.network l.frame l.counts l.lists (128 + l.w * 4 + l.p)
+    (all_ask l.network l.w l.p)
 
 abbrev pub decreases-loop-p : goal.decreases-loop-p
 decreases-loop-p l = l.signals - l.p
 
 abbrev pub invariant-loop-w : goal.invariant-loop-w
-invariant-loop-w l = (l.w ≤ l.events) × Asking l.network l.frame l.counts l.lists (128 + l.w * 4) (all_ask l.network l.w 0)
+invariant-loop-w l = (l.w ≤ l.events) × Asking l.network l.frame l.counts l.lists (128 + l.w * 4)
+    (all_ask l.network l.w 0)
 
 abbrev pub decreases-loop-w : goal.decreases-loop-w
 decreases-loop-w l = l.events - l.w

@@ -15,7 +15,8 @@ use Rattle.sheet.specs.Reading.{read_entries_lem}
 use Rattle.sheet.proofs.EntriesLeft.{EntriesLeft}
 use Rattle.sheet.proofs.Held.{tests_behind}
 use Rattle.sheet.proofs.Lines.{entry_stop, EntryTurn, entry_turn}
-use Rattle.sheet.proofs.section.read_entries.Goals.{in-Event, in-Signal, in-Rule, in-Reaction, in-Label+then-left-eq1+in-Passed, in-Label+else-left-eq1}
+use Rattle.sheet.proofs.section.read_entries.Goals.{in-Event, in-Signal, in-Rule, in-Reaction}
+use Rattle.sheet.proofs.section.read_entries.Goals.{in-Label+then-left-eq1+in-Passed, in-Label+else-left-eq1}
 use Rattle.sheet.proofs.section.read_entries.Goals as goal
 
 pub returns-in-Refused : goal.returns-in-Refused

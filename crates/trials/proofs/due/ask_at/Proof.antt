@@ -13,6 +13,7 @@ decreases-loop sheet network table minute i₀ t7 i = 15 - i
 pub ask-at-spec : {M : Type 1} → statement M
 ask-at-spec =
     tie.close
-    (tie.spec invariant-loop decreases-loop (λ c. search rules) (λ c κs. search rules) (λ c κs. search rules) (λ c. search rules)
+    (tie.spec invariant-loop decreases-loop (λ c. search rules) (λ c κs. search rules) (λ c κs. search rules)
+    (λ c. search rules)
     (λ c κs. search rules) (λ c κs. search rules) (λ c. search rules) (λ c. search rules) (λ c. search rules)
     (λ c. search rules) (λ c κs. search rules) (λ c. search rules))

@@ -26,7 +26,8 @@ has-requires c κs = omega (arith, (start c.before.before.before).pre.0.signals)
 pub heard-spec : {M : Type 1} → statement M
 heard-spec =
     tie.close
-    (tie.spec invariant-loop decreases-loop (λ c. search rules) (λ c. search rules) (λ c. search rules) (λ c. search rules)
+    (tie.spec invariant-loop decreases-loop (λ c. search rules) (λ c. search rules) (λ c. search rules)
+    (λ c. search rules)
     (λ c. search rules) (λ c. search rules) (λ c κs. search rules) mul-counts element-copy-out-counts
     (λ c κs. search rules) has-requires (λ c κs. search rules) (λ c. search rules)
     (λ c. search rules) (λ c. search rules) (λ c. search rules))

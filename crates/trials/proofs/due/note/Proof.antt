@@ -13,6 +13,7 @@ decreases-loop row₀ minute due rest₀ u₀ u-end row rest u = length row₀ -
 pub note-spec : {M : Type 1} → statement M
 note-spec =
     tie.close
-    (tie.spec invariant-loop decreases-loop (λ c. search rules) (λ c. search rules) (λ c. search rules) (λ c κs. search rules)
+    (tie.spec invariant-loop decreases-loop (λ c. search rules) (λ c. search rules) (λ c. search rules)
+    (λ c κs. search rules)
     (λ c. search rules) (λ c. search rules) (λ c. search rules) (λ c. search rules) (λ c. search rules)
     (λ c. search rules) (λ c. search rules))

@@ -13,6 +13,7 @@ decreases-loop text tally₀ at₀ tally at = length text + 2 - at
 pub all-spec : {M : Type 1} → statement M
 all-spec =
     tie.close
-    (tie.spec invariant-loop decreases-loop (λ c. search rules) (λ c κs. search rules) (λ c. search rules) (λ c. search rules)
+    (tie.spec invariant-loop decreases-loop (λ c. search rules) (λ c κs. search rules) (λ c. search rules)
+    (λ c. search rules)
     (λ c. search rules) (λ c κs. search rules) (λ c κs. search rules) (λ c. search rules) (λ c. search rules)
     (λ c. search rules) (λ c κs. search rules) (λ c. search rules))
