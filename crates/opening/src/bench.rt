@@ -182,7 +182,7 @@ pub fn opening_due(sheet: &[u8], table: &[u8], minute: u16, heard: &[u8]) -> u64
 {
     let mut minutes = [0u16; TAKEN];
     let count = take(table, &mut minutes);
-    let said = dispatch::text::said(heard);
+    let said = dispatch::heard_text::said(heard);
     let due = crate::events_due_on(sheet, &minutes[..count], minute, said);
     match due {
         Due::Refused(refusal) => packed_refusal(refusal),
