@@ -2,7 +2,7 @@
 # against.sh FORMER NEW [OUT]: what a library costs against a former one on sheets without labels of events, as ratios
 # of instructions, counted by callgrind in one run.
 #
-# FORMER and NEW are paths of libopening.a (rt staticlib opening, in a worktree of each commit).
+# FORMER and NEW are paths of libopening_c.a (rt lib in crates/opening_c, in a worktree of each commit).
 # OUT takes the programs and callgrind's files; a temporary folder, removed at the end, if it is not given.
 # Exit status: 0 if no sheet costs more than 1.05 times what it did, 1 if one does or an answer differs, 2 if something
 # could not be built or run.

@@ -2,9 +2,9 @@
 # digits.sh LIBRARY [FORMER]: what writing minutes costs, in instructions counted by callgrind: a listing of 256 cells
 # with the same minute in each, without reading its sheet; with a second library, the same of it and the ratio of both.
 #
-# LIBRARY and FORMER are paths of libopening.a (rt staticlib opening). A call's cost is the difference between a run
-# with some calls and a run with one. With a minute of five digits the listing is the longest that there is. No minute
-# takes more turns than 58888, by threes and then by ones.
+# LIBRARY and FORMER are paths of the library for C, crates/opening_c/out/libopening_c.a (rt lib in crates/opening_c). A
+# call's cost is the difference between a run with some calls and a run with one. With a minute of five digits the
+# listing is the longest that there is. No minute takes more turns than 58888, by threes and then by ones.
 # Exit status: 0 if no listing costs more than twice that of FORMER, 1 if one does, 2 if something could not be run.
 set -uo pipefail
 here=$(cd "$(dirname "$0")" && pwd)

@@ -1,7 +1,8 @@
 #!/bin/bash
 # leap.sh LIBOPENING LIBTALLY [OUT]: what passing over rounds gains and costs, as ratios of instructions, counted by callgrind.
 #
-# LIBOPENING and LIBTALLY are the paths of libopening.a and libtally.a (rt staticlib opening, rt staticlib tally).
+# LIBOPENING and LIBTALLY are the paths of the libraries for C, crates/opening_c/out/libopening_c.a and
+# crates/tally/out/libtally.a (rt lib in crates/opening_c and in crates/tally).
 # OUT takes the program, the sheets and callgrind's last file; a temporary folder, removed at the end, if it is not given.
 # Exit status: 0 if every target is met, 1 if one is not or an answer differs, 2 if something could not be built or run.
 #

@@ -2,8 +2,9 @@
 # listing.sh LIBRARY: what reading a listing back costs, in instructions counted by callgrind, as a ratio to what reading a
 # sheet of the same length does.
 #
-# LIBRARY is the path of libopening.a (rt staticlib opening). A call's cost is the difference between a run with some calls and
-# a run with one. The cost of a listing is that of opening_read_listing without that of reading its sheet.
+# LIBRARY is the path of the library for C, crates/opening_c/out/libopening_c.a (rt lib in crates/opening_c). A call's
+# cost is the difference between a run with some calls and a run with one. The cost of a listing is that of
+# opening_read_listing without that of reading its sheet.
 # Exit status: 0 if a byte of a listing costs at most as much as a byte of its sheet, 1 if not, 2 if something could not be run.
 set -uo pipefail
 here=$(cd "$(dirname "$0")" && pwd)

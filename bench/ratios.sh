@@ -1,7 +1,8 @@
 #!/bin/bash
 # ratios.sh LIBRARY [OUT]: the library's speed as ratios of instructions, counted by callgrind.
 #
-# LIBRARY is the path of libopening.a (rt staticlib opening), or the word `standin`, for equal.rs under the library's names.
+# LIBRARY is the path of the library for C, crates/opening_c/out/libopening_c.a (rt lib in crates/opening_c), or the word
+# `standin`, for equal.rs under the library's names.
 # OUT takes the programs and callgrind's files; a temporary folder, removed at the end, if it is not given.
 # WITHOUT, in the environment, names ordinary sheets to leave out: WITHOUT=cases4 for a library from before request 6,
 # which does not read labels of events.
@@ -24,7 +25,7 @@ set -uo pipefail
 
 here=$(cd "$(dirname "$0")" && pwd)
 die() { echo "ratios.sh: $*" >&2; exit 2; }
-[ $# -ge 1 ] || die "usage: ratios.sh LIBRARY [OUT]   (LIBRARY: libopening.a, or the word standin)"
+[ $# -ge 1 ] || die "usage: ratios.sh LIBRARY [OUT]   (LIBRARY: libopening_c.a, or the word standin)"
 if [ $# -ge 2 ]; then out=$2; mkdir -p "$out" || exit 2; else out=$(mktemp -d) || exit 2; trap 'rm -rf "$out"' EXIT; fi
 
 # ---- build

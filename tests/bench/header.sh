@@ -20,10 +20,9 @@ in_header() {
   sed -nE "s/$head$body/\1 0\3 \4/p" "$header" | awk '{ print $1, $2 + 0, 4 * length($3) }' | sort
 }
 
-# the same of each `openingName a = bits a SHIFT WIDTH`, with the name as C has it
+# the same of each `opening_name a = bits a SHIFT WIDTH`
 in_specification() {
-  sed -nE 's/^(opening[A-Z][A-Za-z]*) a = bits a ([0-9]+) ([0-9]+)$/\1 \2 \3/p' "$specification" |
-    awk '{ gsub(/[A-Z]/, "_&", $1); print tolower($1), $2, $3 }' | sort
+  sed -nE 's/^(opening_[a-z_]+) a = bits a ([0-9]+) ([0-9]+)$/\1 \2 \3/p' "$specification" | sort
 }
 
 # A function that the patterns do not read must not be passed over.

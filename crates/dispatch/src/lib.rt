@@ -15,7 +15,7 @@ ghost use Rattle.dispatch.specs.Said as M;
 
 use network::{Network, times};
 
-pub mod text;
+pub mod heard_text;
 
 // A signal that has been heard: its letter and its truth.
 #[derive(Clone, Copy)]

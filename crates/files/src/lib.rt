@@ -1,27 +1,50 @@
-// Files of the folder that a program is started in.
+// Files of the folder that a program is started in, and other input, into lent memory.
 #![tactic(auto)]
 
-ghost use Rattle.io.specs.Counts.{IsPrefixLen};
+ghost use Rattle.std.specs.Prelude.{◌<◌, IfOk, length, take};
+ghost use Rattle.std.specs.Counts.{IsPrefixLen};
+ghost use Rattle.std.specs.Io.KnownBytes.{Consumes, IsAtEnd};
+
+use std::io::Read;
+use std::rt::Files;
+use std::{fs, io, str};
+
+// Reads into buf, as far as there is room, and counts the bytes. A read that fails ends it, and its error is handed on.
+pub fn read_full<R: Read>(input: &mut R, buf: &mut [u8]) -> io::Result<usize>
+    ensures counted { IfOk result (λ n. IsPrefixLen n buf.new) }
+    ensures bytes { IfOk result (λ n. Consumes (R.remaining input.old) (R.remaining input.new) (take n buf.new)) }
+    ensures end { IfOk result (λ n. n < length buf.old → IsAtEnd (R.remaining input.new)) }
+{
+    let mut done = 0;
+    while done < buf.len() {
+        let n = input.read(&mut buf[done..])?;
+        if n == 0 {
+            break;
+        }
+        done += n;
+    }
+    Ok(done)
+}
+
+// The file, where it can be opened. A name that is not UTF-8 is that of none.
+fn opened<R: Files>(rt: &R, path: &[u8]) -> Option<R::File> {
+    let Ok(name) = str::from_utf8(path) else {
+        return None;
+    };
+    fs::open(rt, name).ok()
+}
 
 // Reads a file into buf, as far as there is room; one that can't be opened counts as empty.
-pub fn read(path: &[u8], buf: &mut [u8]) -> usize
-    ensures { IsPrefixLen result buf.new }
+pub fn read(rt: &impl Files, path: &[u8], buf: &mut [u8]) -> io::Result<usize>
+    ensures { IfOk result (λ n. IsPrefixLen n buf.new) }
 {
-    let fd = os::open_read(path);
-    if fd < 0 {
-        return 0;
+    match opened(rt, path) {
+        Some(mut file) => read_full(&mut file, buf),
+        None => Ok(0),
     }
-    let n = io::read_full(fd, buf);
-    libc::close(fd);
-    n
 }
 
 // Whether a file can be opened.
-pub fn is_there(path: &[u8]) -> bool {
-    let fd = os::open_read(path);
-    if fd < 0 {
-        return false;
-    }
-    libc::close(fd);
-    true
+pub fn is_there(rt: &impl Files, path: &[u8]) -> bool {
+    opened(rt, path).is_some()
 }

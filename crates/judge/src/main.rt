@@ -2,15 +2,18 @@
 // table of the listing, or `refused N line L`.
 #![tactic(auto)]
 
+use std::io;
+
 // One byte more than the longest sheet or listing shows that a file is too long.
-fn main() {
+fn main(rt: HostRuntime) -> io::Result<()> {
     let mut sheet = [0u8; opening::SHEET_BYTES + 1];
     let mut printed = [0u8; opening::PRINTED_BYTES + 1];
     let mut table = [0u16; opening::TABLE_MINUTES];
-    let n = files::read(b"sheet.csv", &mut sheet);
-    let k = files::read(b"listing.csv", &mut printed);
-    let minutes = report::recover(b"", &sheet[..n], &printed[..k], &mut table);
+    let n = files::read(&rt, b"sheet.csv", &mut sheet)?;
+    let k = files::read(&rt, b"listing.csv", &mut printed)?;
+    let minutes = report::recover(&rt, b"", &sheet[..n], &printed[..k], &mut table)?;
     if 0 < minutes {
-        report::judge(&sheet[..n], &table[..minutes]);
+        report::judge(&rt, &sheet[..n], &table[..minutes])?;
     }
+    Ok(())
 }

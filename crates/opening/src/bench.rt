@@ -1,6 +1,6 @@
 // The calls of the workshop bench, which is written in C: byte slices and numbers only. A table travels as two bytes a
 // minute, low byte first, and an answer is one number, whose bytes include/opening.h explains. Each is the public call
-// on the minutes of the bytes.
+// on the minutes of the bytes. C has them by the crate `opening_c`, a static library, which no crate can stand on.
 ghost use Rattle.std.specs.Prelude.{◌≡◌, ◌+◌, ◌/◌, ◌<◌, min, length};
 ghost use Rattle.network.specs.Limits as L;
 ghost use Rattle.calls.specs.Values.{turned_away, done};
@@ -124,8 +124,7 @@ fn packed_verdict(verdict: Verdict) -> u64
 }
 
 // The judge for C.
-#[unsafe(no_mangle)]
-pub extern "C" fn opening_judge(sheet: &[u8], table: &[u8]) -> u64
+pub fn opening_judge(sheet: &[u8], table: &[u8]) -> u64
     ensures { result ≡ B.packed (B.judgement_values (B.bench_judgement sheet.now table.now)) }
 {
     let mut minutes = [0u16; TAKEN];
@@ -138,8 +137,7 @@ pub extern "C" fn opening_judge(sheet: &[u8], table: &[u8]) -> u64
 }
 
 // The solver for C.
-#[unsafe(no_mangle)]
-pub extern "C" fn opening_solve(sheet: &[u8], table: &mut [u8]) -> u64
+pub fn opening_solve(sheet: &[u8], table: &mut [u8]) -> u64
     ensures { Leaves (B.packed_left (B.bench_solving sheet.now table.old)) result
         table.new }
 {
@@ -150,8 +148,7 @@ pub extern "C" fn opening_solve(sheet: &[u8], table: &mut [u8]) -> u64
 }
 
 // The listing for C.
-#[unsafe(no_mangle)]
-pub extern "C" fn opening_listing(sheet: &[u8], table: &[u8], out: &mut [u8]) -> u64
+pub fn opening_listing(sheet: &[u8], table: &[u8], out: &mut [u8]) -> u64
     ensures { Leaves (B.packed_left (B.bench_listed sheet.now table.now
         out.old)) result out.new }
 {
@@ -161,8 +158,7 @@ pub extern "C" fn opening_listing(sheet: &[u8], table: &[u8], out: &mut [u8]) ->
 }
 
 // The reader of listings for C.
-#[unsafe(no_mangle)]
-pub extern "C" fn opening_read_listing(sheet: &[u8], printed: &[u8], table: &mut [u8]) -> u64
+pub fn opening_read_listing(sheet: &[u8], printed: &[u8], table: &mut [u8]) -> u64
     ensures { Leaves (B.packed_left (B.bench_recovering sheet.now printed.now
         table.old)) result table.new }
 {
@@ -173,22 +169,20 @@ pub extern "C" fn opening_read_listing(sheet: &[u8], printed: &[u8], table: &mut
 }
 
 // The house form for C.
-#[unsafe(no_mangle)]
-pub extern "C" fn opening_house(sheet: &[u8], out: &mut [u8]) -> u64
+pub fn opening_house(sheet: &[u8], out: &mut [u8]) -> u64
     ensures { Leaves (B.packed_left (housed sheet.now out.old)) result out.new }
 {
     packed_written(crate::write_house(sheet, out))
 }
 
 // The player for C.
-#[unsafe(no_mangle)]
-pub extern "C" fn opening_due(sheet: &[u8], table: &[u8], minute: u16, heard: &[u8]) -> u64
+pub fn opening_due(sheet: &[u8], table: &[u8], minute: u16, heard: &[u8]) -> u64
     ensures { result ≡ B.packed_count_lem (due_values (B.bench_due sheet.now table.now minute
         heard.now)) }
 {
     let mut minutes = [0u16; TAKEN];
     let count = take(table, &mut minutes);
-    let said = dispatch::text::said(heard);
+    let said = dispatch::heard_text::said(heard);
     let due = crate::events_due_on(sheet, &minutes[..count], minute, said);
     match due {
         Due::Refused(refusal) => packed_refusal(refusal),

@@ -9,6 +9,7 @@ use crate::base;
 use calls::Due;
 use dispatch::Heard;
 use network::{Network, times};
+use std::io;
 
 // What stands where an event has not come, and where it has come twice: minutes that no good table has.
 const NOT_YET: u16 = 65535;
@@ -86,31 +87,45 @@ fn note(row: &mut [u16], minute: u16, due: u16) {
 }
 
 // A refusal is printed, and then nothing is due.
-fn events_of(due: Due) -> u16 {
+fn events_of(rt: &impl Print, due: Due) -> io::Result<u16> {
     match due {
-        Due::Events(events) => events,
+        Due::Events(events) => Ok(events),
         Due::Refused(refusal) => {
-            report::print_refusal(refusal);
-            0
+            report::print_refusal(rt, refusal)?;
+            Ok(0)
         }
     }
 }
 
 // Plays the case s, whose row this is.
-fn play_case(sheet: &[u8], network: Network, table: &[u16], s: usize, row: &mut [u16])
+fn play_case(
+    rt: &impl Print,
+    sheet: &[u8],
+    network: Network,
+    table: &[u16],
+    s: usize,
+    row: &mut [u16],
+) -> io::Result<()>
     requires { WellFormed network }
 {
     let mut given = [NOT_YET; Network::SIGNALS];
     for minute in 0..=network.horizon {
         let said = heard(network, s, &given, minute);
-        let due = events_of(opening::events_due_on(sheet, table, minute, said));
+        let due = events_of(rt, opening::events_due_on(sheet, table, minute, said))?;
         note(row, minute, due);
         give(network, &mut given, due, minute);
     }
+    Ok(())
 }
 
 // Plays each case, as long as there is a row for it.
-fn play_cases(sheet: &[u8], network: Network, table: &[u16], played: &mut [u16])
+fn play_cases(
+    rt: &impl Print,
+    sheet: &[u8],
+    network: Network,
+    table: &[u16],
+    played: &mut [u16],
+) -> io::Result<()>
     requires { WellFormed network }
 {
     let events = network.events;
@@ -118,27 +133,34 @@ fn play_cases(sheet: &[u8], network: Network, table: &[u16], played: &mut [u16])
     let mut first = 0;
     while events <= played.len() - first {
         let end = first + events;
-        play_case(sheet, network, table, s, &mut played[first..end]);
+        play_case(rt, sheet, network, table, s, &mut played[first..end])?;
         s += 1;
         first = end;
     }
+    Ok(())
 }
 
 // Plays the table into another one, and lists that.
-fn list_played(sheet: &[u8], network: Network, table: &[u16], played: &mut [u16])
+fn list_played(
+    rt: &impl Print,
+    sheet: &[u8],
+    network: Network,
+    table: &[u16],
+    played: &mut [u16],
+) -> io::Result<()>
     requires { WellFormed network }
 {
-    play_cases(sheet, network, table, played);
-    report::print(b"played ");
-    report::list(b"listed ", sheet, played);
+    play_cases(rt, sheet, network, table, played)?;
+    report::print(rt, b"played ")?;
+    report::list(rt, b"listed ", sheet, played)
 }
 
-pub fn play(sheet: &[u8], network: Network, table: &[u16])
+pub fn play(rt: &impl Print, sheet: &[u8], network: Network, table: &[u16]) -> io::Result<()>
     requires { WellFormed network × (length table.now ≤ 256) }
 {
     let n = table.len();
     let mut played = [NOT_YET; opening::TABLE_MINUTES];
-    list_played(sheet, network, table, &mut played[..n]);
+    list_played(rt, sheet, network, table, &mut played[..n])
 }
 
 // The first signal's letter, or p where there is none.
@@ -150,12 +172,12 @@ fn first_letter(network: Network) -> u8 {
 }
 
 // One answer.
-fn answer(sheet: &[u8], table: &[u16], minute: u16, said: u64) {
+fn answer(rt: &impl Print, sheet: &[u8], table: &[u16], minute: u16, said: u64) -> io::Result<()> {
     let due = opening::events_due_on(sheet, table, minute, said);
-    report::print(b" ");
+    report::print(rt, b" ")?;
     match due {
-        Due::Events(events) => report::print_number(events as u64),
-        Due::Refused(refusal) => base::print_short(refusal),
+        Due::Events(events) => report::print_number(rt, events as u64),
+        Due::Refused(refusal) => base::print_short(rt, refusal),
     }
 }
 
@@ -188,32 +210,38 @@ fn mask(network: Network, i: usize) -> u64
 }
 
 // The fifteen masks at a minute.
-fn ask_at(sheet: &[u8], network: Network, table: &[u16], minute: u16)
+fn ask_at(
+    rt: &impl Print,
+    sheet: &[u8],
+    network: Network,
+    table: &[u16],
+    minute: u16,
+) -> io::Result<()>
     requires { WellFormed network }
 {
-    report::print(b"asked ");
-    report::print_number(minute as u64);
+    report::print(rt, b"asked ")?;
+    report::print_number(rt, minute as u64)?;
     for i in 0..15usize {
-        answer(sheet, table, minute, mask(network, i));
+        answer(rt, sheet, table, minute, mask(network, i))?;
     }
-    report::print(b"\n");
+    report::print(rt, b"\n")
 }
 
 // The questions to a table, past the horizon too.
-pub fn ask(sheet: &[u8], network: Network, table: &[u16])
+pub fn ask(rt: &impl Print, sheet: &[u8], network: Network, table: &[u16]) -> io::Result<()>
     requires { WellFormed network }
 {
-    ask_at(sheet, network, table, 0);
-    ask_at(sheet, network, table, 1);
-    ask_at(sheet, network, table, 6);
-    ask_at(sheet, network, table, network.horizon);
-    ask_at(sheet, network, table, 65535);
+    ask_at(rt, sheet, network, table, 0)?;
+    ask_at(rt, sheet, network, table, 1)?;
+    ask_at(rt, sheet, network, table, 6)?;
+    ask_at(rt, sheet, network, table, network.horizon)?;
+    ask_at(rt, sheet, network, table, 65535)
 }
 
 // What is due at minute 0 of any table, for those who have heard nothing, and for a list with a byte that is no letter.
-pub fn ask_first(sheet: &[u8], table: &[u16]) {
-    report::print(b"asked 0");
-    answer(sheet, table, 0, 0);
-    answer(sheet, table, 0, with(0, 0, false));
-    report::print(b"\n");
+pub fn ask_first(rt: &impl Print, sheet: &[u8], table: &[u16]) -> io::Result<()> {
+    report::print(rt, b"asked 0")?;
+    answer(rt, sheet, table, 0, 0)?;
+    answer(rt, sheet, table, 0, with(0, 0, false))?;
+    report::print(rt, b"\n")
 }

@@ -3,51 +3,50 @@
 ghost use Rattle.std.specs.Prelude.{◌<◌, ◌≤◌};
 
 use crate::base;
+use std::io;
 
 // A form's page has zeros behind it, which no form has: pages are the same where the forms on them are.
 pub type Page = [u8; opening::SHEET_BYTES];
 
-fn print_form(form: &[u8], is_last: bool) {
+fn print_form(rt: &impl Print, form: &[u8], is_last: bool) -> io::Result<()> {
     if is_last {
-        report::print(b"house as before\n");
-        return;
+        return report::print(rt, b"house as before\n");
     }
-    report::print(b"house\n");
-    report::print(form);
+    report::print(rt, b"house\n")?;
+    report::print(rt, form)
 }
 
 // Whether the form is its own form.
-fn print_again(form: &[u8]) {
+fn print_again(rt: &impl Print, form: &[u8]) -> io::Result<()> {
     let mut page = [0u8; opening::SHEET_BYTES];
-    let n = report::house(b"again ", form, &mut page);
+    let n = report::house(rt, b"again ", form, &mut page)?;
     if text::equal(&page[..n], form) {
-        report::print(b"again same");
-        return;
+        return report::print(rt, b"again same");
     }
-    report::print(b"again other");
+    report::print(rt, b"again other")
 }
 
 // The form of n bytes, in a buffer of one byte less.
-fn print_short(sheet: &[u8], n: usize)
+fn print_short(rt: &impl Print, sheet: &[u8], n: usize) -> io::Result<()>
     requires { (0 < n) × (n ≤ 4096) }
 {
     let mut page = [0u8; opening::SHEET_BYTES];
     let written = opening::write_house(sheet, &mut page[..n - 1]);
-    report::print(b" short ");
-    base::print_written(written);
-    report::print(b"\n");
+    report::print(rt, b" short ")?;
+    base::print_written(rt, written)?;
+    report::print(rt, b"\n")
 }
 
 // Takes the page of the last form before this sheet's, and answers that of the last behind it.
-pub fn tell(sheet: &[u8], last: Page) -> Page {
+pub fn tell(rt: &impl Print, sheet: &[u8], last: Page) -> io::Result<Page> {
     let mut page = [0u8; opening::SHEET_BYTES];
-    let n = report::house(b"house ", sheet, &mut page);
+    let n = report::house(rt, b"house ", sheet, &mut page)?;
     if n == 0 {
-        return last;
+        return Ok(last);
     }
     let is_last = text::equal(&page, &last);
-    print_form(&page[..n], is_last);
-    print_again(&page[..n]);
-    print_short(sheet, n);
-    page
+    print_form(rt, &page[..n], is_last)?;
+    print_again(rt, &page[..n])?;
+    print_short(rt, sheet, n)?;
+    Ok(page)
 }

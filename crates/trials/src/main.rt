@@ -13,6 +13,9 @@ mod trial;
 
 ghost use Rattle.std.specs.Prelude.{◌≤◌, length};
 
+use std::io;
+use std::rt::Files;
+
 // Where the piece of the text that begins at `at` ends: at the next byte d, or with the text.
 fn end_of(text: &[u8], at: usize, d: u8) -> usize
     requires { at ≤ length text.now }
@@ -22,36 +25,48 @@ fn end_of(text: &[u8], at: usize, d: u8) -> usize
 }
 
 // One byte more than a listing may have, so that a longer one is seen to be longer.
-fn listed(sheet: &[u8], lst: &[u8]) {
+fn listed(rt: &(impl Files + Print), sheet: &[u8], lst: &[u8]) -> io::Result<()> {
     let mut printed = [0u8; opening::PRINTED_BYTES + 1];
-    let n = files::read(lst, &mut printed);
-    back::tell(sheet, &printed[..n]);
+    let n = files::read(rt, lst, &mut printed)?;
+    back::tell(rt, sheet, &printed[..n])
 }
 
-fn tabled(sheet: &[u8], tab: &[u8]) {
+fn tabled(rt: &(impl Files + Print), sheet: &[u8], tab: &[u8]) -> io::Result<()> {
     let mut bytes = [0u8; 1024];
-    let n = files::read(tab, &mut bytes);
-    trial::tell(sheet, &bytes[..n]);
+    let n = files::read(rt, tab, &mut bytes)?;
+    trial::tell(rt, sheet, &bytes[..n])
 }
 
 // Takes the page of the last house form before this trial, and answers that of the last behind it. A listing that is
 // handed in is read back, also an empty one; otherwise there is a table.
-fn told(sheet: &[u8], tab: &[u8], lst: &[u8], last: house::Page) -> house::Page {
-    base::read(sheet);
-    let next = house::tell(sheet, last);
-    if files::is_there(lst) {
-        listed(sheet, lst);
+fn told(
+    rt: &(impl Files + Print),
+    sheet: &[u8],
+    tab: &[u8],
+    lst: &[u8],
+    last: house::Page,
+) -> io::Result<house::Page> {
+    base::read(rt, sheet)?;
+    let next = house::tell(rt, sheet, last)?;
+    if files::is_there(rt, lst) {
+        listed(rt, sheet, lst)?;
     } else {
-        tabled(sheet, tab);
+        tabled(rt, sheet, tab)?;
     }
-    next
+    Ok(next)
 }
 
 // One byte more than a sheet may have.
-fn from_files(csv: &[u8], tab: &[u8], lst: &[u8], last: house::Page) -> house::Page {
+fn from_files(
+    rt: &(impl Files + Print),
+    csv: &[u8],
+    tab: &[u8],
+    lst: &[u8],
+    last: house::Page,
+) -> io::Result<house::Page> {
     let mut sheet = [0u8; opening::SHEET_BYTES + 1];
-    let n = files::read(csv, &mut sheet);
-    told(&sheet[..n], tab, lst, last)
+    let n = files::read(rt, csv, &mut sheet)?;
+    told(rt, &sheet[..n], tab, lst, last)
 }
 
 // The last digit of a number.
@@ -60,7 +75,12 @@ fn digit(n: usize) -> u8 {
 }
 
 // The sheet in data/NNN.csv, and the listing in data/NNN.lst or the table in data/NNN.tab, where there is one.
-fn numbered(number: usize, title: &[u8], last: house::Page) -> house::Page {
+fn numbered(
+    rt: &(impl Files + Print),
+    number: usize,
+    title: &[u8],
+    last: house::Page,
+) -> io::Result<house::Page> {
     let a = digit(number / 100);
     let b = digit(number / 10);
     let c = digit(number);
@@ -68,30 +88,31 @@ fn numbered(number: usize, title: &[u8], last: house::Page) -> house::Page {
     let csv = [a, b, c, b'.', b'c', b's', b'v'];
     let tab = [a, b, c, b'.', b't', b'a', b'b'];
     let lst = [a, b, c, b'.', b'l', b's', b't'];
-    report::print(&name);
-    report::print(title);
-    report::print(b"\n");
-    from_files(&csv, &tab, &lst, last)
+    report::print(rt, &name)?;
+    report::print(rt, title)?;
+    report::print(rt, b"\n")?;
+    from_files(rt, &csv, &tab, &lst, last)
 }
 
 // Each line is the title of a trial.
-fn trials(titles: &[u8]) {
+fn trials(rt: &(impl Files + Print), titles: &[u8]) -> io::Result<()> {
     let mut last = [0u8; opening::SHEET_BYTES];
     let mut number = 1;
     let mut at = 0;
     while at < titles.len() {
         let end = end_of(titles, at, b'\n');
-        let next = numbered(number, &titles[at..end], last);
+        let next = numbered(rt, number, &titles[at..end], last)?;
         last = next;
         number += 1;
         at = end + 1;
     }
+    Ok(())
 }
 
-fn main() {
-    let mut text = io::large_buffer();
-    let n = files::read(b"titles.txt", &mut text);
-    trials(&text[..n]);
-    let k = files::read(b"small.csv", &mut text);
-    small::all(&text[..k]);
+fn main(rt: HostRuntime) -> io::Result<()> {
+    let mut text = [0u8; 65536];
+    let n = files::read(&rt, b"titles.txt", &mut text)?;
+    trials(&rt, &text[..n])?;
+    let k = files::read(&rt, b"small.csv", &mut text)?;
+    small::all(&rt, &text[..k])
 }

@@ -2,7 +2,7 @@
 use calls::Written;
 use exhaust::Tried;
 use sheet::Outcome;
-use std::num::{wrapping_add_u64, wrapping_sub_u64};
+use std::io;
 
 // Both find a table, and each cell of the solver's is the least over all good tables; both find none; or anything else.
 #[derive(Clone, Copy)]
@@ -68,38 +68,38 @@ struct Tally {
 }
 
 // One sheet more: says how it turned out, and counts it.
-fn told(tally: Tally, compared: Compared) -> Tally {
+fn told(rt: &impl Print, tally: Tally, compared: Compared) -> io::Result<Tally> {
     let mut next = tally;
-    next.sheets = wrapping_add_u64(tally.sheets, 1);
-    report::print(b"small ");
-    report::print_number(next.sheets);
+    next.sheets = tally.sheets.wrapping_add(1);
+    report::print(rt, b"small ")?;
+    report::print_number(rt, next.sheets)?;
     match compared {
         Compared::Table => {
-            report::print(b" agree table\n");
-            next.table = wrapping_add_u64(tally.table, 1);
+            report::print(rt, b" agree table\n")?;
+            next.table = tally.table.wrapping_add(1);
         }
         Compared::None => {
-            report::print(b" agree none\n");
-            next.none = wrapping_add_u64(tally.none, 1);
+            report::print(rt, b" agree none\n")?;
+            next.none = tally.none.wrapping_add(1);
         }
-        Compared::Differ => report::print(b" differ\n"),
+        Compared::Differ => report::print(rt, b" differ\n")?,
     }
-    next
+    Ok(next)
 }
 
-fn print_tally(tally: Tally) {
-    let agree = wrapping_add_u64(tally.table, tally.none);
-    report::print(b"small sheets: ");
-    report::print_number(tally.table);
-    report::print(b" with a table, ");
-    report::print_number(tally.none);
-    report::print(b" without, ");
-    report::print_number(wrapping_sub_u64(tally.sheets, agree));
-    report::print(b" differ\n");
+fn print_tally(rt: &impl Print, tally: Tally) -> io::Result<()> {
+    let agree = tally.table.wrapping_add(tally.none);
+    report::print(rt, b"small sheets: ")?;
+    report::print_number(rt, tally.table)?;
+    report::print(rt, b" with a table, ")?;
+    report::print_number(rt, tally.none)?;
+    report::print(rt, b" without, ")?;
+    report::print_number(rt, tally.sheets.wrapping_sub(agree))?;
+    report::print(rt, b" differ\n")
 }
 
 // The sheets stand one behind the other, each followed by a line `=`.
-pub fn all(text: &[u8]) {
+pub fn all(rt: &impl Print, text: &[u8]) -> io::Result<()> {
     let mut tally = Tally {
         sheets: 0,
         table: 0,
@@ -108,8 +108,8 @@ pub fn all(text: &[u8]) {
     let mut at = 0;
     while at < text.len() {
         let end = crate::end_of(text, at, b'=');
-        tally = told(tally, compare(&text[at..end]));
+        tally = told(rt, tally, compare(&text[at..end]))?;
         at = end + 2;
     }
-    print_tally(tally);
+    print_tally(rt, tally)
 }

@@ -3,7 +3,7 @@
 use Prim.Native.Nat.{◌-◌}
 use lib.ListN.{length}
 use Rattle.dispatch.proofs.HeardText.{Saying}
-use Rattle.dispatch.proofs.text.said_by.Given as goal
+use Rattle.dispatch.proofs.heard_text.said_by.Given as goal
 
 abbrev pub invariant-loop-i : goal.invariant-loop-i
 invariant-loop-i l = Saying l.t l.said l.bang l.i

@@ -6,7 +6,7 @@ use Rattle.names.specs.Names.{Literal}
 use Rattle.dispatch.specs.Said.{said_from}
 use Rattle.dispatch.specs.HeardText.{record_of}
 use Rattle.dispatch.proofs.HeardText.{said-heard, said-other}
-use Rattle.dispatch.proofs.text.said.Goals as goal
+use Rattle.dispatch.proofs.heard_text.said.Goals as goal
 
 pub returns-then-not-is_heard : goal.returns-then-not-is_heard
 returns-then-not-is_heard c =
