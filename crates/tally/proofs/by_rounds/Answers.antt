@@ -1,4 +1,4 @@
-use Rattle.std.proofs.Common.{◌-◌, refl, arith}
+use Rattle.std.proofs.Common.{refl, arith}
 use Rattle.rounds.proofs.Usable.{scenarios_in}
 use Rattle.solver.proofs.Solving.{zero-times}
 use Rattle.tally.proofs.by_rounds.Goals as goal
