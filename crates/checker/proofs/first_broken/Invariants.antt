@@ -14,11 +14,11 @@ use Rattle.checker.proofs.Seeking.{Seeking}
 use Rattle.checker.proofs.first_broken.Given as goal
 
 -- the search at one constraint
-abbrev pub brokenAt : Network → List ℕ → ℕ → ℕ → Option Breach
-brokenAt Γ σ s c = unless (does_hold Γ σ s (constraint Γ c)) (Rule s c)
+abbrev pub broken_at : Network → List ℕ → ℕ → ℕ → Option Breach
+broken_at Γ σ s c = unless (does_hold Γ σ s (constraint Γ c)) (Rule s c)
 
 abbrev pub invariant-loop-c : goal.invariant-loop-c
-invariant-loop-c l = Seeking (brokenAt l.network l.table l.s) l.rules l.c l.found
+invariant-loop-c l = Seeking (broken_at l.network l.table l.s) l.rules l.c l.found
 
 abbrev pub decreases-loop-c : goal.decreases-loop-c
 decreases-loop-c l = l.rules - l.c

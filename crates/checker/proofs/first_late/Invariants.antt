@@ -13,11 +13,11 @@ use Rattle.checker.proofs.Seeking.{Seeking}
 use Rattle.checker.proofs.first_late.Given as goal
 
 -- the search at one cell
-abbrev pub lateAt : Network → List ℕ → ℕ → ℕ → Option Breach
-lateAt Γ σ s u = unless (is_on_time Γ σ s u) (Late s u)
+abbrev pub late_at : Network → List ℕ → ℕ → ℕ → Option Breach
+late_at Γ σ s u = unless (is_on_time Γ σ s u) (Late s u)
 
 abbrev pub invariant-loop-u : goal.invariant-loop-u
-invariant-loop-u l = Seeking (lateAt l.network l.table l.s) l.events l.u l.found
+invariant-loop-u l = Seeking (late_at l.network l.table l.s) l.events l.u l.found
 
 abbrev pub decreases-loop-u : goal.decreases-loop-u
 decreases-loop-u l = l.events - l.u
