@@ -118,8 +118,8 @@ module _ (n : ℕ) (counts lists : List ℕ) (s x y z : ℕ) (L : Lists n counts
         ≡ asking (target lists k) (source lists k) (weight lists k) row u
     same k e = asks_three (list_after lists b x y z) k _ _ _ row u (list_after-other lists b x y z k e)
 
-    append-here : list_asks (count_after counts s) (list_after lists b x y z) s row u ≡ max
-        (list_asks counts lists s row u)
+    append-here : list_asks (count_after counts s) (list_after lists b x y z) s row u
+        ≡ max (list_asks counts lists s row u)
         (asking x y z row u)
     append-here =
         let rest = max_below_ext _ _ (get_or counts s 0) (λ j l. same (s * 192 + j) (λ e. omega arith)) in

@@ -83,5 +83,5 @@ pub record Added (ℓ : Label) (target source weight : ℕ) (counts lists counts
       → list_asks counts' lists' s row u ≡ max (list_asks counts lists s row u)
       (cond (satisfies s ℓ) (asking target source weight row u) 0)
   pub count_later : (s : ℕ) → k ≤ s → get_or counts' s 0 ≡ get_or counts s 0
-  pub later : (s : ℕ) → k ≤ s → (row : List ℕ) (u : ℕ) → list_asks counts' lists' s row u ≡ list_asks counts lists s
-      row u
+  pub later : (s : ℕ) → k ≤ s → (row : List ℕ) (u : ℕ)
+      → list_asks counts' lists' s row u ≡ list_asks counts lists s row u

@@ -51,8 +51,8 @@ module _ {A : Type 0} (refuse : Refusal → A) (sheet : List ℕ) (tests : Netwo
   pub ends : Ends
   ends = by_reading (read sheet).outcome refl
     where
-      by_first : (read sheet).outcome ≡ Accepted → (o : Option Refusal) → first_failing_lem
-          (tests (read sheet).network) ≡ o
+      by_first : (read sheet).outcome ≡ Accepted → (o : Option Refusal) → first_failing_lem (tests (read sheet).network)
+          ≡ o
           → Ends
       by_first a none p = let h = hold (tests (read sheet).network) p in worked a h (call_works (read sheet) refl a h)
       by_first a (some r) p =

@@ -43,8 +43,8 @@ module _ (sheet : List ℕ) (a : (read sheet).outcome ≡ Accepted) where
   formed : WellFormed net × Named sheet net
   formed = accepted_well_formed sheet a
 
-  listed-on : (σ page : List ℕ) → Least net σ → most_listing ≤ length page → listing_on page sheet σ ≡ listing sheet
-      net σ
+  listed-on : (σ page : List ℕ) → Least net σ → most_listing ≤ length page
+      → listing_on page sheet σ ≡ listing sheet net σ
   listed-on σ page least h =
       let good = least.solves in
       let short = listing-short sheet net σ formed.0 formed.1 (good-times net σ formed.0 good) in

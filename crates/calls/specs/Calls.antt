@@ -104,8 +104,8 @@ abbrev pub fit : List Constraint → Bool
 fit rows = leb (length rows) L.rules
 
 abbrev pub house_tests : List ℕ → Lent → Network → Tests
-house_tests sheet m Γ = (fit (remaining_of Γ), without_line_lem TooManyRows) ∷ enough m (length (house_text sheet Γ)) ∷
-    []
+house_tests sheet m Γ =
+    (fit (remaining_of Γ), without_line_lem TooManyRows) ∷ enough m (length (house_text sheet Γ)) ∷ []
 
 abbrev pub housed : List ℕ → List ℕ → Left Written
 housed sheet out =

@@ -122,8 +122,8 @@ pub record Numbers : Type 0 where
   -- of the bench's calls; its house form is that of the public call
   pub bench_judge : (sheet b : List ℕ)
       → Answers sheet (judges (bytes b)) no_finding (judgement_values (bench_judgement sheet b))
-  pub bench_solver : (sheet b : List ℕ) → Writes sheet (solves (length b / 2)) written_values 0 (bench_solving sheet b)
-      b
+  pub bench_solver : (sheet b : List ℕ)
+      → Writes sheet (solves (length b / 2)) written_values 0 (bench_solving sheet b) b
   pub bench_lister : (sheet b m : List ℕ)
       → Writes sheet (lists (bytes b) sheet (minutes_of b) m) written_values 0 (bench_listed sheet b m) m
   pub bench_recoverer : (sheet printed b : List ℕ)

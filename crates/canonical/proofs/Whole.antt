@@ -92,8 +92,8 @@ module _ {sheet : List ℕ} {Γ : Network} (t : Faithful sheet Γ) where
           letter-by (letter Γ p) (truth ℓ.positive p) (truth ℓ.negative p) l is,
         )
 
-    signal_in : (x : Signal) → In x (signals_of sheet Γ) no_signal → (q : ℕ) × (q < Γ.signals) ×
-        (signal_at sheet Γ q ≡ x)
+    signal_in : (x : Signal) → In x (signals_of sheet Γ) no_signal → (q : ℕ) × (q < Γ.signals)
+        × (signal_at sheet Γ q ≡ x)
     signal_in x i =
         let h : i.place < Γ.signals =
         omega (arith, i.place_lt, length-tabulate (signal_at sheet Γ) Γ.signals) in

@@ -96,8 +96,8 @@ module _ (Γ : Network) (lettered : Lettered Γ) where
         (all_defined-every Γ.signals Γ.letters (letters_of rs) ∙ known) fitting.1
 
   -- a mask is well named where it is that of a list that is
-  pub well_named_on_iff : (x : ℕ) → (well_named_on Γ x ≡ true) ↔ ((hs : List Heard) × (said_from 0 hs ≡ x)
-      × WellNamed Γ hs)
+  pub well_named_on_iff : (x : ℕ) → (well_named_on Γ x ≡ true)
+      ↔ ((hs : List Heard) × (said_from 0 hs ≡ x) × WellNamed Γ hs)
   well_named_on_iff x = (
     λ e. (
       records_on Γ x,

@@ -48,8 +48,8 @@ module _ {sheet : List ℕ} {Γ : Network} {c : Contents} (s : Stands sheet Γ c
     pub is : event_label Γ u ≡ mask k.label
     pub keeps : Keeping k.label
 
-  pub at-line : (u i : ℕ) → i < length (listed_cases c) → get_or c.names u [] ≡
-      (get_or (listed_cases c) i no_case).event
+  pub at-line : (u i : ℕ) → i < length (listed_cases c)
+      → get_or c.names u [] ≡ (get_or (listed_cases c) i no_case).event
       → HasLine u (get_or (listed_cases c) i no_case)
   at-line u i l e =
       let k = get_or (listed_cases c) i no_case in

@@ -83,8 +83,8 @@ module _ {sheet : List ℕ} {s : Section} {X : Type 0} {first : X → List ℕ} 
   next m Γ at k fs = read_entries_lem sheet s m (with_line sheet s Γ at fs) (after_line sheet at) (suc k)
 
   -- so many lines that were read are those of some items
-  pub entries-read : (m : ℕ) (Γ : Network) (xs : List X) (at k : ℕ) → Held m Γ xs → length xs + m ≤
-      (heading_of_lem n s).most
+  pub entries-read : (m : ℕ) (Γ : Network) (xs : List X) (at k : ℕ) → Held m Γ xs
+      → length xs + m ≤ (heading_of_lem n s).most
       → (Δ : Network) (end number : ℕ) → read_entries_lem sheet s m Γ at k ≡ Go Δ end number
       → Read sheet (Held 0) text xs m at Δ end
   entries-read zero Γ xs at k h few Δ end number g =

@@ -104,16 +104,16 @@ label_of_dash f e = rw (e, label_of)
 label_of_letters : (f : List ℕ) → is_dash_lem f ≡ false → label_of f ≡ literals false f
 label_of_letters f e = rw (e, label_of)
 
-pub label_of_label_text : (ls : List Literal) → every is_letter_lem (letters_of ls) ≡ true → label_of (label_text ls)
-    ≡ ls
+pub label_of_label_text : (ls : List Literal) → every is_letter_lem (letters_of ls) ≡ true
+    → label_of (label_text ls) ≡ ls
 label_of_label_text [] e = refl
 label_of_label_text (l ∷ ls) e =
     label_of_letters (literals_text (l ∷ ls)) (not_dash (literals_text (l ∷ ls)) (are_literals-literals_text
     (l ∷ ls) e))
     ∙ literals-literals_text (l ∷ ls) e
 
-pub is_label-label_text : (ls : List Literal) → every is_letter_lem (letters_of ls) ≡ true → is_label_lem
-    (label_text ls) ≡ true
+pub is_label-label_text : (ls : List Literal) → every is_letter_lem (letters_of ls) ≡ true
+    → is_label_lem (label_text ls) ≡ true
 is_label-label_text [] e = refl
 is_label-label_text (l ∷ ls) e =
     let a = are_literals-literals_text (l ∷ ls) e in

@@ -33,8 +33,8 @@ plain-name (b ∷ s) e =
         [ inl p ↦ plain-letter c p | inr p ↦ plain-digit c p ]
 
 -- a field of one letter
-pub one_letter : (f : List ℕ) → is_one_letter_lem f ≡ true → (f ≡ get_or f 0 0 ∷ []) × (is_letter_lem (get_or f 0 0)
-    ≡ true)
+pub one_letter : (f : List ℕ) → is_one_letter_lem f ≡ true → (f ≡ get_or f 0 0 ∷ [])
+    × (is_letter_lem (get_or f 0 0) ≡ true)
 one_letter f e =
     let p = and-true (eqb (length f) 1) (is_letter_lem (get_or f 0 0)) e in
     (alone f (eqb-true (length f) 1 p.0), p.1)

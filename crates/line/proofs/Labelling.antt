@@ -74,8 +74,8 @@ module _ (Γ : Network) where
   unfolding whole_tests
   whole_lacks e f = rw (e, f)
 
-  pub whole-passes : is_none_lem (event_label Γ 0) ≡ true → are_complete_lem Γ ≡ true → first_failing_lem
-      (whole_tests Γ) ≡ none
+  pub whole-passes : is_none_lem (event_label Γ 0) ≡ true → are_complete_lem Γ ≡ true
+      → first_failing_lem (whole_tests Γ) ≡ none
   unfolding whole_tests
   whole-passes e f = rw (e, f)
 

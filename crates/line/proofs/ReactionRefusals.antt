@@ -35,8 +35,8 @@ within lo hi f e =
     let ends = and-true (leb lo (magnitude f)) (leb (magnitude f) hi) sign.1 in
     record { least = leb-true lo (magnitude f) ends.0; most = leb-true (magnitude f) hi ends.1 }
 
-pub count-within : (lo hi : ℕ) (f : List ℕ) → first_failing_lem (count_tests lo hi f) ≡ none → Within lo hi
-    (magnitude f)
+pub count-within : (lo hi : ℕ) (f : List ℕ) → first_failing_lem (count_tests lo hi f) ≡ none
+    → Within lo hi (magnitude f)
 count-within lo hi f e = within lo hi f (all_hold (count_tests lo hi f) e 1)
 
 -- nothing stands where no line was, and 0 is no reaction

@@ -108,8 +108,8 @@ module _ (line : List ℕ) (made : (List (List ℕ) → Tests) → Tests) where
       section_answer (first_failing_lem (made (section_tests word lo hi))) (second_number (fields line)) (length line)
 
   abbrev pub entry_under : Section → List ℕ → Network → EntryLine
-  entry_under s sheet Γ = entry_answer (first_failing_lem (made (own_tests sheet s Γ)))
-      (entry_of sheet s Γ (fields line))
+  entry_under s sheet Γ =
+      entry_answer (first_failing_lem (made (own_tests sheet s Γ))) (entry_of sheet s Γ (fields line))
       (length line)
 
 -- of a line by its fields alone

@@ -66,8 +66,8 @@ found_none (some v) e = zero-is-one cc
 
 -- the event that a field names, found by a part of the line
 module _ (sheet : List ℕ) (n : ℕ) (starts lengths f g : List ℕ) (same : g ≡ f) (r : Found) where
-  pub event-is : r ≡ found_of (event_named sheet n starts lengths g) → r ≡ found_of
-      (event_named sheet n starts lengths f)
+  pub event-is : r ≡ found_of (event_named sheet n starts lengths g)
+      → r ≡ found_of (event_named sheet n starts lengths f)
   event-is e = rw same at e
 
   pub event-answers : (b : Bool) → r ≡ found_of (event_named sheet n starts lengths g) → b ≡ is_found_lem r

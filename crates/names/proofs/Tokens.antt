@@ -128,8 +128,8 @@ module _ (t : List ℕ) (i : ℕ) where
   pub letters_bang_at : i < length t → get_or t i 0 ≡ 33 → letters_in (drop i t) ≡ letters_in (drop (i + 1) t)
   letters_bang_at h e = ap letters_in (drop_here t i h) ∙ letters_skip (get_or t i 0) (drop (i + 1) t) e
 
-  pub letters-at : i < length t → (get_or t i 0 ≡ 33 → ⊥) → letters_in (drop i t) ≡ get_or t i 0 ∷ letters_in
-      (drop (i + 1) t)
+  pub letters-at : i < length t → (get_or t i 0 ≡ 33 → ⊥)
+      → letters_in (drop i t) ≡ get_or t i 0 ∷ letters_in (drop (i + 1) t)
   letters-at h n = ap letters_in (drop_here t i h) ∙ letters_cons (get_or t i 0) (drop (i + 1) t) n
 
   pub letters-end : length t ≤ i → letters_in (drop i t) ≡ []

@@ -13,6 +13,6 @@ pub part-from : (a l : ℕ) (s : List ℕ) → take (a + l - a) (drop a s) ≡ t
 part-from a l s = let size : a + l - a ≡ l = omega arith in rw size
 
 -- a name is of at most 8 bytes
-pub name-short : (Γ : Network) (sheet : List ℕ) (u : ℕ) → Named sheet Γ → u < Γ.events → length (name_of_lem Γ sheet u)
-    ≤ 8
+pub name-short : (Γ : Network) (sheet : List ℕ) (u : ℕ) → Named sheet Γ → u < Γ.events
+    → length (name_of_lem Γ sheet u) ≤ 8
 name-short Γ sheet u n h = rw length-take (omega (arith, n.short u h))

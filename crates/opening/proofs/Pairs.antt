@@ -98,8 +98,8 @@ module _ (sheet : List ℕ) (fills : Fills sheet) (b z : List ℕ) (size : lengt
   data Both : Type 0 where
     both_refused : (r : Refusal) → refusing (in_place_lem m) r ≡ into (in_place_lem m)
         → refusing (in_pairs b) r ≡ into (in_pairs b) → Both
-    both_wrote : (σ : List ℕ) → length σ ≤ length b / 2 → length σ ≤ 256 → writing (in_place_lem m) σ ≡ into
-        (in_place_lem m)
+    both_wrote : (σ : List ℕ) → length σ ≤ length b / 2 → length σ ≤ 256
+        → writing (in_place_lem m) σ ≡ into (in_place_lem m)
         → writing (in_pairs b) σ ≡ into (in_pairs b) → Both
 
   both : Both

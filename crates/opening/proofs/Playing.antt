@@ -44,8 +44,8 @@ module _ (sheet t : List ℕ) (m x : ℕ) (g : Reading) (e : g ≡ handed_in_lem
     unfolding events_due_on_lem
     due_fails b v = handed_fails sheet t g e D.Refused rest work a _ (inl (ap is_pass v, refl))
 
-    pub due-answers : verdict g.network t ≡ Pass → answer_to_lem (due_on g.network t m x) ≡ events_due_on_lem sheet t m
-        x
+    pub due-answers : verdict g.network t ≡ Pass → answer_to_lem (due_on g.network t m x)
+        ≡ events_due_on_lem sheet t m x
     unfolding events_due_on_lem
     due-answers v = by_said (due_on g.network t m x) refl
       where

@@ -32,8 +32,8 @@ use Rattle.calls.proofs.Play.{lettered as letters}
 use Rattle.opening.specs.Prologue.{after_test, handed_in_lem}
 
 -- both passed
-pub after_test_accepted : (o : Outcome) (b : Bool) (c : Cause) → after_test o b c ≡ Accepted → (o ≡ Accepted) ×
-    (b ≡ true)
+pub after_test_accepted : (o : Outcome) (b : Bool) (c : Cause) → after_test o b c ≡ Accepted → (o ≡ Accepted)
+    × (b ≡ true)
 after_test_accepted Accepted true c e = (refl, refl)
 after_test_accepted Accepted false c e = zero-is-one cc
 after_test_accepted (Refused r) b c e = zero-is-one cc

@@ -67,8 +67,8 @@ module _ (b : List ℕ) (n : ℕ) (x : List ℕ) (taken : Taken b n x) where
     pub taken_listed : (m : List ℕ) → listed sheet front m ≡ bench_listed sheet b m
     taken_listed = listing-alike sheet (as_minutes front) (as_bytes b) of_sheet
 
-    pub taken_played : (m : ℕ) (text : List ℕ) → events_due_on_lem sheet front m (said_text text) ≡ bench_due sheet b m
-        text
+    pub taken_played : (m : ℕ) (text : List ℕ) → events_due_on_lem sheet front m (said_text text)
+        ≡ bench_due sheet b m text
     unfolding events_due_on_lem bench_due
     taken_played m text =
         playing-alike sheet (as_minutes front) (as_bytes b) of_sheet (λ Γ. due_on Γ front m (said_text text))

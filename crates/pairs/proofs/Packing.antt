@@ -23,8 +23,8 @@ put_next p t i v e h =
     ∙ set_at p (get_or t i 0) (drop (suc i) t) v i e
     ∙ rw (append_assoc, add-one)
 
-pub unpack_step : (b t₀ t : List ℕ) (i v : ℕ) → t ≡ tabulate i (pair_at b) ++ drop i t₀ → i < length t₀ → v
-    ≡ pair_at b i
+pub unpack_step : (b t₀ t : List ℕ) (i v : ℕ) → t ≡ tabulate i (pair_at b) ++ drop i t₀ → i < length t₀
+    → v ≡ pair_at b i
     → set t i v ≡ tabulate (i + 1) (pair_at b) ++ drop (i + 1) t₀
 unpack_step b t₀ t i v e h q =
     let more : tabulate (i + 1) (pair_at b) ≡ tabulate i (pair_at b) ++ v ∷ [] =

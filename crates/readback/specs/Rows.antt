@@ -49,8 +49,8 @@ module _ (bytes : List ℕ) (first : ℕ) where
     -- the first row that does not fit, or what is left over
     unfoldable pub rows_misfit : Option ℕ
     rows_misfit =
-        or_else (first_below (2 ^ k) row_misfit) (when (ltb (place_of (2 ^ k)) (length bytes))
-        (line_number_lem (2 ^ k)))
+        or_else (first_below (2 ^ k) row_misfit)
+        (when (ltb (place_of (2 ^ k)) (length bytes)) (line_number_lem (2 ^ k)))
 
     abbrev pub row_unread : ℕ → Option ℕ
     row_unread s = unless (are_minutes n (row_of s)) (line_number_lem s)

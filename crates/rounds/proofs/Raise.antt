@@ -41,12 +41,12 @@ module _ (counts lists t : List ℕ) (s : ℕ) where
     is = λ u l. omega (arith, j.is u l, (rw e at i).is u l, (rw e at h).is u l, row_at t s u l);
   }
 
-  pub across_start : {o : List ℕ} (first : List ℕ) → Row o ruled → Row o
-      (λ u. max (get_or o u 0) (across t first s 1 u))
+  pub across_start : {o : List ℕ} (first : List ℕ) → Row o ruled
+      → Row o (λ u. max (get_or o u 0) (across t first s 1 u))
   across_start first h = record { sized = h.sized; is = λ u l. rw (xor_zero_r s) (omega (arith, h.is u l)) }
 
-  pub across_next : (first o₀ : List ℕ) (d : ℕ) {o o' : List ℕ} → Row o (λ u. max (get_or o₀ u 0)
-      (across t first s d u))
+  pub across_next : (first o₀ : List ℕ) (d : ℕ) {o o' : List ℕ}
+      → Row o (λ u. max (get_or o₀ u 0) (across t first s d u))
       → Row o' (λ u. max (get_or o u 0) (min (get_or t (bit_xor s d * 16 + u) 0) (get_or first d 0)))
       → Row o' (λ u. max (get_or o₀ u 0) (across t first s (d + 1) u))
   across_next first o₀ d h i = record { sized = i.sized; is = λ u b. rw add-one (omega (arith, i.is u b, h.is u b)) }

@@ -149,8 +149,8 @@ stage_label sheet Γ at k m g p =
       line = omega (arith, g.line);
     }
   where
-    by_lines : (m : ℕ) → Passes sheet at k (tests_of sheet Cases m Γ) → Read (with_line sheet Cases Γ at
-        (cells sheet at))
+    by_lines : (m : ℕ) → Passes sheet at k (tests_of sheet Cases m Γ)
+        → Read (with_line sheet Cases Γ at (cells sheet at))
         → Labels (labelling m) (with_line sheet Cases Γ at (cells sheet at))
     by_lines zero p R =
         let fs = cells sheet at in

@@ -77,8 +77,8 @@ module _ (sheet : List ℕ) where
       by_go : {Γ Δ : Network} {a b j k : ℕ} → Go Γ a j ≡ Go Δ b k → (Γ ≡ Δ) × (a ≡ b) × (j ≡ k)
       by_go e = (cc, cc, cc)
 
-  pub section_ready : (s : Section) (p q : Progress) → q ≡ and_then p (read_section_lem sheet s) → Ready sheet
-      (whole s) p
+  pub section_ready : (s : Section) (p q : Progress) → q ≡ and_then p (read_section_lem sheet s)
+      → Ready sheet (whole s) p
       → Ready sheet (to_come s 0) q
   section_ready s p q i h Δ b j e =
       let c = came p (read_section_lem sheet s) Δ b j (sym i ∙ e) in

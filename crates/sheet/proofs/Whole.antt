@@ -64,8 +64,8 @@ module _ (sheet : List ℕ) (Γ : Network) (at k : ℕ) where
   optional_absent : (s : Section) → follows sheet at ≡ false → read_optional_lem sheet s Γ at k ≡ Go Γ at k
   optional_absent s e = ap (λ (b : Bool). cond b (read_section_lem sheet s Γ at k) (Go Γ at k)) e
 
-  optional_there : (s : Section) → follows sheet at ≡ true → read_optional_lem sheet s Γ at k ≡ read_section_lem sheet
-      s Γ at k
+  optional_there : (s : Section) → follows sheet at ≡ true → read_optional_lem sheet s Γ at k
+      ≡ read_section_lem sheet s Γ at k
   optional_there s e = ap (λ (b : Bool). cond b (read_section_lem sheet s Γ at k) (Go Γ at k)) e
 
   module _ (p : Progress) (here : p ≡ Go Γ at k) where

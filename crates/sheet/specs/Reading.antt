@@ -38,8 +38,8 @@ stop_or k none p = p
 module _ (sheet : List ℕ) where
   -- the line at this place, line k of the sheet: it has to pass its tests; then what follows
   abbrev pub read_line : ℕ → ℕ → (List (List ℕ) → Tests) → (List (List ℕ) → Progress) → Progress
-  read_line at k ts next = stop_or k (first_failing_lem (line_tests (drop at sheet) ts))
-      (next (fields (line_at sheet at)))
+  read_line at k ts next =
+      stop_or k (first_failing_lem (line_tests (drop at sheet) ts)) (next (fields (line_at sheet at)))
 
   -- so many lines of a section, each told how many more stand behind it
   abbrev pub read_entries_lem : Section → ℕ → Network → ℕ → ℕ → Progress
@@ -56,8 +56,8 @@ module _ (sheet : List ℕ) where
 
   -- the horizon, which is the first line
   abbrev pub read_horizon_lem : Progress
-  read_horizon_lem = read_line 0 1 (heading_tests horizon_heading) (λ fs. Go (empty (second_number fs))
-      (after_line sheet 0) 2)
+  read_horizon_lem =
+      read_line 0 1 (heading_tests horizon_heading) (λ fs. Go (empty (second_number fs)) (after_line sheet 0) 2)
 
   -- bytes stand from here on
   abbrev pub follows : ℕ → Bool

@@ -67,8 +67,8 @@ module _ (most : ℕ) where
   natural_one [] h = absurd (omega arith)
   natural_one (b ∷ s) h = let e : length s ≡ 0 = omega arith in rw (eq-eqb (length s) 0 e, or-true, and-true)
 
-  pub natural_first : (f : List ℕ) → 0 < length f → (get_or f 0 0 ≡ 48 → ⊥) → read_natural_lem most f ≡ read_digits_lem
-      most f
+  pub natural_first : (f : List ℕ) → 0 < length f → (get_or f 0 0 ≡ 48 → ⊥)
+      → read_natural_lem most f ≡ read_digits_lem most f
   natural_first [] h n = absurd (omega arith)
   natural_first (b ∷ s) h n = rw (ne_eqb b 48 n, and-true)
 

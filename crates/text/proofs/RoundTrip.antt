@@ -52,8 +52,8 @@ first_decimal =
     let last = (48 + v % 10) ∷ [] in
     (omega (arith, length-append s last, p.0), λ z. p.1 (sym (get_or-append s last 0 0 p.0) ∙ z)))
 
-pub is_natural-first : (s : List ℕ) → every is_digit s ≡ true → 0 < length s → (get_or s 0 0 ≡ 48 → ⊥) → is_natural s
-    ≡ true
+pub is_natural-first : (s : List ℕ) → every is_digit s ≡ true → 0 < length s → (get_or s 0 0 ≡ 48 → ⊥)
+    → is_natural s ≡ true
 is_natural-first [] e h n = absurd (omega arith)
 is_natural-first (b ∷ s) e h n =
     and_both (every is_digit (b ∷ s)) (not (eqb b 48) || eqb (length s) 0) e (rw (ne_eqb b 48 n))
@@ -78,8 +78,8 @@ decimal-digit-on v b h l g =
     ∙ ap (λ (x : ℕ). decimal x ++ (48 + w % 10) ∷ []) t
     ∙ ap (λ (x : ℕ). decimal v ++ x ∷ []) u
 
-decimal-value_from-on : (v : ℕ) (s : List ℕ) → 1 ≤ v → every is_digit s ≡ true → decimal (value_from v s)
-    ≡ decimal v ++ s
+decimal-value_from-on : (v : ℕ) (s : List ℕ) → 1 ≤ v → every is_digit s ≡ true
+    → decimal (value_from v s) ≡ decimal v ++ s
 decimal-value_from-on v [] h e = sym (append-nil (decimal v))
 decimal-value_from-on v (b ∷ s) h e =
     let p = and-true (is_digit b) (every is_digit s) e in

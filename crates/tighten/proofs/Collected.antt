@@ -100,7 +100,8 @@ module _ {xs : List Constraint} (r : Encodings) (regular : Each Regular xs no_co
             }
 
         -- one more in the array
-        pub collected_more : {x : Constraint} {floor' : ℕ} → count < L.rules → x ≡ decoded v → floor' ≡ floor_after_lem v
+        pub collected_more : {x : Constraint} {floor' : ℕ} → count < L.rules → x ≡ decoded v
+            → floor' ≡ floor_after_lem v
             → Collected xs (count + 1) (set uppers count x) floor'
         collected_more {x} {floor'} h p q = record {
           done = f.done ++ x ∷ [];

@@ -7,8 +7,8 @@ use Rattle.canonical.proofs.Gathered.{count_below}
 use Rattle.canonical.proofs.labelled_count.Given as goal
 
 abbrev pub invariant-loop-u : goal.invariant-loop-u
-invariant-loop-u l = (l.count ≡ count_below (labelled_at l.network) l.u) × (l.u ≤ l.network.events) ×
-    (l.u-end ≡ l.network.events)
+invariant-loop-u l = (l.count ≡ count_below (labelled_at l.network) l.u) × (l.u ≤ l.network.events)
+    × (l.u-end ≡ l.network.events)
 
 abbrev pub decreases-loop-u : goal.decreases-loop-u
 decreases-loop-u l = l.network.events - l.u

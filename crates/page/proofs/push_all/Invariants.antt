@@ -7,8 +7,8 @@ use lib.Seq.{paste}
 use Rattle.page.proofs.push_all.Given as goal
 
 abbrev pub invariant-loop-i : goal.invariant-loop-i
-invariant-loop-i l = (l.page ≡ paste l.initial.page l.at l.s l.i) × (length l.page ≡ length l.initial.page) ×
-    (l.i ≤ length l.s) × (l.i-end ≡ length l.s)
+invariant-loop-i l = (l.page ≡ paste l.initial.page l.at l.s l.i) × (length l.page ≡ length l.initial.page)
+    × (l.i ≤ length l.s) × (l.i-end ≡ length l.s)
 
 abbrev pub decreases-loop-i : goal.decreases-loop-i
 decreases-loop-i l = length l.s - l.i

@@ -8,8 +8,8 @@ use Rattle.pairs.specs.Pairs.{bytes_of}
 use Rattle.pairs.proofs.pack.Given as goal
 
 abbrev pub invariant-loop-i : goal.invariant-loop-i
-invariant-loop-i l = (l.i ≤ length l.table) × (length l.bytes ≡ length l.initial.bytes) ×
-    (l.bytes ≡ bytes_of (take l.i l.table) ++ drop (2 * l.i) l.initial.bytes)
+invariant-loop-i l = (l.i ≤ length l.table) × (length l.bytes ≡ length l.initial.bytes)
+    × (l.bytes ≡ bytes_of (take l.i l.table) ++ drop (2 * l.i) l.initial.bytes)
 
 abbrev pub decreases-loop-i : goal.decreases-loop-i
 decreases-loop-i l = length l.table - l.i

@@ -9,8 +9,8 @@ use Rattle.pairs.specs.Pairs.{pair_at, Short}
 use Rattle.pairs.proofs.unpack.Given as goal
 
 abbrev pub invariant-loop-i : goal.invariant-loop-i
-invariant-loop-i l = (l.i ≤ l.count) × (length l.table ≡ length l.initial.table) ×
-    (l.table ≡ tabulate l.i (pair_at l.bytes) ++ drop l.i l.initial.table)
+invariant-loop-i l = (l.i ≤ l.count) × (length l.table ≡ length l.initial.table)
+    × (l.table ≡ tabulate l.i (pair_at l.bytes) ++ drop l.i l.initial.table)
     × Short (tabulate l.i (pair_at l.bytes))
 
 abbrev pub decreases-loop-i : goal.decreases-loop-i

@@ -9,8 +9,8 @@ use Rattle.rounds.proofs.Rounding.{Rounding}
 use Rattle.rounds.proofs.round.Given as goal
 
 abbrev pub invariant-loop-s : goal.invariant-loop-s
-invariant-loop-s l = (Γ : Network) → Compiled Γ l.frame l.counts l.lists → Rounding (raised_at Γ l.counts l.lists l.t)
-    l.scenarios l.t l.new l.climb l.highest l.s
+invariant-loop-s l = (Γ : Network) → Compiled Γ l.frame l.counts l.lists
+    → Rounding (raised_at Γ l.counts l.lists l.t) l.scenarios l.t l.new l.climb l.highest l.s
 
 abbrev pub decreases-loop-s : goal.decreases-loop-s
 decreases-loop-s l = l.scenarios - l.s

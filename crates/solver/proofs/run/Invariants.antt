@@ -7,8 +7,8 @@ use Rattle.solver.proofs.Underway.{Underway}
 use Rattle.solver.proofs.run.Given as goal
 
 abbrev pub invariant-loop-rounds : goal.invariant-loop-rounds
-invariant-loop-rounds l = (l.rounds ≤ l.budget) × (length l.b ≡ 256) × (length l.mark ≡ 256) × (length l.since ≡ 256) ×
-    (l.v.cell < 256)
+invariant-loop-rounds l = (l.rounds ≤ l.budget) × (length l.b ≡ 256) × (length l.mark ≡ 256) × (length l.since ≡ 256)
+    × (l.v.cell < 256)
     × Underway l.frame l.counts l.lists l.initial.a l.base l.a l.at l.rounds
 
 abbrev pub decreases-loop-rounds : goal.decreases-loop-rounds

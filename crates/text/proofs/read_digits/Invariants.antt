@@ -9,8 +9,8 @@ use Rattle.text.proofs.ReadNumber.{digits_from}
 use Rattle.text.proofs.read_digits.Given as goal
 
 abbrev pub invariant-loop-i : goal.invariant-loop-i
-invariant-loop-i l = (l.i ≤ length l.f) × (l.v ≤ l.most + 1) × (read_digits_lem l.most l.f ≡ digits_from l.most l.v
-    (drop l.i l.f))
+invariant-loop-i l = (l.i ≤ length l.f) × (l.v ≤ l.most + 1)
+    × (read_digits_lem l.most l.f ≡ digits_from l.most l.v (drop l.i l.f))
 
 abbrev pub decreases-loop-i : goal.decreases-loop-i
 decreases-loop-i l = length l.f - l.i
