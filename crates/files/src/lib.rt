@@ -1,7 +1,7 @@
 // Files of the folder that a program is started in, and other input, into lent memory.
 #![tactic(auto)]
 
-ghost use Rattle.std.specs.Prelude.{◌<◌, IfOk, length, take};
+ghost use Rattle.std.specs.Prelude.{ℕ, ◌<◌, ◌≤◌, IfOk, OnErr, length, take};
 ghost use Rattle.std.specs.Counts.{IsPrefixLen};
 ghost use Rattle.std.specs.Io.KnownBytes.{Consumes, IsAtEnd};
 
@@ -9,11 +9,14 @@ use std::io::Read;
 use std::rt::Files;
 use std::{fs, io, str};
 
-// Reads into buf, as far as there is room, and counts the bytes. A read that fails ends it, and its error is handed on.
+// Reads into buf, as far as there is room, and counts the bytes. A read that fails ends it, and its error is handed on:
+// then what was read before stands in front in buf.
 pub fn read_full<R: Read>(input: &mut R, buf: &mut [u8]) -> io::Result<usize>
     ensures counted { IfOk result (λ n. IsPrefixLen n buf.new) }
     ensures bytes { IfOk result (λ n. Consumes (R.remaining input.old) (R.remaining input.new) (take n buf.new)) }
     ensures end { IfOk result (λ n. n < length buf.old → IsAtEnd (R.remaining input.new)) }
+    ensures failed { OnErr result ((n : ℕ) × (n ≤ length buf.new)
+        × Consumes (R.remaining input.old) (R.remaining input.new) (take n buf.new)) }
 {
     let mut done = 0;
     while done < buf.len() {
