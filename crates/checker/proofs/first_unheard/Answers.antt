@@ -8,58 +8,66 @@ use Rattle.checker.specs.declared.Breach.TheVariants.{Unheard}
 use Rattle.checker.proofs.Plain.{alike-told}
 use Rattle.checker.proofs.Reach.{scenario_lt, event-letters, observed}
 use Rattle.checker.proofs.Seeking.{seeking_on, hit, past_row, row_hit}
+use Rattle.checker.proofs.first_unheard.Goals.{After-alike, In-loop-r, In-unheard}
 use Rattle.checker.proofs.first_unheard.Goals as goal
+
+-- both scenarios are scenarios of the network
+s-in : (d : In-unheard) → d.unheard.s < scenarios d.args.network
+s-in d = omega (arith, d.unheard-test.true, d.scenario_count-scenarios.ensures)
+
+r-in : (d : In-loop-r) → d.loop-r.r < scenarios d.args.network
+r-in d = omega (arith, d.loop-r-test.true, d.scenario_count-scenarios.ensures)
+
+-- the list of times is that of the scenario at hand
+known : (d : In-loop-r) → let a = d.args in
+    let from = d.known_in-known.result.from in
+    KnownIn a.network a.table.now d.unheard.s a.network.signals from
+known d =
+    d.known_in-known.ensures d.args.network refl
+    refl refl refl
+
+-- the code's test of an event
+tested : (d : After-alike) → let a = d.args in
+    d.alike.result
+    ≡ is_alike a.network a.table.now d.unheard.s d.loop-r.r
+    d.loop-u.u
+tested d =
+    let a = d.args in
+    alike-told a.network a.table.now d.unheard.s d.loop-r.r
+    d.loop-u.u (known (goal.at.After-alike d).In-loop-r) d.alike.ensures
+    d.apart-told.ensures d.time_of-mine.ensures d.time_of-theirs.ensures
+    (omega arith)
 
 pub known_in-known-requires : goal.known_in-known-requires
 known_in-known-requires c =
-    let s-in : c.unheard.s < scenarios c.args.network =
-    omega (arith, c.unheard-test.true, c.scenario_count-scenarios.ensures) in
-    observed c.requires.0 c.args.table.now c.requires.1 c.unheard.s s-in
+    let d = (goal.at.known_in-known-requires c).In-unheard in
+    observed c.requires.0 c.args.table.now c.requires.1 c.unheard.s (s-in d)
 
 pub apart-told-requires : goal.apart-told-requires
 apart-told-requires c =
-    let s-in : c.unheard.s < scenarios c.args.network =
-    omega (arith, c.unheard-test.true, c.scenario_count-scenarios.ensures) in
-    let r-in : c.loop-r.r < scenarios c.args.network =
-    omega (arith, c.loop-r-test.true, c.scenario_count-scenarios.ensures) in
-    let known : let a = c.args in
-    let from = c.known_in-known.result.from in
-    KnownIn a.network a.table.now c.unheard.s a.network.signals from = c.known_in-known.ensures c.args.network refl
-    refl refl refl in
+    let d = (goal.at.apart-told-requires c).In-unheard in
+    let d2 = (goal.at.apart-told-requires c).In-loop-r in
     let W = c.requires.0 in (
-      known.four,
+      (known d2).four,
       W.signals,
-      scenario_lt W c.unheard.s s-in,
-      scenario_lt W c.loop-r.r r-in,
+      scenario_lt W c.unheard.s (s-in d),
+      scenario_lt W c.loop-r.r (r-in d2),
     )
 
 pub alike-requires : goal.alike-requires
 alike-requires c =
-    let s-in : c.unheard.s < scenarios c.args.network =
-    omega (arith, c.unheard-test.true, c.scenario_count-scenarios.ensures) in
-    let r-in : c.loop-r.r < scenarios c.args.network =
-    omega (arith, c.loop-r-test.true, c.scenario_count-scenarios.ensures) in
+    let d = (goal.at.alike-requires c).In-unheard in
+    let d2 = (goal.at.alike-requires c).In-loop-r in
     let W = c.requires.0 in (
-      scenario_lt W c.unheard.s s-in,
-      scenario_lt W c.loop-r.r r-in,
+      scenario_lt W c.unheard.s (s-in d),
+      scenario_lt W c.loop-r.r (r-in d2),
       event-letters W c.loop-u.u,
     )
 
 pub loop-u-preserved : goal.loop-u-preserved
 loop-u-preserved c =
-    let known : let a = c.args in
-    let from = c.known_in-known.result.from in
-    KnownIn a.network a.table.now c.unheard.s a.network.signals from = c.known_in-known.ensures c.args.network refl
-    refl refl refl in
-    let tested : let a = c.args in
-    c.alike.result
-    ≡ is_alike a.network a.table.now c.unheard.s c.loop-r.r
-    c.loop-u.u = let a = c.args in
-    alike-told a.network a.table.now c.unheard.s c.loop-r.r
-    c.loop-u.u known c.alike.ensures
-    c.apart-told.ensures c.time_of-mine.ensures c.time_of-theirs.ensures
-    (omega arith) in
-    let kept = sym tested ∙ c.if-not-alike.false in
+    let d = (goal.at.loop-u-preserved c).After-alike in
+    let kept = sym (tested d) ∙ c.if-not-alike.false in
     seeking_on c.loop-u.invariant c.loop-u-test.true (rw kept)
 
 pub loop-r-preserved : goal.loop-r-preserved
@@ -72,25 +80,12 @@ unheard-preserved c =
 
 pub returns-then-not-alike : goal.returns-then-not-alike
 returns-then-not-alike c =
-    let s-in : c.unheard.s < scenarios c.args.network =
-    omega (arith, c.unheard-test.true, c.scenario_count-scenarios.ensures) in
-    let r-in : c.loop-r.r < scenarios c.args.network =
-    omega (arith, c.loop-r-test.true, c.scenario_count-scenarios.ensures) in
-    let known : let a = c.args in
-    let from = c.known_in-known.result.from in
-    KnownIn a.network a.table.now c.unheard.s a.network.signals from = c.known_in-known.ensures c.args.network refl
-    refl refl refl in
-    let tested : let a = c.args in
-    c.alike.result
-    ≡ is_alike a.network a.table.now c.unheard.s c.loop-r.r
-    c.loop-u.u = let a = c.args in
-    alike-told a.network a.table.now c.unheard.s c.loop-r.r
-    c.loop-u.u known c.alike.ensures
-    c.apart-told.ensures c.time_of-mine.ensures c.time_of-theirs.ensures
-    (omega arith) in
-    let unheard = sym tested ∙ c.if-not-alike.true in
+    let d = (goal.at.returns-then-not-alike c).In-unheard in
+    let d2 = (goal.at.returns-then-not-alike c).In-loop-r in
+    let d3 = (goal.at.returns-then-not-alike c).After-alike in
+    let unheard = sym (tested d3) ∙ c.if-not-alike.true in
     let breach = Unheard c.unheard.s c.loop-r.r c.loop-u.u in
-    let at = row_hit c.loop-r.invariant c.loop-u.invariant refl breach r-in in
-    let found = hit c.unheard.invariant breach s-in
+    let at = row_hit c.loop-r.invariant c.loop-u.invariant refl breach (r-in d2) in
+    let found = hit c.unheard.invariant breach (s-in d)
     (at c.loop-u-test.true (rw unheard)) in
     ap verdict_of (sym found)

@@ -13,28 +13,28 @@ use Rattle.network.specs.Joint.{joint_of}
 use Rattle.network.specs.Strategy.{time}
 use Rattle.network.specs.declared.Network.{Network}
 use Rattle.network.proofs.Jointly.{covers-joint}
+use Rattle.checker.proofs.keeps.Goals.{After-satisfies}
 use Rattle.checker.proofs.keeps.Goals as goal
+
+-- the code's test of whether the constraint counts
+counts : (d : After-satisfies) → let a = d.args in
+    (Γ : Network) → a.from ≡ event_label Γ a.constraint.from → a.to ≡ event_label Γ a.constraint.to
+    → d.satisfies.result ≡ covers Γ a.constraint a.s
+counts d =
+    let a = d.args in
+    λ Γ f g.
+    d.satisfies.ensures
+    ∙ ap (satisfies a.s) (d.joint.ensures ∙ ap₂ (joint_of a.constraint.label) f g)
+    ∙ sym (covers-joint Γ a.constraint a.s)
 
 pub returns-then-not-satisfies : goal.returns-then-not-satisfies
 returns-then-not-satisfies c =
-    let counts : let a = c.args in
-    (Γ : Network) → a.from ≡ event_label Γ a.constraint.from → a.to ≡ event_label Γ a.constraint.to
-    → c.satisfies.result ≡ covers Γ a.constraint a.s = let a = c.args in
-    λ Γ f g.
-    c.satisfies.ensures
-    ∙ ap (satisfies a.s) (c.joint.ensures ∙ ap₂ (joint_of a.constraint.label) f g)
-    ∙ sym (covers-joint Γ a.constraint a.s) in
-    λ Γ _ f g. rw (sym (counts Γ f g) ∙ c.if-not-satisfies.true)
+    let d = (goal.at.returns-then-not-satisfies c).After-satisfies in
+    λ Γ _ f g. rw (sym ((counts d) Γ f g) ∙ c.if-not-satisfies.true)
 
 pub returns : goal.returns
 returns c =
-    let counts : let a = c.args in
-    (Γ : Network) → a.from ≡ event_label Γ a.constraint.from → a.to ≡ event_label Γ a.constraint.to
-    → c.satisfies.result ≡ covers Γ a.constraint a.s = let a = c.args in
-    λ Γ f g.
-    c.satisfies.ensures
-    ∙ ap (satisfies a.s) (c.joint.ensures ∙ ap₂ (joint_of a.constraint.label) f g)
-    ∙ sym (covers-joint Γ a.constraint a.s) in
+    let d = (goal.at.returns c).After-satisfies in
     let args = c.args in
     let constraint = args.constraint in
     let σ = args.table.now in
@@ -44,7 +44,7 @@ returns c =
     λ Γ e f g.
     let at : (u : ℕ) → time args.events σ args.s u ≡ time Γ.events σ args.s u =
     λ u. ap (λ (n : ℕ). time n σ args.s u) e in
-    let covered = sym (counts Γ f g) ∙ c.if-not-satisfies.false in
+    let covered = sym ((counts d) Γ f g) ∙ c.if-not-satisfies.false in
     rw covered
     (c.admits.ensures
     ∙ ap (admits constraint.kind a.result b.result) (to_z-of_z fits)

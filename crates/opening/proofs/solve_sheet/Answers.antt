@@ -2,7 +2,19 @@
 -- Assumes nothing.
 use Rattle.opening.proofs.Prologue.{read-few}
 use Rattle.opening.proofs.SolverLeaves.{Prepared, solving-asked, solving_consistent}
+use Rattle.opening.proofs.solve_sheet.Goals.{After-after_test-outcome}
 use Rattle.opening.proofs.solve_sheet.Goals as goal
+
+-- what is known once the room is tested
+prepared : (d : After-after_test-outcome) → let args = d.args in
+    Prepared args.sheet.now args.table.now d.read-reading.result d.cell_count-cells.result
+    d.after_test-outcome.result
+prepared d =
+    record {
+      read_is = d.read-reading.ensures;
+      counted = d.cell_count-cells.ensures;
+      tested = d.after_test-outcome.ensures;
+    }
 
 pub cell_count-cells-requires : goal.cell_count-cells-requires
 cell_count-cells-requires c =
@@ -10,23 +22,11 @@ cell_count-cells-requires c =
 
 pub solve-solved-requires : goal.solve-solved-requires
 solve-solved-requires c =
-    let prepared : let args = c.args in
-    Prepared args.sheet.now args.table.now c.read-reading.result c.cell_count-cells.result
-    c.after_test-outcome.result = record {
-      read_is = c.read-reading.ensures;
-      counted = c.cell_count-cells.ensures;
-      tested = c.after_test-outcome.ensures;
-    } in
-    solving-asked prepared c.in_default.is
+    let d = (goal.at.solve-solved-requires c).After-after_test-outcome in
+    solving-asked (prepared d) c.in_default.is
 
 pub returns-in-Consistent : goal.returns-in-Consistent
 returns-in-Consistent c =
-    let prepared : let args = c.args in
-    Prepared args.sheet.now args.table.now c.read-reading.result c.cell_count-cells.result
-    c.after_test-outcome.result = record {
-      read_is = c.read-reading.ensures;
-      counted = c.cell_count-cells.ensures;
-      tested = c.after_test-outcome.ensures;
-    } in
-    solving_consistent prepared c.in_default.is
+    let d = (goal.at.returns-in-Consistent c).After-after_test-outcome in
+    solving_consistent (prepared d) c.in_default.is
     c.solve-solved.ensures _ c.in-Consistent.is

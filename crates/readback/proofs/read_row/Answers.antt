@@ -4,7 +4,21 @@ use lib.ListN.{length}
 use Rattle.text.specs.Lines.{fields}
 use Rattle.readback.proofs.Fielding.{TextAt, reached-first, comma_lt, text_at}
 use Rattle.readback.proofs.Fielding.{row-start, row_next, row-fault, row-all}
+use Rattle.readback.proofs.read_row.Goals.{After-until-e, In-loop-u}
 use Rattle.readback.proofs.read_row.Goals as goal
+
+-- there is a text left, so that a comma stands here
+more : (d : In-loop-u) → suc d.loop-u.u < length (fields d.args.line.now)
+more d = omega (arith, d.requires.0)
+
+comma : (d : In-loop-u) → d.loop-u.at < length d.args.line.now
+comma d = comma_lt d.loop-u.invariant.reached (more d)
+
+-- the text up to the end that was found
+text : (d : After-until-e) → TextAt d.args.line.now d.loop-u.u d.loop-u.at d.until-e.result
+text d =
+    text_at d.loop-u.invariant.reached (more (goal.at.After-until-e d).In-loop-u)
+    _ d.until-e.ensures
 
 pub loop-u-init : goal.loop-u-init
 loop-u-init c =
@@ -12,53 +26,42 @@ loop-u-init c =
 
 pub overflow_add-start : goal.overflow_add-start
 overflow_add-start c =
-    let more : suc c.loop-u.u < length (fields c.args.line.now) = omega (arith, c.requires.0) in
-    let comma : c.loop-u.at < length c.args.line.now = comma_lt c.loop-u.invariant.reached more in
-    omega (arith, comma)
+    let d = (goal.at.overflow_add-start c).In-loop-u in
+    omega (arith, comma d)
 
 pub slice_bounds-until-count : goal.slice_bounds-until-count
 slice_bounds-until-count c =
-    let more : suc c.loop-u.u < length (fields c.args.line.now) = omega (arith, c.requires.0) in
-    let comma : c.loop-u.at < length c.args.line.now = comma_lt c.loop-u.invariant.reached more in
-    omega (arith, comma)
+    let d = (goal.at.slice_bounds-until-count c).In-loop-u in
+    omega (arith, comma d)
 
 pub slice_bounds-until-start : goal.slice_bounds-until-start
 slice_bounds-until-start c =
-    let more : suc c.loop-u.u < length (fields c.args.line.now) = omega (arith, c.requires.0) in
-    let comma : c.loop-u.at < length c.args.line.now = comma_lt c.loop-u.invariant.reached more in
-    omega (arith, comma)
+    let d = (goal.at.slice_bounds-until-start c).In-loop-u in
+    omega (arith, comma d)
 
 pub overflow_add-end : goal.overflow_add-end
 overflow_add-end c =
-    let more : suc c.loop-u.u < length (fields c.args.line.now) = omega (arith, c.requires.0) in
-    let text : TextAt c.args.line.now c.loop-u.u c.loop-u.at c.until-e.result = text_at c.loop-u.invariant.reached more
-    _ c.until-e.ensures in
-    omega (arith, text.inside)
+    let d = (goal.at.overflow_add-end c).After-until-e in
+    omega (arith, (text d).inside)
 
 pub slice_bounds-put_minute-end : goal.slice_bounds-put_minute-end
 slice_bounds-put_minute-end c =
-    let more : suc c.loop-u.u < length (fields c.args.line.now) = omega (arith, c.requires.0) in
-    let text : TextAt c.args.line.now c.loop-u.u c.loop-u.at c.until-e.result = text_at c.loop-u.invariant.reached more
-    _ c.until-e.ensures in
-    omega (arith, text.inside)
+    let d = (goal.at.slice_bounds-put_minute-end c).After-until-e in
+    omega (arith, (text d).inside)
 
 pub returns-then-not-put_minute : goal.returns-then-not-put_minute
 returns-then-not-put_minute c =
-    let more : suc c.loop-u.u < length (fields c.args.line.now) = omega (arith, c.requires.0) in
-    let text : TextAt c.args.line.now c.loop-u.u c.loop-u.at c.until-e.result = text_at c.loop-u.invariant.reached more
-    _ c.until-e.ensures in
+    let d = (goal.at.returns-then-not-put_minute c).After-until-e in
     let no = c.if-not-put_minute.true in
     row-fault c.loop-u.invariant (omega arith)
-    (rw (no, text.text) at c.put_minute.ensures)
+    (rw (no, (text d).text) at c.put_minute.ensures)
 
 pub loop-u-preserved : goal.loop-u-preserved
 loop-u-preserved c =
-    let more : suc c.loop-u.u < length (fields c.args.line.now) = omega (arith, c.requires.0) in
-    let text : TextAt c.args.line.now c.loop-u.u c.loop-u.at c.until-e.result = text_at c.loop-u.invariant.reached more
-    _ c.until-e.ensures in
+    let d = (goal.at.loop-u-preserved c).After-until-e in
     let yes = c.if-not-put_minute.false in
     row_next c.loop-u.invariant (omega arith) c.requires.1
-    (rw (yes, text.text) at c.put_minute.ensures) _ text.next
+    (rw (yes, (text d).text) at c.put_minute.ensures) _ (text d).next
 
 pub returns : goal.returns
 returns c =

@@ -7,36 +7,44 @@ use Rattle.rounds.proofs.Rounding.{greatest, Rounding}
 use Rattle.rounds.proofs.Rounding.{climb_at-most, highest_at-most}
 use Rattle.rounds.proofs.Rounded.{framed-times, framed-rounds, ends_passing, ends_resting, ends_rising}
 use Rattle.rounds.proofs.Usable.{raised-few}
-use Rattle.rounds.proofs.round.Goals.{then-frame-greatest-via-then-frame-greatest}
+use Rattle.rounds.proofs.round.Goals.{At-loop-s, Start, then-frame-greatest-via-then-frame-greatest}
 use Rattle.rounds.proofs.round.Goals.{then-frame-greatest-via-else-frame-greatest+then-highest-gt0}
 use Rattle.rounds.proofs.round.Goals as goal
 
+-- the invariant for the network that there is
+abbrev Invariant : At-loop-s → Type 0
+Invariant d =
+    let a = d.args in
+    Rounding (raised_at d.requires.0.network a.counts.now a.lists.now a.t.now) a.frame.scenarios
+    a.t.now d.loop-s.new d.loop-s.climb d.loop-s.highest d.loop-s.s
+
+rounding : (d : At-loop-s) → (Invariant d)
+rounding d = let U = d.requires.0 in d.loop-s.invariant U.network U.compiled
+
+-- the two rows can be compared
+made-few : (d : Start) → (r u : ℕ) → r < d.args.frame.scenarios → u < 16
+    → raised_at d.requires.0.network d.args.counts.now d.args.lists.now d.args.t.now r u ≤ 32767
+made-few d =
+    λ r u h l. omega
+    (arith, raised-few d.requires.0 d.requires.1 r h u l)
+
+climb-few : (d : At-loop-s) → Few 32767 d.loop-s.climb
+climb-few d = climb_at-most (rounding d) 32767 (made-few (goal.at.At-loop-s d).Start)
+
+highest-few : (d : At-loop-s) → Few 32767 d.loop-s.highest
+highest-few d = highest_at-most (rounding d) 32767 (made-few (goal.at.At-loop-s d).Start)
+
 pub raise_row-requires : goal.raise_row-requires
 raise_row-requires c =
-    let Invariant : Type 0 = let a = c.args in
-    Rounding (raised_at c.requires.0.network a.counts.now a.lists.now a.t.now) a.frame.scenarios
-    a.t.now c.loop-s.new c.loop-s.climb c.loop-s.highest c.loop-s.s in
-    let rounding : Invariant = let U = c.requires.0 in c.loop-s.invariant U.network U.compiled in
-    let made-few : (r u : ℕ) → r < c.args.frame.scenarios → u < 16
-    → raised_at c.requires.0.network c.args.counts.now c.args.lists.now c.args.t.now r u ≤ 32767 = λ r u h l. omega
-    (arith, raised-few c.requires.0 c.requires.1 r h u l) in
-    let climb-few : Few 32767 c.loop-s.climb = climb_at-most rounding 32767 made-few in
-    let highest-few : Few 32767 c.loop-s.highest = highest_at-most rounding 32767 made-few in
+    let d = (goal.at.raise_row-requires c).At-loop-s in
     let pre = c.requires in
-    let i = rounding in
-    (c.loop-s-test.true, pre.0, pre.1, i.sized, i.climb_is.sized, climb-few, i.highest_is.sized, highest-few)
+    let i = rounding d in
+    (c.loop-s-test.true, pre.0, pre.1, i.sized, i.climb_is.sized, climb-few d, i.highest_is.sized, highest-few d)
 
 pub greatest-requires : goal.greatest-requires
 greatest-requires c =
-    let Invariant : Type 0 = let a = c.args in
-    Rounding (raised_at c.requires.0.network a.counts.now a.lists.now a.t.now) a.frame.scenarios
-    a.t.now c.loop-s.new c.loop-s.climb c.loop-s.highest c.loop-s.s in
-    let rounding : Invariant = let U = c.requires.0 in c.loop-s.invariant U.network U.compiled in
-    let made-few : (r u : ℕ) → r < c.args.frame.scenarios → u < 16
-    → raised_at c.requires.0.network c.args.counts.now c.args.lists.now c.args.t.now r u ≤ 32767 = λ r u h l. omega
-    (arith, raised-few c.requires.0 c.requires.1 r h u l) in
-    let highest-few : Few 32767 c.loop-s.highest = highest_at-most rounding 32767 made-few in
-    highest-few
+    let d = (goal.at.greatest-requires c).At-loop-s in
+    (highest-few d)
 
 pub returns-then-frame-greatest : goal.returns-then-frame-greatest
 unfolding greatest
@@ -51,15 +59,8 @@ returns-then-frame-greatest c =
 
 pub greatest-requires-2 : goal.greatest-requires-2
 greatest-requires-2 c =
-    let Invariant : Type 0 = let a = c.args in
-    Rounding (raised_at c.requires.0.network a.counts.now a.lists.now a.t.now) a.frame.scenarios
-    a.t.now c.loop-s.new c.loop-s.climb c.loop-s.highest c.loop-s.s in
-    let rounding : Invariant = let U = c.requires.0 in c.loop-s.invariant U.network U.compiled in
-    let made-few : (r u : ℕ) → r < c.args.frame.scenarios → u < 16
-    → raised_at c.requires.0.network c.args.counts.now c.args.lists.now c.args.t.now r u ≤ 32767 = λ r u h l. omega
-    (arith, raised-few c.requires.0 c.requires.1 r h u l) in
-    let climb-few : Few 32767 c.loop-s.climb = climb_at-most rounding 32767 made-few in
-    climb-few
+    let d = (goal.at.greatest-requires-2 c).At-loop-s in
+    (climb-few d)
 
 pub returns-then-greatest-eq0 : goal.returns-then-greatest-eq0
 unfolding greatest

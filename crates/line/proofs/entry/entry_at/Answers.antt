@@ -12,7 +12,26 @@ use Rattle.line.specs.declared.Section.TheVariants.{Events, Signals, Rules, Reac
 use Rattle.text.proofs.Lines.{line_missing, line_le}
 use Rattle.line.proofs.Answered.{event_parts, signal_parts_lem, rule_parts, reaction_parts_lem, case_parts_lem}
 use Rattle.line.proofs.Answered.{entry_ends}
+use Rattle.line.proofs.entry.entry_at.Goals.{Else-e-rest}
 use Rattle.line.proofs.entry.entry_at.Goals as goal
+
+abbrev parts : Else-e-rest → Network
+parts d =
+    let a = d.args in
+    parts_of a.n a.starts.now a.lengths.now a.k a.letters.now a.observations.now
+    a.reactions.now a.labelled.now
+
+abbrev line : Else-e-rest → List ℕ
+line d = take d.until-e.result d.args.rest.now
+
+-- what a section's reader answers of the line's fields is the answer of the line
+answered : (d : Else-e-rest) → (s : Section) → d.args.section ≡ s
+    → entry_by (line d) s d.args.sheet.now (parts d)
+    ≡ entry_at d.args.rest.now d.args.section d.args.sheet.now (parts d)
+answered d =
+    λ s e. let a = d.args in
+    entry_ends a.sheet.now (parts d) a.rest.now d.until-e.result d.until-e.ensures
+    d.if-e-rest.false s a.section e
 
 pub returns-then-e-rest : goal.returns-then-e-rest
 returns-then-e-rest c =
@@ -29,71 +48,31 @@ slice_bounds-line-end c =
 
 pub returns-in-Events : goal.returns-in-Events
 returns-in-Events c =
-    let parts : Network = let a = c.args in
-    parts_of a.n a.starts.now a.lengths.now a.k a.letters.now a.observations.now
-    a.reactions.now a.labelled.now in
-    let line : List ℕ = take c.until-e.result c.args.rest.now in
-    let answered : (s : Section) → c.args.section ≡ s
-    → entry_by line s c.args.sheet.now parts
-    ≡ entry_at c.args.rest.now c.args.section c.args.sheet.now parts = λ s e. let a = c.args in
-    entry_ends a.sheet.now parts a.rest.now c.until-e.result c.until-e.ensures
-    c.if-e-rest.false s a.section e in
-    c.event_fields.ensures ∙ event_parts c.args.sheet.now parts line
-    ∙ answered Events c.in-Events.is
+    let d = (goal.at.returns-in-Events c).Else-e-rest in
+    c.event_fields.ensures ∙ event_parts c.args.sheet.now (parts d) (line d)
+    ∙ (answered d) Events c.in-Events.is
 
 pub returns-in-Signals : goal.returns-in-Signals
 returns-in-Signals c =
-    let parts : Network = let a = c.args in
-    parts_of a.n a.starts.now a.lengths.now a.k a.letters.now a.observations.now
-    a.reactions.now a.labelled.now in
-    let line : List ℕ = take c.until-e.result c.args.rest.now in
-    let answered : (s : Section) → c.args.section ≡ s
-    → entry_by line s c.args.sheet.now parts
-    ≡ entry_at c.args.rest.now c.args.section c.args.sheet.now parts = λ s e. let a = c.args in
-    entry_ends a.sheet.now parts a.rest.now c.until-e.result c.until-e.ensures
-    c.if-e-rest.false s a.section e in
-    c.signal_fields.ensures ∙ signal_parts_lem c.args.sheet.now parts line
-    ∙ answered Signals c.in-Signals.is
+    let d = (goal.at.returns-in-Signals c).Else-e-rest in
+    c.signal_fields.ensures ∙ signal_parts_lem c.args.sheet.now (parts d) (line d)
+    ∙ (answered d) Signals c.in-Signals.is
 
 pub returns-in-Rules : goal.returns-in-Rules
 returns-in-Rules c =
-    let parts : Network = let a = c.args in
-    parts_of a.n a.starts.now a.lengths.now a.k a.letters.now a.observations.now
-    a.reactions.now a.labelled.now in
-    let line : List ℕ = take c.until-e.result c.args.rest.now in
-    let answered : (s : Section) → c.args.section ≡ s
-    → entry_by line s c.args.sheet.now parts
-    ≡ entry_at c.args.rest.now c.args.section c.args.sheet.now parts = λ s e. let a = c.args in
-    entry_ends a.sheet.now parts a.rest.now c.until-e.result c.until-e.ensures
-    c.if-e-rest.false s a.section e in
-    c.rule_fields.ensures ∙ rule_parts c.args.sheet.now parts line
-    ∙ answered Rules c.in-Rules.is
+    let d = (goal.at.returns-in-Rules c).Else-e-rest in
+    c.rule_fields.ensures ∙ rule_parts c.args.sheet.now (parts d) (line d)
+    ∙ (answered d) Rules c.in-Rules.is
 
 pub returns-in-Reactions : goal.returns-in-Reactions
 returns-in-Reactions c =
-    let parts : Network = let a = c.args in
-    parts_of a.n a.starts.now a.lengths.now a.k a.letters.now a.observations.now
-    a.reactions.now a.labelled.now in
-    let line : List ℕ = take c.until-e.result c.args.rest.now in
-    let answered : (s : Section) → c.args.section ≡ s
-    → entry_by line s c.args.sheet.now parts
-    ≡ entry_at c.args.rest.now c.args.section c.args.sheet.now parts = λ s e. let a = c.args in
-    entry_ends a.sheet.now parts a.rest.now c.until-e.result c.until-e.ensures
-    c.if-e-rest.false s a.section e in
+    let d = (goal.at.returns-in-Reactions c).Else-e-rest in
     let sheet = c.args.sheet.now in
-    c.reaction_fields.ensures sheet ∙ reaction_parts_lem sheet parts line
-    ∙ answered Reactions c.in-Reactions.is
+    c.reaction_fields.ensures sheet ∙ reaction_parts_lem sheet (parts d) (line d)
+    ∙ (answered d) Reactions c.in-Reactions.is
 
 pub returns-in-Cases : goal.returns-in-Cases
 returns-in-Cases c =
-    let parts : Network = let a = c.args in
-    parts_of a.n a.starts.now a.lengths.now a.k a.letters.now a.observations.now
-    a.reactions.now a.labelled.now in
-    let line : List ℕ = take c.until-e.result c.args.rest.now in
-    let answered : (s : Section) → c.args.section ≡ s
-    → entry_by line s c.args.sheet.now parts
-    ≡ entry_at c.args.rest.now c.args.section c.args.sheet.now parts = λ s e. let a = c.args in
-    entry_ends a.sheet.now parts a.rest.now c.until-e.result c.until-e.ensures
-    c.if-e-rest.false s a.section e in
-    c.label_fields.ensures ∙ case_parts_lem c.args.sheet.now parts line
-    ∙ answered Cases c.in-Cases.is
+    let d = (goal.at.returns-in-Cases c).Else-e-rest in
+    c.label_fields.ensures ∙ case_parts_lem c.args.sheet.now (parts d) (line d)
+    ∙ (answered d) Cases c.in-Cases.is
