@@ -77,6 +77,7 @@ passed difference uint16_t 'return v - w;'
 passed difference_in_text uint16_t 'return v - w;' text::of
 passed product uint32_t 'return v * w;'
 noticed product_in_text uint32_t 'return v * w;' text::of
+noticed product_on_page uint32_t 'return v * w;' 'page::Page::of::<#00c5eed1ab5e10f5>'
 noticed quotient uint16_t 'return v / w;'
 noticed tenth_16 uint16_t 'return v / 10;'
 noticed tenth_32 uint32_t 'return v / 10;'
@@ -99,7 +100,9 @@ found "$1" >"$room/found"
 for name in opening_listing opening_house; do
   grep -q "^seen $name$" "$room/found" || fail "$name is not in the library"
 done
-grep -qE '^seen (page::push_number|text::spell)$' "$room/found" || fail 'it is not seen where numbers are written'
+# by the method of a page, by `spell`, or by what these two are made of where the compiler keeps that apart
+grep -qE '^seen (page::Page::push_number|text::(spell|place|count_off))(::<.*>)?$' "$room/found" ||
+  fail 'it is not seen where numbers are written'
 ! at_fault "$1" || fail 'the library divides'
 called=$(($(grep -c '^seen ' "$room/found") - 2))
 echo "divides: nothing divides in opening_listing, opening_house and the $called functions that they call"

@@ -1,7 +1,4 @@
--- In reading order: lists, one bound longer; what they ask of a row; weights, also at their edges; the bounds of a
--- constraint's halves.
-pub mod Listed
+-- In reading order: what lists of bounds ask of a row; lists, one bound longer; weights at their edges.
 pub mod Asked
-pub mod Weights
+pub mod Listed
 pub mod Examples
-pub mod Halves

@@ -1,3 +1,3 @@
--- Read in this order: lists of bounds; the halves of a constraint.
+-- Read in this order: the weight of a bound; lists of bounds.
+pub mod Weight
 pub mod Listed
-pub mod Halves

@@ -6,22 +6,20 @@ use mathlib.Core.Bool.{true, false}
 use mathlib.Core.List.{List, [], ◌∷◌}
 use Prim.Native.Nat.{ℕ}
 use lib.ListN.{length}
+use Rattle.std.specs.Prelude.{Ok, Err, Result}
 use Rattle.prelude.specs.Checks.{first_failing_lem}
 use Rattle.prelude.proofs.Tests.{either}
 use Rattle.refusal.specs.declared.Cause.TheVariants as C
 use Rattle.network.specs.Build.{cells}
 use Rattle.network.specs.declared.Network.{Network}
-use Rattle.sheet.specs.Reading.{read}
-use Rattle.sheet.specs.declared.Outcome.TheVariants.{Accepted}
+use Rattle.sheet.specs.Reading.{network_of, Accepts}
 use Rattle.checker.specs.Verdict.{verdict}
-use Rattle.dispatch.specs.declared.Dispatched.{Dispatched}
+use Rattle.dispatch.specs.declared.Unheard.{Unheard}
 use Rattle.listing.specs.Listing.{listing}
 use Rattle.calls.specs.Call.{without_line_lem, Tests}
 use Rattle.calls.specs.Lent.{Handed, in_place_lem}
 use Rattle.calls.specs.Calls.{judging_tests, judging, enough, writing, refusing, listing_tests, listing_of}
 use Rattle.calls.specs.Play.{named, ever_heard, events_of, is_pass, playing_tests, playing}
-use Rattle.calls.specs.declared.Due.TheVariants as D
-use Rattle.calls.specs.declared.Judgement.TheVariants as J
 use Rattle.calls.proofs.Call.{call-alike}
 
 -- both have n minutes, and the same, or neither has
@@ -30,12 +28,12 @@ pub record Alike (t t' : Handed) (n : ℕ) : Type 0 where
   pub minutes : t.has n ≡ true → t.minutes ≡ t'.minutes
 
 module _ (sheet : List ℕ) (t t' : Handed)
-    (alike : (read sheet).outcome ≡ Accepted → Alike t t' (cells (read sheet).network)) where
+    (alike : Accepts sheet → Alike t t' (cells (network_of sheet))) where
   abbrev net : Network
-  net = (read sheet).network
+  net = network_of sheet
 
   -- a list of tests that begins with that of the length
-  same_tests : (read sheet).outcome ≡ Accepted → (rest rest' : Tests) → (t.has (cells net) ≡ true → rest ≡ rest')
+  same_tests : Accepts sheet → (rest rest' : Tests) → (t.has (cells net) ≡ true → rest ≡ rest')
       → first_failing_lem ((t.has (cells net), without_line_lem C.WrongTableLength) ∷ rest)
       ≡ first_failing_lem ((t'.has (cells net), without_line_lem C.WrongTableLength) ∷ rest')
   same_tests a rest rest' same =
@@ -46,9 +44,9 @@ module _ (sheet : List ℕ) (t t' : Handed)
 
   pub judging-alike : judging sheet t ≡ judging sheet t'
   judging-alike =
-      call-alike J.Refused sheet (judging_tests t) (judging_tests t') (λ Γ. J.Judged (verdict Γ t.minutes))
-      (λ Γ. J.Judged (verdict Γ t'.minutes)) (λ a. same_tests a [] [] (λ _. refl))
-      (λ a h. ap (λ (σ : List ℕ). J.Judged (verdict net σ)) ((alike a).minutes h.0))
+      call-alike Err sheet (judging_tests t) (judging_tests t') (λ Γ. Ok (verdict Γ t.minutes))
+      (λ Γ. Ok (verdict Γ t'.minutes)) (λ a. same_tests a [] [] (λ _. refl))
+      (λ a h. ap (λ (σ : List ℕ). Ok (verdict net σ)) ((alike a).minutes h.0))
 
   pub listing-alike : (m : List ℕ) → listing_of sheet t m ≡ listing_of sheet t' m
   listing-alike m =
@@ -60,17 +58,17 @@ module _ (sheet : List ℕ) (t t' : Handed)
       (λ a. same_tests a (rest t.minutes) (rest t'.minutes) (λ e. ap rest ((alike a).minutes e)))
       (λ a h. ap (λ (σ : List ℕ). writing (in_place_lem m) (listing sheet net σ)) ((alike a).minutes h.0))
 
-  pub playing-alike : (said said' : Network → Dispatched)
-      → ((read sheet).outcome ≡ Accepted → t.has (cells net) ≡ true → said net ≡ said' net)
+  pub playing-alike : (said said' : Network → Result ℕ Unheard)
+      → (Accepts sheet → t.has (cells net) ≡ true → said net ≡ said' net)
       → playing sheet t said ≡ playing sheet t' said'
   playing-alike said said' same =
-      call-alike D.Refused sheet (playing_tests t said) (playing_tests t' said') (λ Γ. D.Events (events_of (said Γ)))
-      (λ Γ. D.Events (events_of (said' Γ)))
+      call-alike Err sheet (playing_tests t said) (playing_tests t' said') (λ Γ. Ok (events_of (said Γ)))
+      (λ Γ. Ok (events_of (said' Γ)))
       (λ a. same_tests a (rest t.minutes (said net)) (rest t'.minutes (said' net))
       (λ e. ap (λ (σ : List ℕ). rest σ (said net)) ((alike a).minutes e) ∙ ap (rest t'.minutes) (same a e)))
-      (λ a h. ap (λ (d : Dispatched). D.Events (events_of d)) (same a h.0))
+      (λ a h. ap (λ (d : Result ℕ Unheard). Ok (events_of d)) (same a h.0))
     where
-      rest : List ℕ → Dispatched → Tests
+      rest : List ℕ → Result ℕ Unheard → Tests
       rest σ d =
           (is_pass (verdict net σ), without_line_lem C.TableFails)
           ∷ (named d, without_line_lem C.MisnamedSignal)

@@ -6,12 +6,13 @@ use mathlib.Core.List.{List}
 use Prim.Native.Nat.{ℕ, suc, ◌≤◌}
 use native.Mathlib.Omega.{arith}
 use borrow.Author.Tests.{le-leb, lt-leb}
+use Rattle.std.specs.Prelude.{Result, Ok, Err}
 use Rattle.prelude.proofs.Tests.{clash}
 use Rattle.refusal.specs.declared.Refusal.{Refusal}
-use Rattle.sheet.specs.Reading.{longest, read}
+use Rattle.network.specs.declared.Network.{Network}
+use Rattle.sheet.specs.Reading.{longest, read, network_of, Accepts}
 use Rattle.sheet.specs.Fault.{Fault}
-use Rattle.sheet.specs.declared.Outcome.{Outcome}
-use Rattle.sheet.specs.declared.Outcome.TheVariants.{Accepted, Refused}
+use Rattle.sheet.proofs.WellFormed.{accepts}
 use Rattle.sheet.proofs.Fault.{refused_iff, first-fault-range, first-fault-near}
 use Rattle.calls.specs.Values.{Values, turned_away}
 use Rattle.calls.specs.Answers.{names_line, OfSheet, Own, OneOf, Answers}
@@ -25,8 +26,8 @@ of_sheet n l (inr h) =
     rw (le-leb 2 n l, lt-leb n 10 (omega (arith, h.0)), le-leb 18 n (omega (arith, h.0)), le-leb n 21 h.1)
 
 module _ {A : Type 0} (nothing : A) (sheet : List ℕ) (own : List Own) (v : Values A) (above : are_own own ≡ true)
-    (refused : (r : Refusal) → (read sheet).outcome ≡ Refused r → v ≡ turned_away nothing r)
-    (accepted : (read sheet).outcome ≡ Accepted → Settles nothing own (read sheet).network v) where
+    (refused : (r : Refusal) → read sheet ≡ Err r → v ≡ turned_away nothing r)
+    (accepted : Accepts sheet → Settles nothing own (network_of sheet) v) where
   -- what does not depend on the cause: numbers, lines, and that a refusal is empty
   record Told : Type 0 where
     number : OfSheet v.number ⊎ OneOf own v.number
@@ -60,9 +61,9 @@ module _ {A : Type 0} (nothing : A) (sheet : List ℕ) (own : List Own) (v : Val
         empty = λ m. ap (λ (w : Values A). w.value) e;
       }
 
-  by_own : Settles nothing own (read sheet).network v → Told
+  by_own : Settles nothing own (network_of sheet) v → Told
   by_own s =
-      let Γ = (read sheet).network in
+      let Γ = network_of sheet in
       record {
         number = elim (settled_one nothing own Γ v s) [ inl n ↦ inl (inl (omega arith)) | inr m ↦ inr m ];
         line = settled_line nothing own Γ v s;
@@ -70,13 +71,13 @@ module _ {A : Type 0} (nothing : A) (sheet : List ℕ) (own : List Own) (v : Val
         empty = settled_empty nothing own Γ v s;
       }
 
-  told : (o : Outcome) → (read sheet).outcome ≡ o → Told
-  told Accepted e = by_own (accepted e)
-  told (Refused r) e = by-fault r (refused r e) ((refused_iff sheet r).0 e)
+  told : (g : Result Network Refusal) → read sheet ≡ g → Told
+  told (Ok Γ) e = by_own (accepted (accepts sheet Γ e).0)
+  told (Err r) e = by-fault r (refused r e) ((refused_iff sheet r).0 e)
 
   pub answers_by : Answers sheet own nothing v
   answers_by =
-      let t = told (read sheet).outcome refl in
+      let t = told (read sheet) refl in
       record {
         numbers = t.number;
         lines = t.line;
@@ -84,6 +85,6 @@ module _ {A : Type 0} (nothing : A) (sheet : List ℕ) (own : List Own) (v : Val
         at_fault = λ r f. refused r ((refused_iff sheet r).1 f);
         exactly = λ Γ reads.
             rw (← reads.network)
-            (settled_exactly nothing own (read sheet).network v above (accepted reads.accepted));
+            (settled_exactly nothing own (network_of sheet) v above (accepted reads.accepted));
         refusal_empty = t.empty;
       }

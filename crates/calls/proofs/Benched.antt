@@ -10,20 +10,17 @@ use Rattle.pairs.specs.Pairs.{minutes_of, bytes_of}
 use Rattle.network.specs.Build.{cells}
 use Rattle.network.specs.Least.{Least, Inconsistent}
 use Rattle.network.specs.declared.Network.{Network}
-use Rattle.sheet.specs.Reading.{read}
-use Rattle.sheet.specs.declared.Outcome.TheVariants.{Accepted}
+use Rattle.sheet.specs.Reading.{network_of, Accepts}
 use Rattle.dispatch.specs.Due.{due}
 use Rattle.dispatch.specs.HeardText.{is_heard_lem, heard_in, due_text}
 use Rattle.dispatch.proofs.HeardText.{due-heard}
-use Rattle.calls.specs.Values.{done}
+use Rattle.calls.specs.Values.{OrRefusal, done, number_values}
 use Rattle.calls.specs.Call.{Left}
 use Rattle.calls.specs.Lent.{as_minutes, as_bytes, in_pairs}
-use Rattle.calls.specs.Calls.{written_values}
 use Rattle.calls.specs.Play.{events_due_lem}
 use Rattle.calls.specs.Bench.{bench_solving, bench_due}
 use Rattle.calls.specs.Numbers.{bytes}
 use Rattle.calls.specs.Benched.{Benched}
-use Rattle.calls.specs.declared.Written.{Written}
 use Rattle.calls.proofs.Handed.{bytes_rightly}
 use Rattle.calls.proofs.Judging.{judge_passes, judge-breaches}
 use Rattle.calls.proofs.Solving.{refuses_13, solves-least}
@@ -33,20 +30,20 @@ use Rattle.calls.proofs.Play.{lettered}
 use Rattle.calls.proofs.Header.{header-judge, header-solver, header-lister, header-house, header-player}
 use Rattle.calls.proofs.Header.{header-recoverer}
 
-module _ (sheet : List ℕ) (a : (read sheet).outcome ≡ Accepted) (b : List ℕ) where
+module _ (sheet : List ℕ) (a : Accepts sheet) (b : List ℕ) where
   abbrev net : Network
-  net = (read sheet).network
+  net = network_of sheet
 
   solved : cells net ≤ length b / 2 → (Inconsistent net → ⊥)
-      → (σ : List ℕ) × Least net σ × (written_values (bench_solving sheet b).answer ≡ done (cells net))
+      → (σ : List ℕ) × Least net σ × (number_values (bench_solving sheet b).answer ≡ done (cells net))
       × ((bench_solving sheet b).memory ≡ bytes_of σ ++ drop (2 * cells net) b)
   solved room n =
       let s = solves-least sheet (in_pairs b) a room n in
       let size = s.1.solves.sized in (
         s.0,
         s.1,
-        ap (λ (l : Left Written). written_values l.answer) s.2 ∙ ap done size,
-        ap (λ (l : Left Written). l.memory) s.2 ∙ ap (λ (k : ℕ). bytes_of s.0 ++ drop (2 * k) b) size,
+        ap (λ (l : Left (OrRefusal ℕ)). number_values l.answer) s.2 ∙ ap done size,
+        ap (λ (l : Left (OrRefusal ℕ)). l.memory) s.2 ∙ ap (λ (k : ℕ). bytes_of s.0 ++ drop (2 * k) b) size,
       )
 
   -- a table of bytes that has the right length is played as its minutes are
@@ -65,13 +62,13 @@ module _ (sheet : List ℕ) (a : (read sheet).outcome ≡ Accepted) (b : List �
 pub benched : Benched
 benched = record {
   passes = λ sheet b Γ r. rw (← r.network)
-      (judge_passes sheet (as_bytes b) (bytes b) r.accepted (bytes_rightly b (read sheet).network));
+      (judge_passes sheet (as_bytes b) (bytes b) r.accepted (bytes_rightly b (network_of sheet)));
   breaches = λ sheet b Γ x r. rw (← r.network)
-      (λ e. judge-breaches sheet (as_bytes b) (bytes b) r.accepted (bytes_rightly b (read sheet).network) e x);
+      (λ e. judge-breaches sheet (as_bytes b) (bytes b) r.accepted (bytes_rightly b (network_of sheet)) e x);
   refused = λ sheet b Γ r. rw (← r.network) (λ room. refuses_13 sheet (in_pairs b) r.accepted room);
   solved = λ sheet b Γ r. rw (← r.network) (solved sheet r.accepted b);
   lists = λ sheet b m Γ r. rw (← r.network)
-      (λ e. listing-wrote sheet (as_bytes b) (bytes b) m r.accepted (bytes_rightly b (read sheet).network) e);
+      (λ e. listing-wrote sheet (as_bytes b) (bytes b) m r.accepted (bytes_rightly b (network_of sheet)) e);
   plays = λ sheet b Γ m text r. rw (← r.network) (λ e. played sheet r.accepted b e m text);
   judge_holds = header-judge;
   solver_holds = header-solver;

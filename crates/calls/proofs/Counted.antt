@@ -5,27 +5,27 @@ use Prim.Native.Nat.{ℕ, ◌≤◌}
 use native.Mathlib.Omega.{arith}
 use lib.ListN.{length, drop, length-append}
 use Rattle.network.specs.declared.Network.{Network}
-use Rattle.sheet.specs.Reading.{read}
+use Rattle.sheet.specs.Reading.{network_of}
 use Rattle.solver.specs.Solve.{found}
 use Rattle.listing.specs.Listing.{listing}
 use Rattle.canonical.specs.House.{house_text}
+use Rattle.calls.specs.Values.{OrRefusal, number_values}
 use Rattle.calls.specs.Call.{Tests, call, Left, Leaves}
 use Rattle.calls.specs.Lent.{as_minutes, in_place_lem}
-use Rattle.calls.specs.Calls.{written_values, writing, refusing, solving_tests, solving, listing_tests, listed}
+use Rattle.calls.specs.Calls.{writing, refusing, solving_tests, solving, listing_tests, listed}
 use Rattle.calls.specs.Calls.{house_tests, housed}
 use Rattle.calls.specs.Recover.{recovered_in, recovering_tests, recovering}
-use Rattle.calls.specs.declared.Written.{Written}
 use Rattle.calls.proofs.Call.{Ends, faulty, failed, worked, ends}
 
 -- as a call answers, and as it returns the memory
-abbrev Within : List ℕ → Written → Type 0
-Within m w = (written_values w).value ≤ length m
+abbrev Within : List ℕ → OrRefusal ℕ → Type 0
+Within m w = (number_values w).value ≤ length m
 
 module _ (sheet m : List ℕ) (tests : Network → Tests) (text : Network → List ℕ) where
-  abbrev left : Left Written
+  abbrev left : Left (OrRefusal ℕ)
   left = call (refusing (in_place_lem m)) sheet tests (λ Γ. writing (in_place_lem m) (text Γ))
 
-  counted : {w : Written} {m' : List ℕ} → Leaves left w m' → Within m' w
+  counted : {w : OrRefusal ℕ} {m' : List ℕ} → Leaves left w m' → Within m' w
   counted l = rw (l.answer, l.memory)
       (by_end (ends (refusing (in_place_lem m)) sheet tests (λ Γ. writing (in_place_lem m) (text Γ))))
     where
@@ -34,10 +34,10 @@ module _ (sheet m : List ℕ) (tests : Network → Tests) (text : Network → Li
       by_end (faulty r p e) = rw (← e) (omega arith)
       by_end (failed a c f e) = rw (← e) (omega arith)
       by_end (worked a h e) =
-          let t = text (read sheet).network in
+          let t = text (network_of sheet) in
           rw (← e) (omega (arith, length-append t (drop (length t) m)))
 
-module _ {w : Written} {m' : List ℕ} (sheet m : List ℕ) where
+module _ {w : OrRefusal ℕ} {m' : List ℕ} (sheet m : List ℕ) where
   pub solving-counted : Leaves (solving sheet m) w m' → Within m' w
   solving-counted = counted sheet m (solving_tests (in_place_lem m)) (λ Γ. found Γ)
 

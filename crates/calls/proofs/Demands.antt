@@ -1,6 +1,6 @@
 -- The demands hold: each is cited from where it is proved. Assumes nothing.
 use mathlib.Core.Path.{sym}
-use Rattle.sheet.specs.Reading.{read}
+use Rattle.sheet.specs.Reading.{network_of}
 use Rattle.sheet.proofs.Fault.{refused_iff, fault-lowest}
 use Rattle.line.proofs.WholeFails.{start_fails, complete_fails}
 use Rattle.layout.proofs.Accepted.{accepted_iff, network-contains}
@@ -43,15 +43,15 @@ demands = record {
     λ i e. i.none (found Γ) (solve-least Γ (reads_well_formed r) e).solves,
   );
   passes = λ sheet t Γ r. rw (← r.network)
-      (let p = judge_passes sheet (as_minutes t) (minutes t) r.accepted (minutes_rightly t (read sheet).network) in
+      (let p = judge_passes sheet (as_minutes t) (minutes t) r.accepted (minutes_rightly t (network_of sheet)) in
       (λ e. (p.0 e).1, λ g. p.1 (g.sized, g)));
   breaches = λ sheet t Γ b r. rw (← r.network)
-      (λ e. judge-breaches sheet (as_minutes t) (minutes t) r.accepted (minutes_rightly t (read sheet).network) e b);
+      (λ e. judge-breaches sheet (as_minutes t) (minutes t) r.accepted (minutes_rightly t (network_of sheet)) e b);
   refused = λ sheet m Γ r. rw (← r.network) (λ room. refuses_13 sheet (in_place_lem m) r.accepted room);
   solved = λ sheet m Γ r. rw (← r.network)
       (λ room n. let s = solves-least sheet (in_place_lem m) r.accepted room n in
       (s.0, s.1, wrote s.0 m (sym s.2)));
   lists = λ sheet t m Γ r. rw (← r.network)
-      (λ e. listing-wrote sheet (as_minutes t) (minutes t) m r.accepted (minutes_rightly t (read sheet).network) e);
+      (λ e. listing-wrote sheet (as_minutes t) (minutes t) m r.accepted (minutes_rightly t (network_of sheet)) e);
   bench = benched;
 }

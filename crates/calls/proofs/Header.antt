@@ -7,24 +7,23 @@ use Prim.Native.Nat.{ℕ, ◌<◌}
 use native.Mathlib.Omega.{arith}
 use borrow.Author.Tests.{ltb-true}
 use lib.Dec.{ltb}
+use Rattle.std.specs.Prelude.{Ok, Err}
 use Rattle.prelude.proofs.Tests.{and-true}
 use Rattle.pairs.specs.Pairs.{minutes_of, Short}
-use Rattle.sheet.specs.Reading.{read}
+use Rattle.sheet.specs.Reading.{network_of}
 use Rattle.sheet.proofs.WellFormed.{accepted_well_formed}
+use Rattle.checker.specs.declared.Verdict.{Verdict}
 use Rattle.checker.specs.Verdict.{verdict}
 use Rattle.dispatch.specs.HeardText.{heard_in, due_text}
-use Rattle.calls.specs.Values.{Values}
+use Rattle.calls.specs.Values.{OrRefusal, Values, number_values}
 use Rattle.calls.specs.Lent.{as_bytes, in_pairs}
-use Rattle.calls.specs.Calls.{written_values, judging_tests, housed}
-use Rattle.calls.specs.Play.{due_values}
+use Rattle.calls.specs.Calls.{judging_tests, housed}
 use Rattle.calls.specs.Bench.{bench_judgement, bench_solving, bench_listed, bench_due, bench_recovering}
 use Rattle.calls.specs.Bench.{Finding, no_finding}
 use Rattle.calls.specs.Bench.{judgement_values, refused, packed, Small, packed_count_lem}
 use Rattle.calls.specs.Answers.{OfSheet, Own, OneOf, Answers}
 use Rattle.calls.specs.Numbers.{bytes, judges, solves, lists, houses, recovers, plays, misnamed_in, unheard_by}
 use Rattle.calls.specs.Header.{JudgeHolds, CountHolds}
-use Rattle.calls.specs.declared.Judgement.{Judgement}
-use Rattle.calls.specs.declared.Judgement.TheVariants as J
 use Rattle.calls.proofs.Call.{Ends, faulty, failed, worked, ends}
 use Rattle.calls.proofs.Small.{verdict_small, solving_small, listing_small, house_small, playing_small}
 use Rattle.calls.proofs.Small.{recovering_small, text_small}
@@ -79,10 +78,10 @@ count-holds sheet own v few a c =
     }
 
 module _ (sheet b : List ℕ) where
-  abbrev answer : Judgement
+  abbrev answer : OrRefusal Verdict
   answer = bench_judgement sheet b
 
-  refused_small : (r : _) → J.Refused r ≡ answer → Small (judgement_values answer)
+  refused_small : (r : _) → Err r ≡ answer → Small (judgement_values answer)
   refused_small r e =
       let a : Answers sheet (judges (bytes b)) no_finding (refused r) = rw (← e) at (numbers.bench_judge sheet b) in
       rw (← e)
@@ -94,45 +93,45 @@ module _ (sheet b : List ℕ) where
 
   pub header-judge : let v = judgement_values (bench_judgement sheet b) in JudgeHolds (packed v) v
   header-judge = judge_holds (judgement_values answer)
-      (by_end (ends J.Refused sheet (judging_tests (as_bytes b)) (λ Γ. J.Judged (verdict Γ (minutes_of b)))))
+      (by_end (ends Err sheet (judging_tests (as_bytes b)) (λ Γ. Ok (verdict Γ (minutes_of b)))))
     where
-      by_end : Ends J.Refused sheet (judging_tests (as_bytes b)) (λ Γ. J.Judged (verdict Γ (minutes_of b)))
+      by_end : Ends Err sheet (judging_tests (as_bytes b)) (λ Γ. Ok (verdict Γ (minutes_of b)))
           → Small (judgement_values answer)
       by_end (faulty r p e) = refused_small r e
       by_end (failed p c f e) = refused_small _ e
       by_end (worked p h e) =
-          rw (← e) (verdict_small (read sheet).network (minutes_of b) (accepted_well_formed sheet p).0)
+          rw (← e) (verdict_small (network_of sheet) (minutes_of b) (accepted_well_formed sheet p).0)
 
-  pub header-solver : let v = written_values (bench_solving sheet b).answer in CountHolds (packed_count_lem v) v
+  pub header-solver : let v = number_values (bench_solving sheet b).answer in CountHolds (packed_count_lem v) v
   header-solver =
-      count-holds sheet (solves _) (written_values (bench_solving sheet b).answer) refl
+      count-holds sheet (solves _) (number_values (bench_solving sheet b).answer) refl
       (numbers.bench_solver sheet b).answers (solving_small sheet (in_pairs b))
 
   pub header-lister : (m : List ℕ) → Short (minutes_of b)
-      → let v = written_values (bench_listed sheet b m).answer in CountHolds (packed_count_lem v) v
+      → let v = number_values (bench_listed sheet b m).answer in CountHolds (packed_count_lem v) v
   header-lister m times =
-      count-holds sheet (lists (bytes b) sheet (minutes_of b) m) (written_values (bench_listed sheet b m).answer)
+      count-holds sheet (lists (bytes b) sheet (minutes_of b) m) (number_values (bench_listed sheet b m).answer)
       refl
       (numbers.bench_lister sheet b m).answers (listing_small sheet (as_bytes b) m (λ _ _. times))
 
   pub header-player : (m : ℕ) (text : List ℕ)
-      → let v = due_values (bench_due sheet b m text) in CountHolds (packed_count_lem v) v
+      → let v = number_values (bench_due sheet b m text) in CountHolds (packed_count_lem v) v
   unfolding bench_due
   header-player m text =
       count-holds sheet (plays (bytes b) (minutes_of b) (misnamed_in text) (unheard_by (minutes_of b) m
       (heard_in text)))
-      (due_values (bench_due sheet b m text)) refl (numbers.bench_player sheet b m text)
+      (number_values (bench_due sheet b m text)) refl (numbers.bench_player sheet b m text)
       (playing_small sheet (as_bytes b) (λ Γ. due_text Γ (minutes_of b) m text)
-      (λ a. text_small (read sheet).network (accepted_well_formed sheet a).0 (minutes_of b) m text))
+      (λ a. text_small (network_of sheet) (accepted_well_formed sheet a).0 (minutes_of b) m text))
 
 pub header-recoverer : (sheet bytes b : List ℕ)
-    → let v = written_values (bench_recovering sheet bytes b).answer in CountHolds (packed_count_lem v) v
+    → let v = number_values (bench_recovering sheet bytes b).answer in CountHolds (packed_count_lem v) v
 header-recoverer sheet bytes b =
-    count-holds sheet (recovers sheet bytes _) (written_values (bench_recovering sheet bytes b).answer) refl
+    count-holds sheet (recovers sheet bytes _) (number_values (bench_recovering sheet bytes b).answer) refl
     (numbers.bench_recoverer sheet bytes b).answers (recovering_small sheet bytes (in_pairs b))
 
 pub header-house : (sheet m : List ℕ)
-    → let v = written_values (housed sheet m).answer in CountHolds (packed_count_lem v) v
+    → let v = number_values (housed sheet m).answer in CountHolds (packed_count_lem v) v
 header-house sheet m =
-    count-holds sheet (houses sheet m) (written_values (housed sheet m).answer) refl
+    count-holds sheet (houses sheet m) (number_values (housed sheet m).answer) refl
     (numbers.house_writer sheet m).answers (house_small sheet m)

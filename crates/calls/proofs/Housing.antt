@@ -7,8 +7,7 @@ use lib.ListN.{length}
 use Rattle.network.specs.Limits as L
 use Rattle.network.specs.declared.Network.{Network}
 use Rattle.network.proofs.Least.{same-least, same_inconsistent}
-use Rattle.sheet.specs.Reading.{read}
-use Rattle.sheet.specs.declared.Outcome.TheVariants.{Accepted}
+use Rattle.sheet.specs.Reading.{network_of, Accepts}
 use Rattle.tighten.specs.Tightest.{remaining_of}
 use Rattle.tighten.proofs.Agree.{same-events}
 use Rattle.tighten.proofs.Regular.{uppers_regular}
@@ -25,8 +24,8 @@ use Rattle.calls.proofs.Writing.{house-wrote}
 
 -- a form by its sheet alone: the network and the bytes are told by it
 by-sheet {ℓ} : (P : List ℕ → Network → List ℕ → Type ℓ)
-    → ((sheet : List ℕ) → (read sheet).outcome ≡ Accepted → length (remaining_of (read sheet).network) ≤ L.rules
-    → P sheet (read sheet).network (house_text sheet (read sheet).network))
+    → ((sheet : List ℕ) → Accepts sheet → length (remaining_of (network_of sheet)) ≤ L.rules
+    → P sheet (network_of sheet) (house_text sheet (network_of sheet)))
     → (sheet f : List ℕ) (Γ : Network) → Form sheet Γ f → P sheet Γ f
 by-sheet P h sheet f Γ form =
     let n = form.reads.network in
@@ -55,7 +54,7 @@ second_pass sheet f m Γ form l = let own = again sheet f Γ form in all-written
 
 tables : (sheet f : List ℕ) (Γ Δ : Network) → Form sheet Γ f → Reads f Δ → SameTables Γ Δ
 tables sheet f Γ Δ form reads =
-    by-sheet (λ sheet Γ f. (Δ : Network) → (read f).network ≡ Δ → SameTables Γ Δ)
+    by-sheet (λ sheet Γ f. (Δ : Network) → network_of f ≡ Δ → SameTables Γ Δ)
     (λ sheet a few Δ n. rw (← n)
     (let good = form-tables sheet a few in
     let events = same-events (form_agrees sheet a few) in
@@ -66,7 +65,7 @@ equal : (sheet other f g : List ℕ) (Γ Δ : Network) → Form sheet Γ f → F
 equal sheet other f g Γ Δ form form' =
     by-sheet (λ sheet Γ f. (f ≡ g) ↔ Same sheet Γ other Δ)
     (λ sheet a few.
-    by-sheet (λ other Δ g. (house_text sheet (read sheet).network ≡ g) ↔ Same sheet (read sheet).network other Δ)
+    by-sheet (λ other Δ g. (house_text sheet (network_of sheet) ≡ g) ↔ Same sheet (network_of sheet) other Δ)
     (λ other b few'. forms-equal sheet a few other b few') other g Δ form')
     sheet f Γ form
 

@@ -6,12 +6,12 @@ use mathlib.Core.Bool.{cond}
 use mathlib.Core.List.{List}
 use Prim.Native.Nat.{ℕ}
 use lib.Dec.{eqb}
+use Rattle.std.specs.Prelude.{Ok, Err}
 use Rattle.refusal.specs.declared.Refusal.{Refusal}
 use Rattle.refusal.proofs.Numbered.{numbered}
 use Rattle.network.specs.Solution.{Solution}
 use Rattle.network.specs.declared.Network.{Network}
-use Rattle.sheet.specs.Reading.{read}
-use Rattle.sheet.specs.declared.Outcome.TheVariants.{Accepted}
+use Rattle.sheet.specs.Reading.{network_of, Accepts}
 use Rattle.checker.specs.Verdict.{verdict}
 use Rattle.checker.specs.First.{First}
 use Rattle.checker.specs.declared.Breach.{Breach}
@@ -20,14 +20,12 @@ use Rattle.checker.specs.declared.Verdict.{Verdict}
 use Rattle.checker.specs.declared.Verdict.TheVariants.{Pass, Breach as Breached}
 use Rattle.checker.proofs.Judged.{judged}
 use Rattle.checker.proofs.First.{breach_iff}
-use Rattle.calls.specs.Values.{Values}
+use Rattle.calls.specs.Values.{OrRefusal, Values}
 use Rattle.calls.specs.Lent.{Handed}
 use Rattle.calls.specs.Calls.{judging_tests, judging}
 use Rattle.calls.specs.Bench.{Finding, no_finding, passed, breach_values, verdict_values, judgement_values}
 use Rattle.calls.specs.Answers.{Answers}
 use Rattle.calls.specs.Numbers.{judges}
-use Rattle.calls.specs.declared.Judgement.{Judgement}
-use Rattle.calls.specs.declared.Judgement.TheVariants as J
 use Rattle.calls.proofs.Call.{Ends, faulty, failed, worked, ends, call_works}
 use Rattle.calls.proofs.Settled.{number_of}
 use Rattle.calls.proofs.Matched.{unlined, answers-call}
@@ -57,35 +55,35 @@ no_refusal (Breached (Late s u)) = (refl, refl)
 no_refusal (Breached (Rule s c)) = (refl, refl)
 no_refusal (Breached (Unheard s r u)) = (refl, refl)
 
-unlike : (r : Refusal) (v : Verdict) → judgement_values (J.Refused r) ≡ verdict_values v → ⊥
+unlike : (r : Refusal) (v : Verdict) → judgement_values (Err r) ≡ verdict_values v → ⊥
 unlike r v e = numbered r.cause (ap number_of e ∙ (no_refusal v).0)
 
 module _ (sheet : List ℕ) (t : Handed) (right : Network → Type 0) where
   abbrev net : Network
-  net = (read sheet).network
+  net = network_of sheet
 
-  abbrev answer : Judgement
+  abbrev answer : OrRefusal Verdict
   answer = judging sheet t
 
-  pub judge-answers : ((read sheet).outcome ≡ Accepted → Rightly t right net)
+  pub judge-answers : (Accepts sheet → Rightly t right net)
       → Answers sheet (judges right) no_finding (judgement_values answer)
   judge-answers rightly =
-      answers-call judgement_values no_finding J.Refused (λ r. refl) sheet (judging_tests t)
-      (λ Γ. J.Judged (verdict Γ t.minutes)) (judges right) refl
+      answers-call judgement_values no_finding Err (λ r. refl) sheet (judging_tests t)
+      (λ Γ. Ok (verdict Γ t.minutes)) (judges right) refl
       (λ a. (λ _. unlined refl refl, (rightly a).no, λ _. tt))
       (λ Γ. no_refusal (verdict Γ t.minutes))
 
-  module _ (a : (read sheet).outcome ≡ Accepted) (rightly : Rightly t right net) where
-    judged_so : right net → J.Judged (verdict net t.minutes) ≡ answer
+  module _ (a : Accepts sheet) (rightly : Rightly t right net) where
+    judged_so : right net → Ok (verdict net t.minutes) ≡ answer
     judged_so h =
-        call_works J.Refused sheet (judging_tests t) (λ Γ. J.Judged (verdict Γ t.minutes)) (read sheet) refl
-        a (rightly.yes.1 h, tt)
+        call_works Err sheet (judging_tests t) (λ Γ. Ok (verdict Γ t.minutes)) (network_of sheet) a
+        (rightly.yes.1 h, tt)
 
     judged-by : (v : Verdict) → judgement_values answer ≡ verdict_values v → right net × (verdict net t.minutes ≡ v)
     judged-by v e =
-        by_end (ends J.Refused sheet (judging_tests t) (λ Γ. J.Judged (verdict Γ t.minutes)))
+        by_end (ends Err sheet (judging_tests t) (λ Γ. Ok (verdict Γ t.minutes)))
       where
-        by_end : Ends J.Refused sheet (judging_tests t) (λ Γ. J.Judged (verdict Γ t.minutes))
+        by_end : Ends Err sheet (judging_tests t) (λ Γ. Ok (verdict Γ t.minutes))
             → right net × (verdict net t.minutes ≡ v)
         by_end (faulty r p q) = absurd (unlike r v (ap judgement_values q ∙ e))
         by_end (failed p r f q) = absurd (unlike r v (ap judgement_values q ∙ e))

@@ -6,6 +6,7 @@ use mathlib.Core.List.{List, [], ◌∷◌}
 use Prim.Native.Nat.{ℕ, zero, suc, ◌+◌, ◌^◌}
 use native.Mathlib.Omega.{arith}
 use lib.Dec.{eqb}
+use Rattle.std.specs.Prelude.{Result, Ok, Err}
 use Rattle.prelude.specs.Bytes.{distinct}
 use Rattle.prelude.specs.Search.{when, answers}
 use Rattle.prelude.specs.Bounded.{sum_below}
@@ -18,8 +19,8 @@ use Rattle.dispatch.specs.Heard.{letters_of, is_well_named, says, records_from}
 use Rattle.dispatch.specs.Due.{is_due_lem, as_heard, has_heard_lem, hearer, due_for, due_by, due}
 use Rattle.dispatch.specs.Said.{said_on, stands_on, said_from, well_named_on, due_on}
 use Rattle.dispatch.specs.declared.Heard.{Heard}
-use Rattle.dispatch.specs.declared.Dispatched.{Dispatched}
-use Rattle.dispatch.specs.declared.Dispatched.TheVariants.{Events, Misnamed}
+use Rattle.dispatch.specs.declared.Unheard.{Unheard}
+use Rattle.dispatch.specs.declared.Unheard.TheVariants.{Misnamed}
 use Rattle.tighten.proofs.Agree.{scenarios-agree, happens-agree, time-agree}
 use Rattle.calls.proofs.Likewise.{Likewise}
 use Rattle.calls.proofs.LikeVerdicts.{first-same, all_same, known_same}
@@ -68,7 +69,7 @@ module _ {Γ Δ : Network} (w : Likewise Γ Δ) where
 
     for_same : (o : Option ℕ) → due_for Γ σ m o ≡ due_for Δ σ m o
     for_same none = refl
-    for_same (some s) = ap Events
+    for_same (some s) = ap (λ (n : ℕ). Ok n)
         (sum_below-same (λ u. cond (is_due_lem Γ σ m s u) (2 ^ u) 0) (λ u. cond (is_due_lem Δ σ m s u) (2 ^ u) 0)
         Γ.events
         (λ u _.
@@ -78,7 +79,7 @@ module _ {Γ Δ : Network} (w : Likewise Γ Δ) where
 
     by-same : (b : Bool) (said : ℕ → Bool → Bool) → due_by Γ σ m b said ≡ due_by Δ σ m b said
     by-same b said =
-        ap (λ (d : Dispatched). cond b d Misnamed) (for_same (hearer Γ σ m said) ∙ ap (due_for Δ σ m)
+        ap (λ (d : Result ℕ Unheard). cond b d (Err Misnamed)) (for_same (hearer Γ σ m said) ∙ ap (due_for Δ σ m)
         (hearer-same said))
 
     pub due-same : (hs : List Heard) → due Γ σ m hs ≡ due Δ σ m hs

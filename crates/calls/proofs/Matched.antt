@@ -12,10 +12,11 @@ use Rattle.refusal.specs.Refusal.{number_of}
 use Rattle.refusal.specs.declared.Cause.{Cause}
 use Rattle.refusal.specs.declared.Refusal.{Refusal}
 use Rattle.network.specs.declared.Network.{Network}
-use Rattle.sheet.specs.Reading.{longest, read}
-use Rattle.sheet.specs.declared.Outcome.TheVariants.{Accepted}
-use Rattle.calls.specs.Values.{Values, turned_away}
+use Rattle.sheet.specs.Reading.{longest, network_of, Accepts}
+use Rattle.calls.specs.Values.{OrRefusal, Values, turned_away, number_values}
 use Rattle.calls.specs.Call.{without_line_lem, Tests, call, Left}
+use Rattle.calls.specs.Lent.{Lent}
+use Rattle.calls.specs.Calls.{refusing}
 use Rattle.calls.specs.Answers.{names_line, Own, Answers, Writes}
 use Rattle.calls.proofs.Call.{Ends, faulty, failed, worked, ends, call-refused, call_fails, call_works}
 use Rattle.calls.proofs.Settled.{are_own, Turned, Settles}
@@ -66,40 +67,40 @@ module _ {B : Type 0} (nothing : B) (Γ : Network) (v : Values B) where
 module _ {A B : Type 0} (values : A → Values B) (nothing : B) (refuse : Refusal → A)
     (turned : (r : Refusal) → values (refuse r) ≡ turned_away nothing r) (sheet : List ℕ) (tests : Network → Tests)
     (work : Network → A) (own : List Own) (above : are_own own ≡ true)
-    (matches : (read sheet).outcome ≡ Accepted → Matches (tests (read sheet).network) own (read sheet).network)
+    (matches : Accepts sheet → Matches (tests (network_of sheet)) own (network_of sheet))
     (done : (Γ : Network) → ((values (work Γ)).number ≡ 0) × ((values (work Γ)).line ≡ 0)) where
   abbrev answer : A
   answer = call refuse sheet tests work
 
   abbrev net : Network
-  net = (read sheet).network
+  net = network_of sheet
 
   pub answers-call : Answers sheet own nothing (values answer)
   answers-call =
       answers_by nothing sheet own (values answer) above
-      (λ r e. sym (ap values (call-refused refuse sheet tests work (read sheet) refl r e)) ∙ turned r)
+      (λ r e. sym (ap values (call-refused refuse sheet tests work r e)) ∙ turned r)
       (λ a. settles nothing net (values answer) (tests net) own (matches a)
-      (λ h. rw (← call_works refuse sheet tests work (read sheet) refl a h) (done net))
-      (λ r f. sym (ap values (call_fails refuse sheet tests work (read sheet) refl a r f)) ∙ turned r))
+      (λ h. rw (← call_works refuse sheet tests work (network_of sheet) a h) (done net))
+      (λ r f. sym (ap values (call_fails refuse sheet tests work (network_of sheet) a r f)) ∙ turned r))
 
 -- one that writes
-module _ {A B : Type 0} (values : A → Values B) (nothing : B) (refuse : Refusal → Left A)
-    (turned : (r : Refusal) → values (refuse r).answer ≡ turned_away nothing r) (m : List ℕ)
-    (kept : (r : Refusal) → (refuse r).memory ≡ m) (sheet : List ℕ) (tests : Network → Tests)
-    (work : Network → Left A) (own : List Own) (above : are_own own ≡ true)
-    (matches : (read sheet).outcome ≡ Accepted → Matches (tests (read sheet).network) own (read sheet).network)
-    (done : (Γ : Network) → ((values (work Γ).answer).number ≡ 0) × ((values (work Γ).answer).line ≡ 0)) where
-  abbrev left : Left A
-  left = call refuse sheet tests work
+module _ (m : Lent) (sheet : List ℕ) (tests : Network → Tests) (work : Network → Left (OrRefusal ℕ)) (own : List Own)
+    (above : are_own own ≡ true)
+    (matches : Accepts sheet → Matches (tests (network_of sheet)) own (network_of sheet))
+    (done : (Γ : Network) → ((number_values (work Γ).answer).number ≡ 0)
+    × ((number_values (work Γ).answer).line ≡ 0)) where
+  abbrev left : Left (OrRefusal ℕ)
+  left = call (refusing m) sheet tests work
 
-  keeps-by : Ends refuse sheet tests work → ((values left.answer).number ≡ 0 → ⊥) → left.memory ≡ m
-  keeps-by (faulty r p e) n = rw (← e) (kept r)
-  keeps-by (failed a r f e) n = rw (← e) (kept r)
-  keeps-by (worked a h e) n = absurd (n (rw (← e) (done (read sheet).network).0))
+  keeps-by : Ends (refusing m) sheet tests work → ((number_values left.answer).number ≡ 0 → ⊥)
+      → left.memory ≡ m.before
+  keeps-by (faulty r p e) n = rw (← e) refl
+  keeps-by (failed a r f e) n = rw (← e) refl
+  keeps-by (worked a h e) n = absurd (n (rw (← e) (done (network_of sheet)).0))
 
-  pub writes_call : Writes sheet own values nothing left m
+  pub writes_call : Writes sheet own left m.before
   writes_call = record {
-    answers = answers-call (λ (l : Left A). values l.answer) nothing refuse turned sheet tests work own above
-        matches done;
-    keeps = keeps-by (ends refuse sheet tests work);
+    answers = answers-call (λ (l : Left (OrRefusal ℕ)). number_values l.answer) 0 (refusing m) (λ r. refl) sheet
+        tests work own above matches done;
+    keeps = keeps-by (ends (refusing m) sheet tests work);
   }

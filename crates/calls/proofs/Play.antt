@@ -5,8 +5,7 @@ use mathlib.Core.List.{List}
 use Prim.Native.Nat.{ℕ, ◌<◌}
 use native.Mathlib.Omega.{arith}
 use lib.ListN.{length, length-map}
-use Rattle.sheet.specs.Reading.{read}
-use Rattle.sheet.specs.declared.Outcome.TheVariants.{Accepted}
+use Rattle.sheet.specs.Reading.{network_of, Accepts}
 use Rattle.layout.specs.Contents.{signal_letters}
 use Rattle.layout.proofs.Finds.{letter_is}
 use Rattle.layout.proofs.Accepted.{accepted_iff, network-contains}
@@ -19,12 +18,12 @@ use Rattle.calls.specs.Lent.{as_minutes}
 use Rattle.calls.specs.Play.{events_due_lem, events_due_on_lem}
 use Rattle.calls.proofs.Alike.{playing-alike, itself}
 
-pub lettered : (sheet : List ℕ) → (read sheet).outcome ≡ Accepted → Lettered (read sheet).network
+pub lettered : (sheet : List ℕ) → Accepts sheet → Lettered (network_of sheet)
 lettered sheet a =
     let l = (accepted_iff sheet).0 a in
     let xs = l.contents.signals in
     let c = network-contains sheet l in
-    let inside : (p : ℕ) → p < (read sheet).network.signals → p < length xs = λ p h. omega (arith, c.signals) in
+    let inside : (p : ℕ) → p < (network_of sheet).signals → p < length xs = λ p h. omega (arith, c.signals) in
     let mapped : (p : ℕ) → p < length xs → p < length (signal_letters xs) =
     λ p h. omega (arith, length-map xs (λ x. x.letter)) in
     record {
@@ -42,4 +41,4 @@ events-due-said sheet t m hs =
     playing-alike sheet (as_minutes t) (as_minutes t) (λ _. itself (as_minutes t) _)
     (λ Γ. due_on Γ t m (said_from 0 hs))
     (λ Γ. due Γ t m hs)
-    (λ a _. due-said (read sheet).network t m hs (lettered sheet a))
+    (λ a _. due-said (network_of sheet) t m hs (lettered sheet a))

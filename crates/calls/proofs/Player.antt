@@ -5,12 +5,12 @@ use mathlib.Core.Logic.{◌↔◌}
 use mathlib.Core.Bool.{true, false}
 use mathlib.Core.List.{List}
 use Prim.Native.Nat.{ℕ}
+use Rattle.std.specs.Prelude.{Ok, Err, Result}
 use Rattle.prelude.proofs.Tests.{zero-is-one}
 use Rattle.network.specs.Build.{cells}
 use Rattle.network.specs.Solution.{Solution}
 use Rattle.network.specs.declared.Network.{Network}
-use Rattle.sheet.specs.Reading.{read}
-use Rattle.sheet.specs.declared.Outcome.TheVariants.{Accepted}
+use Rattle.sheet.specs.Reading.{network_of, Accepts}
 use Rattle.checker.specs.Verdict.{verdict}
 use Rattle.checker.specs.declared.Verdict.{Verdict}
 use Rattle.checker.specs.declared.Verdict.TheVariants.{Pass, Breach as Breached}
@@ -20,16 +20,16 @@ use Rattle.dispatch.specs.Due.{due}
 use Rattle.dispatch.specs.Said.{said_from, due_on}
 use Rattle.dispatch.specs.HeardText.{heard_in, due_text}
 use Rattle.dispatch.specs.declared.Heard.{Heard}
-use Rattle.dispatch.specs.declared.Dispatched.{Dispatched}
-use Rattle.dispatch.specs.declared.Dispatched.TheVariants as P
+use Rattle.dispatch.specs.declared.Unheard.{Unheard}
+use Rattle.dispatch.specs.declared.Unheard.TheVariants as P
 use Rattle.dispatch.proofs.Answers.{due-misnamed, due-never}
 use Rattle.dispatch.proofs.Mask.{due-said, due-on-misnamed}
 use Rattle.dispatch.proofs.HeardText.{text-misnamed, text-never}
+use Rattle.calls.specs.Values.{number_values}
 use Rattle.calls.specs.Lent.{Handed}
-use Rattle.calls.specs.Play.{named, ever_heard, events_of, is_pass, playing_tests, playing, due_values}
+use Rattle.calls.specs.Play.{named, ever_heard, events_of, is_pass, playing_tests, playing}
 use Rattle.calls.specs.Answers.{Answers}
 use Rattle.calls.specs.Numbers.{plays, misnamed_by, unheard_by, misnamed_on, unheard_on, misnamed_in}
-use Rattle.calls.specs.declared.Due.TheVariants as D
 use Rattle.calls.proofs.Matched.{unlined, answers-call}
 use Rattle.calls.proofs.Handed.{Rightly}
 
@@ -43,25 +43,25 @@ pass-false Pass = (λ e. zero-is-one cc, λ n. absurd (n refl))
 pass-false (Breached b) = (λ e q. zero-is-one cc, λ n. refl)
 
 -- what the player says
-named-false : (d : Dispatched) → (named d ≡ false) ↔ (d ≡ P.Misnamed)
-named-false (P.Events x) = (λ e. zero-is-one cc, λ e. zero-is-one cc)
-named-false P.Misnamed = (λ e. refl, λ e. refl)
-named-false P.NeverHeard = (λ e. zero-is-one cc, λ e. zero-is-one cc)
+named-false : (d : Result ℕ Unheard) → (named d ≡ false) ↔ (d ≡ Err P.Misnamed)
+named-false (Ok x) = (λ e. zero-is-one cc, λ e. zero-is-one cc)
+named-false (Err P.Misnamed) = (λ e. refl, λ e. refl)
+named-false (Err P.NeverHeard) = (λ e. zero-is-one cc, λ e. zero-is-one cc)
 
-heard-false : (d : Dispatched) → (ever_heard d ≡ false) ↔ (d ≡ P.NeverHeard)
-heard-false (P.Events x) = (λ e. zero-is-one cc, λ e. zero-is-one cc)
-heard-false P.Misnamed = (λ e. zero-is-one cc, λ e. zero-is-one cc)
-heard-false P.NeverHeard = (λ e. refl, λ e. refl)
+heard-false : (d : Result ℕ Unheard) → (ever_heard d ≡ false) ↔ (d ≡ Err P.NeverHeard)
+heard-false (Ok x) = (λ e. zero-is-one cc, λ e. zero-is-one cc)
+heard-false (Err P.Misnamed) = (λ e. zero-is-one cc, λ e. zero-is-one cc)
+heard-false (Err P.NeverHeard) = (λ e. refl, λ e. refl)
 
 -- misnamed and unheard are the causes of 15 and 16
-pub record Says (d : Dispatched) (misnamed unheard : Type 0) : Type 0 where
-  pub fifteen : (d ≡ P.Misnamed) ↔ misnamed
-  pub sixteen : (d ≡ P.Misnamed → ⊥) → (d ≡ P.NeverHeard) ↔ unheard
+pub record Says (d : Result ℕ Unheard) (misnamed unheard : Type 0) : Type 0 where
+  pub fifteen : (d ≡ Err P.Misnamed) ↔ misnamed
+  pub sixteen : (d ≡ Err P.Misnamed → ⊥) → (d ≡ Err P.NeverHeard) ↔ unheard
 
-module _ (sheet : List ℕ) (t : Handed) (right : Network → Type 0) (said : Network → Dispatched)
+module _ (sheet : List ℕ) (t : Handed) (right : Network → Type 0) (said : Network → Result ℕ Unheard)
     (misnamed unheard : Network → Type 0) where
   abbrev net : Network
-  net = (read sheet).network
+  net = network_of sheet
 
   failing : Rightly t right net → t.has (cells net) ≡ true
       → (is_pass (verdict net t.minutes) ≡ false) ↔ (Solution net t.minutes → ⊥)
@@ -73,16 +73,16 @@ module _ (sheet : List ℕ) (t : Handed) (right : Network → Type 0) (said : Ne
   unheard_iff : Says (said net) (misnamed net) (unheard net) → named (said net) ≡ true
       → (ever_heard (said net) ≡ false) ↔ unheard net
   unheard_iff s n =
-      let unnamed : said net ≡ P.Misnamed → ⊥ =
+      let unnamed : said net ≡ Err P.Misnamed → ⊥ =
       λ e. let z : named (said net) ≡ false = (named-false (said net)).1 e in zero-is-one cc in
       let k = s.sixteen unnamed in
       (λ e. k.0 ((heard-false (said net)).0 e), λ u. (heard-false (said net)).1 (k.1 u))
 
-  pub player-answers : ((read sheet).outcome ≡ Accepted → Rightly t right net)
-      → ((read sheet).outcome ≡ Accepted → Says (said net) (misnamed net) (unheard net))
-      → Answers sheet (plays right t.minutes misnamed unheard) 0 (due_values (playing sheet t said))
+  pub player-answers : (Accepts sheet → Rightly t right net)
+      → (Accepts sheet → Says (said net) (misnamed net) (unheard net))
+      → Answers sheet (plays right t.minutes misnamed unheard) 0 (number_values (playing sheet t said))
   player-answers rightly says =
-      answers-call due_values 0 D.Refused (λ r. refl) sheet (playing_tests t said) (λ Γ. D.Events (events_of (said Γ)))
+      answers-call number_values 0 Err (λ r. refl) sheet (playing_tests t said) (λ Γ. Ok (events_of (said Γ)))
       (plays right t.minutes misnamed unheard) refl
       (λ a. (
         λ _. unlined refl refl,
@@ -103,10 +103,11 @@ module _ (sheet : List ℕ) (t : Handed) (right : Network → Type 0) (said : Ne
       (λ Γ. (refl, refl))
 
 -- what is neither misnamed nor anything but unheard is unheard
-unheard_left : (d : Dispatched) → (d ≡ P.Misnamed → ⊥) → ((d ≡ P.NeverHeard → ⊥) → d ≡ P.Misnamed) → d ≡ P.NeverHeard
-unheard_left (P.Events x) n k = absurd (n (k (λ q. zero-is-one cc)))
-unheard_left P.Misnamed n k = absurd (n refl)
-unheard_left P.NeverHeard n k = refl
+unheard_left : (d : Result ℕ Unheard) → (d ≡ Err P.Misnamed → ⊥)
+    → ((d ≡ Err P.NeverHeard → ⊥) → d ≡ Err P.Misnamed) → d ≡ Err P.NeverHeard
+unheard_left (Ok x) n k = absurd (n (k (λ q. zero-is-one cc)))
+unheard_left (Err P.Misnamed) n k = absurd (n refl)
+unheard_left (Err P.NeverHeard) n k = refl
 
 module _ (Γ : Network) (letters : Lettered Γ) (t : List ℕ) (m : ℕ) where
   pub list-says : (hs : List Heard) → Says (due Γ t m hs) (misnamed_by hs Γ) (unheard_by t m hs Γ)

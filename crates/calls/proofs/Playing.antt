@@ -7,13 +7,14 @@ use mathlib.Core.List.{List}
 use Prim.Native.Nat.{ℕ, ◌+◌, ◌≤◌, ◌<◌}
 use native.Mathlib.Omega.{arith}
 use lib.ListN.{length}
+use Rattle.std.specs.Prelude.{Ok, Err, Result}
 use Rattle.network.specs.Build.{observation, scenarios, cells}
 use Rattle.network.specs.Scenario.{truth}
 use Rattle.network.specs.Strategy.{reaction, known}
 use Rattle.network.specs.Solution.{Solution}
 use Rattle.network.specs.WellFormed.{WellFormed}
 use Rattle.network.specs.declared.Network.{Network}
-use Rattle.sheet.specs.Reading.{read}
+use Rattle.sheet.specs.Reading.{network_of}
 use Rattle.checker.specs.Verdict.{verdict}
 use Rattle.checker.specs.declared.Verdict.TheVariants.{Pass}
 use Rattle.checker.proofs.Judged.{judged}
@@ -21,8 +22,7 @@ use Rattle.dispatch.specs.Heard.{Lettered}
 use Rattle.dispatch.specs.History.{History, history_of}
 use Rattle.dispatch.specs.Due.{is_due_lem, due_in_lem, due}
 use Rattle.dispatch.specs.declared.Heard.{Heard}
-use Rattle.dispatch.specs.declared.Dispatched.{Dispatched}
-use Rattle.dispatch.specs.declared.Dispatched.TheVariants as P
+use Rattle.dispatch.specs.declared.Unheard.{Unheard}
 use Rattle.dispatch.proofs.Bits.{mask_small, truth-mask}
 use Rattle.dispatch.proofs.Alike.{indistinct_comm, indistinct_history, indistinct_due}
 use Rattle.dispatch.proofs.WasDue.{known_was_due}
@@ -32,21 +32,20 @@ use Rattle.calls.specs.Answers.{Reads}
 use Rattle.calls.specs.Lent.{as_minutes}
 use Rattle.calls.specs.Play.{events_of, playing_tests, events_due_lem}
 use Rattle.calls.specs.Playing.{RowAt, answer, Plays, Playing}
-use Rattle.calls.specs.declared.Due.TheVariants as D
 use Rattle.calls.proofs.Call.{call_works, reads_well_formed}
 use Rattle.calls.proofs.Handed.{minutes_rightly}
 use Rattle.calls.proofs.Play.{lettered, events-due-said}
 
 -- a table that passes is played
 events_of_lem : (sheet t : List ℕ) (Γ : Network) → Reads sheet Γ → (m : ℕ) (hs : List Heard) (x : ℕ)
-    → verdict Γ t ≡ Pass → length t ≡ cells Γ → due Γ t m hs ≡ P.Events x → events_due_lem sheet t m hs ≡ D.Events x
+    → verdict Γ t ≡ Pass → length t ≡ cells Γ → due Γ t m hs ≡ Ok x → events_due_lem sheet t m hs ≡ Ok x
 unfolding events_due_lem
 events_of_lem sheet t Γ reads m hs x =
     rw (← reads.network) (λ p e d.
-    sym (call_works D.Refused sheet (playing_tests (as_minutes t) (λ Γ. due Γ t m hs))
-    (λ Γ. D.Events (events_of (due Γ t m hs))) (read sheet) refl reads.accepted
-    ((minutes_rightly t (read sheet).network).yes.1 e, (rw p, (rw d, (rw d, tt)))))
-    ∙ ap (λ (y : Dispatched). D.Events (events_of y)) d)
+    sym (call_works Err sheet (playing_tests (as_minutes t) (λ Γ. due Γ t m hs))
+    (λ Γ. Ok (events_of (due Γ t m hs))) (network_of sheet) reads.accepted
+    ((minutes_rightly t (network_of sheet)).yes.1 e, (rw p, (rw d, (rw d, tt)))))
+    ∙ ap (λ (y : Result ℕ Unheard). Ok (events_of y)) d)
 
 module _ (sheet t : List ℕ) (Γ : Network) (reads : Reads sheet Γ) where
   wf : WellFormed Γ
@@ -58,7 +57,7 @@ module _ (sheet t : List ℕ) (Γ : Network) (reads : Reads sheet Γ) where
   module _ (good : Solution Γ t) where
     -- whoever has heard the list has the events that are answered
     events-are : (m : ℕ) (hs : List Heard) (s : ℕ) → s < scenarios Γ → History Γ t m hs s
-        → events_due_lem sheet t m hs ≡ D.Events (due_in_lem Γ t m s)
+        → events_due_lem sheet t m hs ≡ Ok (due_in_lem Γ t m s)
     events-are m hs s h l = events_of_lem sheet t Γ reads m hs (due_in_lem Γ t m s)
         ((judged Γ t good.sized).1 good) good.sized (due_history Γ t m letters hs good wf s h l)
 
@@ -106,7 +105,7 @@ module _ (sheet t : List ℕ) (Γ : Network) (reads : Reads sheet Γ) where
           indistinct_history Γ t m good wf k h (indistinct_comm Γ t m good wf h k i) letters hs,
         ),
         events-are m (history_of Γ t m s) s h (own m s)
-            ∙ (ap D.Events (indistinct_due Γ t m good wf h k i) ∙ sym (events-are m (history_of Γ t m r) r k
+            ∙ (ap Ok (indistinct_due Γ t m good wf h k i) ∙ sym (events-are m (history_of Γ t m r) r k
             (own m r))),
       );
     }

@@ -17,15 +17,14 @@ use Rattle.network.specs.Build.{scenarios, cells}
 use Rattle.network.specs.Solution.{Solution}
 use Rattle.network.specs.WellFormed.{WellFormed}
 use Rattle.network.specs.declared.Network.{Network}
-use Rattle.sheet.specs.Reading.{read}
-use Rattle.sheet.specs.declared.Outcome.TheVariants.{Accepted}
+use Rattle.sheet.specs.Reading.{network_of, Accepts}
 use Rattle.sheet.proofs.WellFormed.{accepted_well_formed}
 use Rattle.listing.specs.Listing.{header, listing}
 use Rattle.listing.proofs.Short.{good-times}
 use Rattle.readback.specs.Form.{Misfit, Unread}
 use Rattle.readback.proofs.Misfits.{misfit_iff}
-use Rattle.readback.proofs.Unread.{unread_iff}
-use Rattle.calls.specs.Values.{turned_away}
+use Rattle.readback.proofs.Unreads.{unread_iff}
+use Rattle.calls.specs.Values.{OrRefusal, turned_away}
 use Rattle.calls.specs.Call.{Left}
 use Rattle.calls.specs.Lent.{as_minutes, in_place_lem}
 use Rattle.calls.specs.Calls.{judgement}
@@ -34,7 +33,6 @@ use Rattle.calls.specs.Recover.{misfit_in, unread_in, recovered_in, recovering}
 use Rattle.calls.specs.ReadingBack.{Printable}
 use Rattle.calls.specs.Table.{refused_text, verdict_text, judge_on}
 use Rattle.calls.specs.Numbers.{minutes}
-use Rattle.calls.specs.declared.Written.{Written}
 use Rattle.calls.proofs.Handed.{cells-few, minutes_rightly}
 use Rattle.calls.proofs.Judging.{judge_passes}
 use Rattle.calls.proofs.Words.{pass_text, refused-not-pass, pass_values}
@@ -47,16 +45,16 @@ use Rattle.calls.proofs.OnPages.{wrote_on, refused-on}
 abbrev pub judged : List ℕ → List ℕ → List ℕ
 judged sheet t = verdict_text (judgement_values (judgement sheet t))
 
-module _ (sheet : List ℕ) (a : (read sheet).outcome ≡ Accepted) where
+module _ (sheet : List ℕ) (a : Accepts sheet) where
   abbrev net : Network
-  net = (read sheet).network
+  net = network_of sheet
 
   -- what `judge` prints: the first line at fault, or the verdict on the table of the listing
   pub misfit-on : (m bytes : List ℕ) (l : ℕ) → Misfit (header sheet net) net.signals net.events bytes l
       → judge_on m sheet bytes ≡ refused_text (turned_away 0 (refusal OtherForm l))
   misfit-on m bytes l x =
       refused-on (recovering sheet bytes m) (refusal OtherForm l) (judged sheet)
-      (ap (λ (k : Left Written). k.answer) (refuses_misfit sheet bytes (in_place_lem m) a l
+      (ap (λ (k : Left (OrRefusal ℕ)). k.answer) (refuses_misfit sheet bytes (in_place_lem m) a l
       ((misfit_iff (header sheet net) net.signals net.events bytes l).1 x)))
 
   pub unread-on : (m bytes : List ℕ) (l : ℕ) → Unread (header sheet net) net.signals net.events bytes l
@@ -64,7 +62,7 @@ module _ (sheet : List ℕ) (a : (read sheet).outcome ≡ Accepted) where
   unread-on m bytes l y =
       let p = (unread_iff (header sheet net) net.signals net.events bytes l).1 y in
       refused-on (recovering sheet bytes m) (refusal NoMinute l) (judged sheet)
-      (ap (λ (k : Left Written). k.answer) (refuses_unread sheet bytes (in_place_lem m) a p.0 l p.1))
+      (ap (λ (k : Left (OrRefusal ℕ)). k.answer) (refuses_unread sheet bytes (in_place_lem m) a p.0 l p.1))
 
   wf : WellFormed net
   wf = (accepted_well_formed sheet a).0

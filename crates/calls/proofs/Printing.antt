@@ -11,8 +11,7 @@ use Rattle.network.specs.Least.{Least, Inconsistent}
 use Rattle.network.specs.WellFormed.{WellFormed, Named}
 use Rattle.network.specs.declared.Network.{Network}
 use Rattle.network.proofs.Least.{least_unique}
-use Rattle.sheet.specs.Reading.{longest, read}
-use Rattle.sheet.specs.declared.Outcome.TheVariants.{Accepted}
+use Rattle.sheet.specs.Reading.{longest, network_of, Accepts}
 use Rattle.sheet.proofs.Fault.{refused_iff}
 use Rattle.sheet.proofs.WellFormed.{accepted_well_formed}
 use Rattle.listing.specs.Listing.{listing}
@@ -21,7 +20,7 @@ use Rattle.listing.proofs.Short.{listing-short, good-times}
 use Rattle.tighten.specs.Tightest.{remaining_of}
 use Rattle.canonical.specs.House.{house_text}
 use Rattle.canonical.proofs.Again.{form-short}
-use Rattle.calls.specs.Values.{refused_as}
+use Rattle.calls.specs.Values.{OrRefusal, refused_as}
 use Rattle.calls.specs.Call.{Left}
 use Rattle.calls.specs.Lent.{as_minutes, in_place_lem}
 use Rattle.calls.specs.Calls.{solving, listed, housed}
@@ -29,16 +28,15 @@ use Rattle.calls.specs.Recover.{recovering}
 use Rattle.calls.specs.Table.{refused_text, listing_on, table_on_lem, form_on}
 use Rattle.calls.specs.Numbers.{minutes}
 use Rattle.calls.specs.Printing.{Printing}
-use Rattle.calls.specs.declared.Written.{Written}
 use Rattle.calls.proofs.Handed.{cells-few, minutes_rightly}
 use Rattle.calls.proofs.Writing.{wrote, listing-wrote, house-wrote, house-many}
 use Rattle.calls.proofs.Solving.{solves-least, refuses_none}
 use Rattle.calls.proofs.OnPages.{wrote_on, refused-on}
 use Rattle.calls.proofs.PrintedVerdict.{judged, misfit-on, unread-on, judge-on, passes_on}
 
-module _ (sheet : List ℕ) (a : (read sheet).outcome ≡ Accepted) where
+module _ (sheet : List ℕ) (a : Accepts sheet) where
   abbrev net : Network
-  net = (read sheet).network
+  net = network_of sheet
 
   formed : WellFormed net × Named sheet net
   formed = accepted_well_formed sheet a
@@ -66,12 +64,13 @@ module _ (sheet : List ℕ) (a : (read sheet).outcome ≡ Accepted) where
       → table_on_lem m page sheet ≡ refused_text (refused_as 13)
   none-on m page i h =
       refused-on (solving sheet m) _ (listing_on page sheet)
-      (ap (λ (l : Left Written). l.answer) (refuses_none sheet (in_place_lem m) a (omega (arith, cells-few formed.0))
+      (ap (λ (l : Left (OrRefusal ℕ)). l.answer)
+      (refuses_none sheet (in_place_lem m) a (omega (arith, cells-few formed.0))
       i))
 
   many-on : (page : List ℕ) → L.rules < length (remaining_of net) → form_on page sheet ≡ refused_text (refused_as 17)
   many-on page h =
-      refused-on (housed sheet page) _ (λ t. t) (ap (λ (l : Left Written). l.answer) (house-many sheet page a h))
+      refused-on (housed sheet page) _ (λ t. t) (ap (λ (l : Left (OrRefusal ℕ)). l.answer) (house-many sheet page a h))
 
   form-on : (page : List ℕ) → length (remaining_of net) ≤ L.rules → longest ≤ length page
       → form_on page sheet ≡ house_text sheet net

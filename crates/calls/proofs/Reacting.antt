@@ -7,7 +7,7 @@ use native.Mathlib.Omega.{arith}
 use lib.ListN.{length}
 use Rattle.network.specs.Strategy.{reaction}
 use Rattle.network.proofs.Strategy.{reaction-some, given-known, from-known, is_known}
-use Rattle.sheet.specs.Reading.{read}
+use Rattle.sheet.specs.Reading.{network_of}
 use Rattle.layout.specs.Layout.{Layout}
 use Rattle.layout.proofs.Accepted.{accepted_iff, network-contains}
 use Rattle.calls.specs.Reacting.{AllOne, Besides, SameAnswers, Reacting}
@@ -18,7 +18,7 @@ use Rattle.calls.proofs.SameAnswers.{same-answers}
 
 -- sheets whose reactions are the same
 alike : (sheet other : List ℕ) (l : Layout sheet) (k : Layout other) → Besides l.contents k.contents
-    → ((p : ℕ) → p < (read sheet).network.signals → reaction (read sheet).network p ≡ reaction (read other).network p)
+    → ((p : ℕ) → p < (network_of sheet).signals → reaction (network_of sheet) p ≡ reaction (network_of other) p)
     → SameAnswers sheet other
 alike sheet other l k b reacts =
     let h = network-contains sheet l in
@@ -31,7 +31,7 @@ unchanged : (sheet other : List ℕ) (l : Layout sheet) (k : Layout other) → B
 unchanged sheet other l k b ones also =
     let h = network-contains sheet l in
     let g = network-contains other k in
-    let count : (read sheet).network.signals ≡ (read other).network.signals =
+    let count : (network_of sheet).signals ≡ (network_of other).signals =
     h.signals ∙ ap length b.signals ∙ sym g.signals in
     alike sheet other l k b (λ p m. prompt-by_ones h ones p m ∙ sym (prompt-by_ones g also p (omega arith)))
 

@@ -14,41 +14,39 @@ use Rattle.refusal.specs.declared.Refusal.{Refusal}
 use Rattle.refusal.proofs.Numbered.{numbered}
 use Rattle.network.specs.Build.{cells}
 use Rattle.network.specs.declared.Network.{Network}
-use Rattle.sheet.specs.Reading.{read}
-use Rattle.sheet.specs.declared.Outcome.TheVariants.{Accepted}
+use Rattle.sheet.specs.Reading.{network_of, Accepts}
 use Rattle.listing.specs.Listing.{header}
 use Rattle.readback.proofs.Misfits.{misfit_iff}
 use Rattle.readback.proofs.Formed.{formed_iff}
-use Rattle.readback.proofs.Unread.{unread_iff, minutes_iff}
-use Rattle.calls.specs.Values.{Values, turned_away}
+use Rattle.readback.proofs.Unreads.{unread_iff, minutes_iff}
+use Rattle.calls.specs.Values.{OrRefusal, Values, turned_away, number_values}
 use Rattle.calls.specs.Call.{Left}
 use Rattle.calls.specs.Lent.{Lent}
-use Rattle.calls.specs.Calls.{written_values, writing, refusing}
+use Rattle.calls.specs.Calls.{writing, refusing}
 use Rattle.calls.specs.Recover.{misfit_in, unread_in, recovered_in, recovering_tests, recovering_into}
 use Rattle.calls.specs.Answers.{Reads, Answers, WroteInto}
 use Rattle.calls.specs.Numbers.{recovers}
 use Rattle.calls.specs.ReadingBack.{Printed, answer, ReadsBack, ReadingBack}
-use Rattle.calls.specs.declared.Written.{Written}
 use Rattle.calls.proofs.Call.{Ends, faulty, failed, worked, ends}
 use Rattle.calls.proofs.Settled.{number_of}
 use Rattle.calls.proofs.Writing.{wrote_into}
 use Rattle.calls.proofs.Recovering.{holds-none, recoverer-writes, refuses_misfit, refuses_unread, recovers-table}
 use Rattle.calls.proofs.Recovered.{recovered, recovers_into, found-table, printed_back, listed_back}
 
-abbrev values_of : Left Written → Values ℕ
-values_of l = written_values l.answer
+abbrev left_values : Left (OrRefusal ℕ) → Values ℕ
+left_values l = number_values l.answer
 
-module _ (sheet : List ℕ) (a : (read sheet).outcome ≡ Accepted) (bytes : List ℕ) (m : Lent) where
+module _ (sheet : List ℕ) (a : Accepts sheet) (bytes : List ℕ) (m : Lent) where
   abbrev net : Network
-  net = (read sheet).network
+  net = network_of sheet
 
   abbrev found : List ℕ
   found = recovered_in sheet bytes net
 
-  abbrev left : Left Written
+  abbrev left : Left (OrRefusal ℕ)
   left = recovering_into sheet bytes m
 
-  abbrev work : Network → Left Written
+  abbrev work : Network → Left (OrRefusal ℕ)
   work Γ = writing m (recovered_in sheet bytes Γ)
 
   -- no refusal: nothing is at fault, and there is room
@@ -58,7 +56,7 @@ module _ (sheet : List ℕ) (a : (read sheet).outcome ≡ Accepted) (bytes : Lis
     room : cells net ≤ m.room
 
   refusal-numbered : (r : Refusal) → refusing m r ≡ left → (answer sheet bytes m).number ≡ 0 → ⊥
-  refusal-numbered r e z = numbered r.cause (ap (λ (l : Left Written). (values_of l).number) e ∙ z)
+  refusal-numbered r e z = numbered r.cause (ap (λ (l : Left (OrRefusal ℕ)). (left_values l).number) e ∙ z)
 
   whole : (answer sheet bytes m).number ≡ 0 → Whole
   whole z = by_end (ends (refusing m) sheet (recovering_tests sheet bytes m) work)
@@ -86,7 +84,7 @@ module _ (sheet : List ℕ) (a : (read sheet).outcome ≡ Accepted) (bytes : Lis
         },
     λ p.
         rw p.is
-        (ap (λ (l : Left Written). (values_of l).number) (recovers_into sheet a p.table p.printable m room)),
+        (ap (λ (l : Left (OrRefusal ℕ)). (left_values l).number) (recovers_into sheet a p.table p.printable m room)),
   )
 
   -- 18 and 19 with their lines: the number says that there is such a line, and it is this one
@@ -100,11 +98,11 @@ module _ (sheet : List ℕ) (a : (read sheet).outcome ≡ Accepted) (bytes : Lis
   turned r = turned_away 0 r
 
   misfit_so : (l : ℕ) → misfit_in sheet bytes net ≡ some l → answer sheet bytes m ≡ turned (refusal OtherForm l)
-  misfit_so l e = ap values_of (refuses_misfit sheet bytes m a l e)
+  misfit_so l e = ap left_values (refuses_misfit sheet bytes m a l e)
 
   unread_so : (l : ℕ) → misfit_in sheet bytes net ≡ none → unread_in sheet bytes net ≡ some l
       → answer sheet bytes m ≡ turned (refusal NoMinute l)
-  unread_so l e q = ap values_of (refuses_unread sheet bytes m a e l q)
+  unread_so l e q = ap left_values (refuses_unread sheet bytes m a e l q)
 
   line-is : (c : Cause) (l k : ℕ) → turned (refusal c l) ≡ turned (refusal c k) → l ≡ k
   line-is c l k e = ap (λ (v : Values ℕ). v.line) e
@@ -164,7 +162,7 @@ reading_back = record {
       (λ t room. wrote_into m σ (sym (recovers_into sheet r.accepted σ t m room)));
   one_table = λ sheet σ τ Γ r. rw (← r.network)
       (λ s t e.
-      let Δ = (read sheet).network in
+      let Δ = network_of sheet in
       sym (recovered sheet r.accepted σ s).table ∙ ap (λ (x : List ℕ). recovered_in sheet x Δ) e
       ∙ (recovered sheet r.accepted τ t).table);
 }

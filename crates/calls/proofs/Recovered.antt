@@ -8,8 +8,7 @@ use native.Mathlib.Omega.{arith}
 use lib.ListN.{length}
 use Rattle.network.specs.Build.{cells}
 use Rattle.network.specs.declared.Network.{Network}
-use Rattle.sheet.specs.Reading.{read}
-use Rattle.sheet.specs.declared.Outcome.TheVariants.{Accepted}
+use Rattle.sheet.specs.Reading.{network_of, Accepts}
 use Rattle.sheet.proofs.WellFormed.{accepted_well_formed}
 use Rattle.listing.specs.Listing.{header, listing}
 use Rattle.listing.proofs.Short.{listing-short}
@@ -25,9 +24,9 @@ use Rattle.calls.proofs.Writing.{listing-wrote}
 use Rattle.calls.proofs.Recovering.{recovers-table}
 
 -- a listing of a table: nothing is at fault, and the table is recovered
-module _ (sheet : List ℕ) (a : (read sheet).outcome ≡ Accepted) where
+module _ (sheet : List ℕ) (a : Accepts sheet) where
   abbrev net : Network
-  net = (read sheet).network
+  net = network_of sheet
 
   pub record Recovered (σ : List ℕ) : Type 0 where
     pub formed : misfit_in sheet (listing sheet net σ) net ≡ none

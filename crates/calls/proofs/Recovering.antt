@@ -16,22 +16,21 @@ use Rattle.refusal.specs.declared.Cause.TheVariants.{OtherForm, NoMinute}
 use Rattle.network.specs.Build.{cells}
 use Rattle.network.specs.WellFormed.{WellFormed}
 use Rattle.network.specs.declared.Network.{Network}
-use Rattle.sheet.specs.Reading.{longest, read}
-use Rattle.sheet.specs.declared.Outcome.TheVariants.{Accepted}
+use Rattle.sheet.specs.Reading.{longest, network_of, Accepts}
 use Rattle.sheet.proofs.WellFormed.{accepted_well_formed}
 use Rattle.listing.specs.Listing.{header}
 use Rattle.listing.proofs.Truths.{few-scenarios}
 use Rattle.readback.specs.Form.{Misfit}
 use Rattle.readback.proofs.Formed.{formed_iff}
 use Rattle.readback.proofs.Misfits.{misfit_iff}
-use Rattle.readback.proofs.Unread.{unread_iff, minutes_iff}
+use Rattle.readback.proofs.Unreads.{unread_iff, minutes_iff}
+use Rattle.calls.specs.Values.{OrRefusal}
 use Rattle.calls.specs.Call.{Left}
 use Rattle.calls.specs.Lent.{Lent}
-use Rattle.calls.specs.Calls.{written_values, writing, refusing}
+use Rattle.calls.specs.Calls.{writing, refusing}
 use Rattle.calls.specs.Recover.{faultless, misfit_in, unread_in, recovered_in, recovering_tests, recovering_into}
 use Rattle.calls.specs.Answers.{names_line, Writes}
 use Rattle.calls.specs.Numbers.{other_form, no_minute, recovers}
-use Rattle.calls.specs.declared.Written.{Written}
 use Rattle.calls.proofs.Call.{call_fails, call_works}
 use Rattle.calls.proofs.Matched.{Refuses, unlined, writes_call}
 
@@ -59,12 +58,12 @@ module _ (c : Cause) where
 
 module _ (sheet bytes : List ℕ) where
   abbrev net : Network
-  net = (read sheet).network
+  net = network_of sheet
 
   abbrev head : List ℕ
   head = header sheet net
 
-  module _ (a : (read sheet).outcome ≡ Accepted) where
+  module _ (a : Accepts sheet) where
     wf : WellFormed net
     wf = (accepted_well_formed sheet a).0
 
@@ -106,13 +105,13 @@ module _ (sheet bytes : List ℕ) where
       )
 
   module _ (m : Lent) where
-    abbrev work : Network → Left Written
+    abbrev work : Network → Left (OrRefusal ℕ)
     work Γ = writing m (recovered_in sheet bytes Γ)
 
     pub recoverer-writes
-        : Writes sheet (recovers sheet bytes m.room) written_values 0 (recovering_into sheet bytes m) m.before
+        : Writes sheet (recovers sheet bytes m.room) (recovering_into sheet bytes m) m.before
     recoverer-writes =
-        writes_call written_values 0 (refusing m) (λ r. refl) m.before (λ r. refl) sheet
+        writes_call m sheet
         (recovering_tests sheet bytes m) work (recovers sheet bytes m.room) refl
         (λ a. (
           lined OtherForm (misfit_in sheet bytes net) 18 refl refl (misfit-near a),
@@ -131,22 +130,22 @@ module _ (sheet bytes : List ℕ) where
         (λ Γ. (refl, refl))
 
     -- how it ends, by the lines at fault
-    module _ (a : (read sheet).outcome ≡ Accepted) where
+    module _ (a : Accepts sheet) where
       pub refuses_misfit : (l : ℕ) → misfit_in sheet bytes net ≡ some l
           → recovering_into sheet bytes m ≡ refusing m (refusal OtherForm l)
       refuses_misfit l e =
-          sym (call_fails (refusing m) sheet (recovering_tests sheet bytes m) work (read sheet) refl a
+          sym (call_fails (refusing m) sheet (recovering_tests sheet bytes m) work (network_of sheet) a
           (refusal OtherForm l) (rw e (inl (refl, refl))))
 
       module _ (e : misfit_in sheet bytes net ≡ none) where
         pub refuses_unread : (l : ℕ) → unread_in sheet bytes net ≡ some l
             → recovering_into sheet bytes m ≡ refusing m (refusal NoMinute l)
         refuses_unread l q =
-            sym (call_fails (refusing m) sheet (recovering_tests sheet bytes m) work (read sheet) refl a
+            sym (call_fails (refusing m) sheet (recovering_tests sheet bytes m) work (network_of sheet) a
             (refusal NoMinute l) (inr (none-holds OtherForm _ e, rw q (inl (refl, refl)))))
 
         pub recovers-table : unread_in sheet bytes net ≡ none → cells net ≤ m.room
             → recovering_into sheet bytes m ≡ writing m (recovered_in sheet bytes net)
         recovers-table q room =
-            sym (call_works (refusing m) sheet (recovering_tests sheet bytes m) work (read sheet) refl a
+            sym (call_works (refusing m) sheet (recovering_tests sheet bytes m) work (network_of sheet) a
             (none-holds OtherForm _ e, (none-holds NoMinute _ q, (le-leb (cells net) m.room room, tt))))

@@ -6,6 +6,7 @@ use mathlib.Core.Option.{Option}
 use mathlib.Core.List.{List, [], ◌∷◌}
 use Prim.Native.Nat.{ℕ, ◌*◌, ◌^◌, ◌<◌}
 use lib.ListN.{length}
+use Rattle.std.specs.Prelude.{Ok, Err, Result}
 use Rattle.prelude.specs.Checks.{first_failing_lem}
 use Rattle.prelude.proofs.Mapped.{tabulate-value}
 use Rattle.prelude.proofs.Tests.{clash}
@@ -18,8 +19,7 @@ use Rattle.network.specs.Least as L
 use Rattle.network.specs.declared.Constraint.{Constraint}
 use Rattle.network.specs.declared.Network.{Network}
 use Rattle.network.proofs.Least.{least_unique, same-least, same_inconsistent}
-use Rattle.sheet.specs.Reading.{read}
-use Rattle.sheet.specs.declared.Outcome.TheVariants.{Accepted}
+use Rattle.sheet.specs.Reading.{network_of, Accepts}
 use Rattle.sheet.proofs.WellFormed.{accepted_well_formed}
 use Rattle.checker.specs.Verdict.{verdict}
 use Rattle.checker.specs.declared.Verdict.{Verdict}
@@ -27,8 +27,8 @@ use Rattle.solver.specs.Solve.{solve, found}
 use Rattle.dispatch.specs.Due.{due}
 use Rattle.dispatch.specs.Said.{due_on}
 use Rattle.dispatch.specs.HeardText.{is_heard_lem, heard_in, due_text}
-use Rattle.dispatch.specs.declared.Dispatched.{Dispatched}
-use Rattle.dispatch.specs.declared.Dispatched.TheVariants.{Misnamed}
+use Rattle.dispatch.specs.declared.Unheard.{Unheard}
+use Rattle.dispatch.specs.declared.Unheard.TheVariants.{Misnamed}
 use Rattle.listing.specs.Listing.{header, listing}
 use Rattle.listing.proofs.Same.{header-same, listing-same}
 use Rattle.readback.specs.Rows.{recovered}
@@ -48,23 +48,20 @@ use Rattle.calls.specs.Play.{events_due_on_lem}
 use Rattle.calls.specs.Bench.{bench_due}
 use Rattle.calls.specs.Recover.{recovery_tests, recovered_in, recovering_tests, recovering_into}
 use Rattle.calls.specs.Reacting.{SameAnswers}
-use Rattle.calls.specs.declared.Summary.TheVariants as S
-use Rattle.calls.specs.declared.Judgement.TheVariants as J
-use Rattle.calls.specs.declared.Due.TheVariants as D
 use Rattle.calls.proofs.Call.{calls_alike}
 use Rattle.calls.proofs.Solving.{unrested, rested}
 use Rattle.calls.proofs.Likewise.{Likewise}
 use Rattle.calls.proofs.LikeVerdicts.{verdict-same}
 use Rattle.calls.proofs.LikePlays.{due-same, due-on-same}
 
-module _ (sheet other : List ℕ) (a : (read sheet).outcome ≡ Accepted) (b : (read other).outcome ≡ Accepted)
-    (w : Likewise (read sheet).network (read other).network)
-    (s : Same sheet (read sheet).network other (read other).network) where
+module _ (sheet other : List ℕ) (a : Accepts sheet) (b : Accepts other)
+    (w : Likewise (network_of sheet) (network_of other))
+    (s : Same sheet (network_of sheet) other (network_of other)) where
   abbrev Γ : Network
-  Γ = (read sheet).network
+  Γ = network_of sheet
 
   abbrev Δ : Network
-  Δ = (read other).network
+  Δ = network_of other
 
   size : cells Γ ≡ cells Δ
   size = cells_agree w.agrees
@@ -77,16 +74,16 @@ module _ (sheet other : List ℕ) (a : (read sheet).outcome ≡ Accepted) (b : (
 
   summaries : summary sheet ≡ summary other
   summaries =
-      calls_alike S.Refused sheet other (λ _. []) (λ _. []) (λ Γ. S.Accepted (counts_of Γ))
-      (λ Γ. S.Accepted (counts_of Γ)) a b refl
+      calls_alike Err sheet other (λ _. []) (λ _. []) (λ Γ. Ok (counts_of Γ))
+      (λ Γ. Ok (counts_of Γ)) a b refl
       (λ _. rw (w.agrees.horizon, w.agrees.events, w.agrees.signals, w.rules) refl)
 
   verdicts : (t : Handed) → judging sheet t ≡ judging other t
   verdicts t =
-      calls_alike J.Refused sheet other (judging_tests t) (judging_tests t) (λ Γ. J.Judged (verdict Γ t.minutes))
-      (λ Γ. J.Judged (verdict Γ t.minutes)) a b
+      calls_alike Err sheet other (judging_tests t) (judging_tests t) (λ Γ. Ok (verdict Γ t.minutes))
+      (λ Γ. Ok (verdict Γ t.minutes)) a b
       (ap (λ (n : ℕ). first_failing_lem ((t.has n, without_line_lem C.WrongTableLength) ∷ [])) size)
-      (λ _. ap J.Judged (verdict-same w t.minutes))
+      (λ _. ap Ok (verdict-same w t.minutes))
 
   rests-same : (m : Lent) → rests (solve Γ).end ≡ rests (solve Δ).end
   rests-same m = by_both (rests (solve Γ).end) (rests (solve Δ).end) refl refl
@@ -113,16 +110,17 @@ module _ (sheet other : List ℕ) (a : (read sheet).outcome ≡ Accepted) (b : (
       (rested other m b (sym (rests-same m) ∙ h.1.0))))
 
   -- playing, by what the player says of a network
-  plays : (t : Handed) (said : Network → Dispatched) → said Γ ≡ said Δ → playing sheet t said ≡ playing other t said
+  plays : (t : Handed) (said : Network → Result ℕ Unheard) → said Γ ≡ said Δ
+      → playing sheet t said ≡ playing other t said
   plays t said e =
-      calls_alike D.Refused sheet other (playing_tests t said) (playing_tests t said)
-      (λ Γ. D.Events (events_of (said Γ)))
-      (λ Γ. D.Events (events_of (said Γ))) a b
+      calls_alike Err sheet other (playing_tests t said) (playing_tests t said)
+      (λ Γ. Ok (events_of (said Γ)))
+      (λ Γ. Ok (events_of (said Γ))) a b
       (ap₂ (λ (n : ℕ) (v : Verdict). first n v (said Γ)) size (verdict-same w t.minutes)
       ∙ ap (first (cells Δ) (verdict Δ t.minutes)) e)
-      (λ _. ap (λ (d : Dispatched). D.Events (events_of d)) e)
+      (λ _. ap (λ (d : Result ℕ Unheard). Ok (events_of d)) e)
     where
-      first : ℕ → Verdict → Dispatched → Option Refusal
+      first : ℕ → Verdict → Result ℕ Unheard → Option Refusal
       first n v d =
           first_failing_lem ((t.has n, without_line_lem C.WrongTableLength)
           ∷ (is_pass v, without_line_lem C.TableFails)
@@ -180,7 +178,8 @@ module _ (sheet other : List ℕ) (a : (read sheet).outcome ≡ Accepted) (b : (
     due_on_lem = λ t m x. plays (as_minutes t) (λ Γ. due_on Γ t m x) (due-on-same w t m x);
     bench_due_lem = λ t m text.
         plays (as_bytes t) (λ Γ. due_text Γ (minutes_of t) m text)
-        (ap (λ (d : Dispatched). cond (is_heard_lem text) d Misnamed) (due-same w (minutes_of t) m (heard_in text)));
+        (ap (λ (d : Result ℕ Unheard). cond (is_heard_lem text) d (Err Misnamed))
+        (due-same w (minutes_of t) m (heard_in text)));
     listings = listings;
     recoveries = recoveries;
     forms = forms;

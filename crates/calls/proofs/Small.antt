@@ -7,6 +7,7 @@ use mathlib.Core.List.{List}
 use Prim.Native.Nat.{ℕ, ◌+◌, ◌*◌, ◌^◌, ◌≤◌, ◌<◌}
 use native.Mathlib.Omega.{arith}
 use lib.Pow.{pow_mono}
+use Rattle.std.specs.Prelude.{Ok, Err, Result}
 use Rattle.prelude.specs.Checks.{Hold}
 use Rattle.prelude.proofs.Tests.{zero-is-one}
 use Rattle.pairs.specs.Pairs.{Short}
@@ -14,8 +15,7 @@ use Rattle.refusal.specs.declared.Refusal.{Refusal}
 use Rattle.network.specs.Build.{scenarios, cells}
 use Rattle.network.specs.WellFormed.{WellFormed}
 use Rattle.network.specs.declared.Network.{Network}
-use Rattle.sheet.specs.Reading.{read}
-use Rattle.sheet.specs.declared.Outcome.TheVariants.{Accepted}
+use Rattle.sheet.specs.Reading.{network_of, Accepts}
 use Rattle.sheet.proofs.WellFormed.{accepted_well_formed}
 use Rattle.checker.specs.Verdict.{verdict}
 use Rattle.checker.specs.First.{First}
@@ -29,8 +29,8 @@ use Rattle.solver.proofs.Least.{solve-least}
 use Rattle.dispatch.specs.Heard.{is_well_named, says}
 use Rattle.dispatch.specs.Due.{is_due_lem, hearer, due_for, due}
 use Rattle.dispatch.specs.HeardText.{is_heard_lem, heard_in, due_text}
-use Rattle.dispatch.specs.declared.Dispatched.{Dispatched}
-use Rattle.dispatch.specs.declared.Dispatched.TheVariants.{Misnamed}
+use Rattle.dispatch.specs.declared.Unheard.{Unheard as NotHeard}
+use Rattle.dispatch.specs.declared.Unheard.TheVariants.{Misnamed}
 use Rattle.dispatch.proofs.Bits.{mask_small}
 use Rattle.listing.specs.Listing.{header, listing}
 use Rattle.listing.proofs.Short.{listing-short}
@@ -38,17 +38,14 @@ use Rattle.readback.proofs.RoundTrip.{length-recovered}
 use Rattle.tighten.specs.Tightest.{remaining_of}
 use Rattle.canonical.specs.House.{house_text}
 use Rattle.canonical.proofs.Again.{form-short}
-use Rattle.calls.specs.Values.{Values, turned_away}
+use Rattle.calls.specs.Values.{OrRefusal, Values, turned_away, number_values}
 use Rattle.calls.specs.Call.{Tests, call, Left}
 use Rattle.calls.specs.Lent.{Handed, Lent, in_place_lem}
-use Rattle.calls.specs.Calls.{judging_tests, judging, written_values, writing, refusing, solving_tests, solving_into}
+use Rattle.calls.specs.Calls.{judging_tests, judging, writing, refusing, solving_tests, solving_into}
 use Rattle.calls.specs.Calls.{listing_tests, listing_of, house_tests, housed}
-use Rattle.calls.specs.Play.{events_of, playing_tests, playing, due_values}
+use Rattle.calls.specs.Play.{events_of, playing_tests, playing}
 use Rattle.calls.specs.Recover.{recovered_in, recovering_tests, recovering_into}
 use Rattle.calls.specs.Bench.{Small, verdict_values, breach_values}
-use Rattle.calls.specs.declared.Due.TheVariants as D
-use Rattle.calls.specs.declared.Judgement.TheVariants as J
-use Rattle.calls.specs.declared.Written.{Written}
 use Rattle.calls.proofs.Call.{Ends, faulty, failed, worked, ends}
 use Rattle.calls.proofs.Handed.{cells-few}
 use Rattle.calls.proofs.Fit.{fit-few}
@@ -74,8 +71,8 @@ module _ (Γ : Network) (σ : List ℕ) (w : WellFormed Γ) where
 module _ {A : Type 0} (values : A → Values ℕ) (refuse : Refusal → A)
     (turned : (r : Refusal) → values (refuse r) ≡ turned_away 0 r) (sheet : List ℕ) (tests : Network → Tests)
     (work : Network → A)
-    (small : (read sheet).outcome ≡ Accepted → Hold (tests (read sheet).network)
-    → (values (work (read sheet).network)).value < 65536) where
+    (small : Accepts sheet → Hold (tests (network_of sheet))
+    → (values (work (network_of sheet))).value < 65536) where
   value_small : (values (call refuse sheet tests work)).value < 65536
   value_small = by_end (ends refuse sheet tests work)
     where
@@ -92,19 +89,19 @@ module _ {A : Type 0} (values : A → Values ℕ) (refuse : Refusal → A)
       by_end (worked a h e) = rw (← e) (small a h)
 
 -- how much a call has written
-abbrev count : Left Written → Values ℕ
-count l = written_values l.answer
+abbrev count : Left (OrRefusal ℕ) → Values ℕ
+count l = number_values l.answer
 
 module _ (sheet : List ℕ) where
   abbrev net : Network
-  net = (read sheet).network
+  net = network_of sheet
 
-  pub judged_small : (t : Handed) (v : Verdict) → judging sheet t ≡ J.Judged v → Small (verdict_values v)
-  judged_small t v q = by_end (ends J.Refused sheet (judging_tests t) (λ Γ. J.Judged (verdict Γ t.minutes)))
+  pub judged_small : (t : Handed) (v : Verdict) → judging sheet t ≡ Ok v → Small (verdict_values v)
+  judged_small t v q = by_end (ends Err sheet (judging_tests t) (λ Γ. Ok (verdict Γ t.minutes)))
     where
-      by_end : Ends J.Refused sheet (judging_tests t) (λ Γ. J.Judged (verdict Γ t.minutes)) → Small (verdict_values v)
-      by_end (faulty r p e) = let z : J.Refused r ≡ J.Judged v = e ∙ q in zero-is-one cc
-      by_end (failed a r f e) = let z : J.Refused r ≡ J.Judged v = e ∙ q in zero-is-one cc
+      by_end : Ends Err sheet (judging_tests t) (λ Γ. Ok (verdict Γ t.minutes)) → Small (verdict_values v)
+      by_end (faulty r p e) = let z : Err r ≡ Ok v = e ∙ q in zero-is-one cc
+      by_end (failed a r f e) = let z : Err r ≡ Ok v = e ∙ q in zero-is-one cc
       by_end (worked a h e) =
           let same : verdict net t.minutes ≡ v = let z = e ∙ q in cc in
           rw (← same) (verdict_small net t.minutes (accepted_well_formed sheet a).0)
@@ -119,7 +116,7 @@ module _ (sheet : List ℕ) where
       omega (arith, least.solves.sized, cells-few w))
 
   pub listing_small : (t : Handed) (m : List ℕ)
-      → ((read sheet).outcome ≡ Accepted → t.has (cells net) ≡ true → Short t.minutes)
+      → (Accepts sheet → t.has (cells net) ≡ true → Short t.minutes)
       → (count (listing_of sheet t m)).value < 65536
   listing_small t m times =
       value_small count (refusing (in_place_lem m)) (λ r. refl) sheet (listing_tests sheet t (in_place_lem m))
@@ -149,13 +146,13 @@ module _ (sheet : List ℕ) where
       (λ Γ. writing (in_place_lem m) (house_text sheet Γ))
       (λ a h. omega (arith, form-short sheet a (fit-few (remaining_of net) h.0)))
 
-  pub playing_small : (t : Handed) (said : Network → Dispatched)
-      → ((read sheet).outcome ≡ Accepted → events_of (said net) < 65536) → (due_values (playing sheet t said)).value <
+  pub playing_small : (t : Handed) (said : Network → Result ℕ NotHeard)
+      → (Accepts sheet → events_of (said net) < 65536) → (number_values (playing sheet t said)).value <
       65536
   playing_small t said few =
-      value_small due_values D.Refused (λ r. refl) sheet
+      value_small number_values Err (λ r. refl) sheet
       (playing_tests t said)
-      (λ Γ. D.Events (events_of (said Γ))) (λ a _. few a)
+      (λ Γ. Ok (events_of (said Γ))) (λ a _. few a)
 
 -- of at most sixteen events the sum of bits is small
 pub text_small : (Γ : Network) → WellFormed Γ → (σ : List ℕ) (m : ℕ) (text : List ℕ)
@@ -171,7 +168,7 @@ text_small Γ w σ m text =
         omega (arith, mask_small (is_due_lem Γ σ m s) Γ.events)
 
     by_form : (formed well : Bool) (o : Option ℕ)
-        → events_of (cond formed (cond well (due_for Γ σ m o) Misnamed) Misnamed) < 65536
+        → events_of (cond formed (cond well (due_for Γ σ m o) (Err Misnamed)) (Err Misnamed)) < 65536
     by_form true true o = of_case o
     by_form true false o = omega arith
     by_form false well o = omega arith

@@ -15,18 +15,16 @@ use Rattle.network.specs.Least.{Least}
 use Rattle.network.specs.Least as L
 use Rattle.network.specs.WellFormed.{WellFormed}
 use Rattle.network.specs.declared.Network.{Network}
-use Rattle.sheet.specs.Reading.{read}
-use Rattle.sheet.specs.declared.Outcome.TheVariants.{Accepted}
+use Rattle.sheet.specs.Reading.{network_of, Accepts}
 use Rattle.sheet.proofs.WellFormed.{accepted_well_formed}
 use Rattle.solver.specs.Solve.{solve, found}
 use Rattle.solver.proofs.Least.{solve-least, solve-none}
-use Rattle.calls.specs.Values.{refused_as}
+use Rattle.calls.specs.Values.{OrRefusal, refused_as, number_values}
 use Rattle.calls.specs.Call.{without_line_lem, Left}
 use Rattle.calls.specs.Lent.{Lent}
-use Rattle.calls.specs.Calls.{written_values, writing, refusing, rests, solving_tests, solving_into}
+use Rattle.calls.specs.Calls.{writing, refusing, rests, solving_tests, solving_into}
 use Rattle.calls.specs.Answers.{Writes}
 use Rattle.calls.specs.Numbers.{solves}
-use Rattle.calls.specs.declared.Written.{Written}
 use Rattle.calls.proofs.Call.{call_fails, call_works}
 use Rattle.calls.proofs.Settled.{number_of}
 use Rattle.calls.proofs.Matched.{unlined, writes_call}
@@ -44,12 +42,12 @@ rests-false Spent = (λ e q. zero-is-one cc, λ n. refl)
 
 module _ (sheet : List ℕ) (m : Lent) where
   abbrev net : Network
-  net = (read sheet).network
+  net = network_of sheet
 
-  abbrev work : Network → Left Written
+  abbrev work : Network → Left (OrRefusal ℕ)
   work Γ = writing m (found Γ)
 
-  module _ (a : (read sheet).outcome ≡ Accepted) where
+  module _ (a : Accepts sheet) where
     wf : WellFormed net
     wf = (accepted_well_formed sheet a).0
 
@@ -70,14 +68,14 @@ module _ (sheet : List ℕ) (m : Lent) where
       -- it refuses, or has written what the run reached
       pub refuses_none : L.Inconsistent net → solving_into sheet m ≡ refusing m (without_line_lem Inconsistent)
       refuses_none i =
-          sym (call_fails (refusing m) sheet (solving_tests m) work (read sheet) refl a (without_line_lem Inconsistent)
+          sym (call_fails (refusing m) sheet (solving_tests m) work (network_of sheet) a (without_line_lem Inconsistent)
           (inr (has_room, inl (unrested.1 i, refl))))
 
       reached : rests (solve net).end ≡ true → Least net (found net)
           × (solving_into sheet m ≡ writing m (found net))
       reached e = (
         rested e,
-        sym (call_works (refusing m) sheet (solving_tests m) work (read sheet) refl a (has_room, (e, tt))),
+        sym (call_works (refusing m) sheet (solving_tests m) work (network_of sheet) a (has_room, (e, tt))),
       )
 
       pub solves-least : (L.Inconsistent net → ⊥)
@@ -90,23 +88,23 @@ module _ (sheet : List ℕ) (m : Lent) where
           by-rest false e = absurd (n (unrested.0 e))
 
       -- 13 comes exactly where no good table exists
-      pub refuses_13 : (written_values (solving_into sheet m).answer ≡ refused_as 13) ↔ L.Inconsistent net
+      pub refuses_13 : (number_values (solving_into sheet m).answer ≡ refused_as 13) ↔ L.Inconsistent net
       refuses_13 = (
         by-rest (rests (solve net).end) refl,
-        λ i. ap (λ (l : Left Written). written_values l.answer) (refuses_none i),
+        λ i. ap (λ (l : Left (OrRefusal ℕ)). number_values l.answer) (refuses_none i),
       )
         where
           by-rest : (b : Bool) → rests (solve net).end ≡ b
-              → written_values (solving_into sheet m).answer ≡ refused_as 13 → L.Inconsistent net
+              → number_values (solving_into sheet m).answer ≡ refused_as 13 → L.Inconsistent net
           by-rest true e q =
               let z : ◌≡◌ {A = ℕ} 0 13 =
-              sym (ap (λ (l : Left Written). (written_values l.answer).number) (reached e).1) ∙ ap number_of q in
+              sym (ap (λ (l : Left (OrRefusal ℕ)). (number_values l.answer).number) (reached e).1) ∙ ap number_of q in
               zero-is-one cc
           by-rest false e q = unrested.0 e
 
-  pub solver_writes : Writes sheet (solves m.room) written_values 0 (solving_into sheet m) m.before
+  pub solver_writes : Writes sheet (solves m.room) (solving_into sheet m) m.before
   solver_writes =
-      writes_call written_values 0 (refusing m) (λ r. refl) m.before (λ r. refl) sheet (solving_tests m) work
+      writes_call m sheet (solving_tests m) work
       (solves m.room) refl
       (λ a. (
         λ _. unlined refl refl,

@@ -24,7 +24,8 @@ use Rattle.solver.specs.Solve.{solve}
 use Rattle.dispatch.specs.Due.{due}
 use Rattle.dispatch.specs.declared.Heard.{Heard}
 use Rattle.listing.specs.Listing.{listing}
-use Rattle.calls.specs.Play.{events_due_lem, due_values}
+use Rattle.calls.specs.Values.{number_values}
+use Rattle.calls.specs.Play.{events_due_lem}
 use Rattle.calls.specs.Table.{table_text}
 
 -- lines of text, each with its line feed
@@ -138,7 +139,7 @@ first = lines (safe ("rules,3" ∷ "min,start,call,5,-" ∷ "min,call,door,15,p"
 abbrev all_answered : List Question → Bool
 all_answered [] = true
 all_answered (q ∷ qs) =
-    let v = due_values (events_due_lem first q.table q.minute q.list) in
+    let v = number_values (events_due_lem first q.table q.minute q.list) in
     (eqb v.number q.number && (eqb v.line 0 && eqb v.value q.events)) && all_answered qs
 
 pub questions_answered : all_answered questions ≡ true

@@ -8,6 +8,7 @@ use Prim.Native.String.{String}
 use native.Mathlib.Omega.{arith}
 use borrow.Author.Tests.{ne_eqb}
 use lib.ListN.{get_or}
+use Rattle.std.specs.Prelude.{Ok, Err}
 use Rattle.prelude.specs.Bytes.{ascii, same}
 use Rattle.text.specs.Lines.{line_feed}
 use Rattle.refusal.specs.Refusal.{number_of, refusal}
@@ -17,24 +18,22 @@ use Rattle.refusal.specs.declared.Cause.TheVariants.{Undefined, OtherForm, NoMin
 use Rattle.checker.specs.declared.Breach.TheVariants.{Late, Rule, Unheard}
 use Rattle.checker.specs.declared.Verdict.{Verdict}
 use Rattle.checker.specs.declared.Verdict.TheVariants.{Pass, Breach as Breached}
-use Rattle.calls.specs.Values.{Values, turned_away}
+use Rattle.calls.specs.Values.{OrRefusal, Values, turned_away}
 use Rattle.calls.specs.Bench.{refused, passed, verdict_values, judgement_values}
 use Rattle.calls.specs.Table.{refused_text, verdict_text}
-use Rattle.calls.specs.declared.Judgement.{Judgement}
-use Rattle.calls.specs.declared.Judgement.TheVariants as J
 
 -- what is answered, and the line that is printed for it
-abbrev prints : Judgement → String → Bool
+abbrev prints : OrRefusal Verdict → String → Bool
 prints j words = same (verdict_text (judgement_values j)) (ascii words ++ line_feed ∷ [])
 
 pub words-agree
-    : prints (J.Judged Pass) "pass"
-    && (prints (J.Judged (Breached (Late 0 15))) "late 0 15"
-    && (prints (J.Judged (Breached (Rule 2 63))) "rule 2 63"
-    && (prints (J.Judged (Breached (Unheard 1 3 0))) "unheard 1 3 0"
-    && (prints (J.Refused (refusal Undefined 12)) "refused 8 line 12"
-    && (prints (J.Refused (refusal OtherForm 1)) "refused 18 line 1"
-    && prints (J.Refused (refusal NoMinute 17)) "refused 19 line 17"))))) ≡ true
+    : prints (Ok Pass) "pass"
+    && (prints (Ok (Breached (Late 0 15))) "late 0 15"
+    && (prints (Ok (Breached (Rule 2 63))) "rule 2 63"
+    && (prints (Ok (Breached (Unheard 1 3 0))) "unheard 1 3 0"
+    && (prints (Err (refusal Undefined 12)) "refused 8 line 12"
+    && (prints (Err (refusal OtherForm 1)) "refused 18 line 1"
+    && prints (Err (refusal NoMinute 17)) "refused 19 line 17"))))) ≡ true
 words-agree = refl
 
 -- the first byte tells them apart
@@ -53,9 +52,9 @@ pass-word (Breached (Late s u)) e = let z : ◌≡◌ {A = ℕ} 108 112 = first_
 pass-word (Breached (Rule s c)) e = let z : ◌≡◌ {A = ℕ} 114 112 = first_byte e in absurd (omega arith)
 pass-word (Breached (Unheard s r u)) e = let z : ◌≡◌ {A = ℕ} 117 112 = first_byte e in absurd (omega arith)
 
-pub pass_values : (j : Judgement) → verdict_text (judgement_values j) ≡ pass_text → judgement_values j ≡ passed
-pass_values (J.Judged v) e = ap verdict_values (pass-word v e)
-pass_values (J.Refused r) e =
+pub pass_values : (j : OrRefusal Verdict) → verdict_text (judgement_values j) ≡ pass_text → judgement_values j ≡ passed
+pass_values (Ok v) e = ap verdict_values (pass-word v e)
+pass_values (Err r) e =
     absurd (refused-not-pass (turned_away 0 r) (sym (refused_words r) ∙ e))
   where
     refused_words : (r : Refusal) → verdict_text (refused r) ≡ refused_text (turned_away 0 r)

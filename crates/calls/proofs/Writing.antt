@@ -10,26 +10,25 @@ use lib.ListN.{length}
 use Rattle.refusal.specs.declared.Cause.TheVariants as C
 use Rattle.network.specs.Limits as L
 use Rattle.network.specs.declared.Network.{Network}
-use Rattle.sheet.specs.Reading.{read}
-use Rattle.sheet.specs.declared.Outcome.TheVariants.{Accepted}
+use Rattle.sheet.specs.Reading.{network_of, Accepts}
 use Rattle.listing.specs.Listing.{listing}
 use Rattle.tighten.specs.Tightest.{remaining_of}
 use Rattle.canonical.specs.House.{house_text}
+use Rattle.calls.specs.Values.{OrRefusal}
 use Rattle.calls.specs.Call.{without_line_lem, Left}
 use Rattle.calls.specs.Lent.{Handed, Lent, in_place_lem}
-use Rattle.calls.specs.Calls.{written_values, writing, refusing, listing_tests, listing_of, house_tests, housed}
+use Rattle.calls.specs.Calls.{writing, refusing, listing_tests, listing_of, house_tests, housed}
 use Rattle.calls.specs.Answers.{Writes, WroteInto, WroteText}
 use Rattle.calls.specs.Numbers.{lists, houses}
-use Rattle.calls.specs.declared.Written.{Written}
 use Rattle.calls.proofs.Call.{call_fails, call_works}
 use Rattle.calls.proofs.Matched.{unlined, writes_call}
 use Rattle.calls.proofs.Handed.{Rightly}
 use Rattle.calls.proofs.Fit.{few-fit, many_do_not, not-fit-many}
 
-pub wrote_into : {l : Left Written} (m : Lent) (text : List ℕ) → writing m text ≡ l → WroteInto text m l
+pub wrote_into : {l : Left (OrRefusal ℕ)} (m : Lent) (text : List ℕ) → writing m text ≡ l → WroteInto text m l
 wrote_into m text e = rw (← e) (record { answer = refl; memory = refl })
 
-pub wrote : {l : Left Written} (text m : List ℕ) → writing (in_place_lem m) text ≡ l → WroteText text m l
+pub wrote : {l : Left (OrRefusal ℕ)} (text m : List ℕ) → writing (in_place_lem m) text ≡ l → WroteText text m l
 wrote text m e = wrote_into (in_place_lem m) text e
 
 -- there is room, or there is not
@@ -38,15 +37,15 @@ short n m = (leb-false n m, lt-leb n m)
 
 module _ (sheet : List ℕ) (t : Handed) (right : Network → Type 0) (m : List ℕ) where
   abbrev net : Network
-  net = (read sheet).network
+  net = network_of sheet
 
   abbrev text : Network → List ℕ
   text Γ = listing sheet Γ t.minutes
 
-  pub lister_writes : ((read sheet).outcome ≡ Accepted → Rightly t right net)
-      → Writes sheet (lists right sheet t.minutes m) written_values 0 (listing_of sheet t m) m
+  pub lister_writes : (Accepts sheet → Rightly t right net)
+      → Writes sheet (lists right sheet t.minutes m) (listing_of sheet t m) m
   lister_writes rightly =
-      writes_call written_values 0 (refusing (in_place_lem m)) (λ r. refl) m (λ r. refl) sheet
+      writes_call (in_place_lem m) sheet
       (listing_tests sheet t (in_place_lem m))
       (λ Γ. writing (in_place_lem m) (text Γ)) (lists right sheet t.minutes m) refl
       (λ a. (
@@ -56,45 +55,46 @@ module _ (sheet : List ℕ) (t : Handed) (right : Network → Type 0) (m : List 
       ))
       (λ Γ. (refl, refl))
 
-  pub listing-wrote : (read sheet).outcome ≡ Accepted → Rightly t right net → right net → length (text net) ≤ length m
+  pub listing-wrote : Accepts sheet → Rightly t right net → right net → length (text net) ≤ length m
       → WroteText (text net) m (listing_of sheet t m)
   listing-wrote a rightly h room =
       wrote (text net) m
       (call_works (refusing (in_place_lem m)) sheet (listing_tests sheet t (in_place_lem m))
       (λ Γ. writing (in_place_lem m) (text Γ))
-      (read sheet) refl a
+      (network_of sheet) a
       (rightly.yes.1 h, (le-leb (length (text net)) (length m) room, tt)))
 
 module _ (sheet m : List ℕ) where
-  abbrev form_work : Network → Left Written
+  abbrev form_work : Network → Left (OrRefusal ℕ)
   form_work Γ = writing (in_place_lem m) (house_text sheet Γ)
 
-  pub house_writes : Writes sheet (houses sheet m) written_values 0 (housed sheet m) m
+  pub house_writes : Writes sheet (houses sheet m) (housed sheet m) m
   house_writes =
-      writes_call written_values 0 (refusing (in_place_lem m)) (λ r. refl) m (λ r. refl) sheet
+      writes_call (in_place_lem m) sheet
       (house_tests sheet (in_place_lem m))
       form_work
       (houses sheet m) refl
       (λ a. (
         λ _. unlined refl refl,
-        (not-fit-many (remaining_of (read sheet).network), many_do_not (remaining_of (read sheet).network)),
-        λ _. (λ _. unlined refl refl, short (length (house_text sheet (read sheet).network)) (length m), λ _. tt),
+        (not-fit-many (remaining_of (network_of sheet)), many_do_not (remaining_of (network_of sheet))),
+        λ _. (λ _. unlined refl refl, short (length (house_text sheet (network_of sheet))) (length m), λ _. tt),
       ))
       (λ Γ. (refl, refl))
 
-  module _ (a : (read sheet).outcome ≡ Accepted) where
-    pub house-wrote : length (remaining_of (read sheet).network) ≤ L.rules
-        → length (house_text sheet (read sheet).network) ≤ length m
-        → WroteText (house_text sheet (read sheet).network) m (housed sheet m)
+  module _ (a : Accepts sheet) where
+    pub house-wrote : length (remaining_of (network_of sheet)) ≤ L.rules
+        → length (house_text sheet (network_of sheet)) ≤ length m
+        → WroteText (house_text sheet (network_of sheet)) m (housed sheet m)
     house-wrote few room =
-        wrote (house_text sheet (read sheet).network) m
-        (call_works (refusing (in_place_lem m)) sheet (house_tests sheet (in_place_lem m)) form_work (read sheet) refl a
-        (few-fit (remaining_of (read sheet).network) few, (le-leb _ (length m) room, tt)))
+        wrote (house_text sheet (network_of sheet)) m
+        (call_works (refusing (in_place_lem m)) sheet (house_tests sheet (in_place_lem m)) form_work
+        (network_of sheet) a
+        (few-fit (remaining_of (network_of sheet)) few, (le-leb _ (length m) room, tt)))
 
-    pub house-many : L.rules < length (remaining_of (read sheet).network)
+    pub house-many : L.rules < length (remaining_of (network_of sheet))
         → housed sheet m ≡ refusing (in_place_lem m) (without_line_lem C.TooManyRows)
     house-many many =
         sym (call_fails (refusing (in_place_lem m)) sheet (house_tests sheet (in_place_lem m)) form_work
-        (read sheet) refl a
+        (network_of sheet) a
         (without_line_lem C.TooManyRows)
-        (inl (many_do_not (remaining_of (read sheet).network) many, refl)))
+        (inl (many_do_not (remaining_of (network_of sheet)) many, refl)))

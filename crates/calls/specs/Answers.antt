@@ -3,14 +3,11 @@
 use Rattle.std.specs.Prelude.{◌≡◌, ◌⊎◌, ◌↔◌, Bool, true, ◌&&◌, ◌||◌, List, [], ◌∷◌, ℕ, suc, ◌≤◌, leb, length}
 use Rattle.refusal.specs.declared.Refusal.{Refusal}
 use Rattle.network.specs.declared.Network.{Network}
-use Rattle.sheet.specs.Reading.{longest, read}
+use Rattle.sheet.specs.Reading.{longest, network_of, Accepts}
 use Rattle.sheet.specs.Fault.{Fault}
-use Rattle.sheet.specs.declared.Outcome.TheVariants.{Accepted}
-use Rattle.calls.specs.Values.{Values, done, turned_away}
+use Rattle.calls.specs.Values.{OrRefusal, Values, done, turned_away, number_values}
 use Rattle.calls.specs.Call.{Left}
 use Rattle.calls.specs.Lent.{Lent, in_place_lem}
-use Rattle.calls.specs.Calls.{written_values}
-use Rattle.calls.specs.declared.Written.{Written}
 
 -- which refusals name a line: 2 to 10, 20 and 21 one of the sheet, 18 and 19 one of the listing; "Lines are 0 for
 -- refusals 1 and 11 to 13", and for each of document 02 "whose request names no line"
@@ -23,8 +20,8 @@ OfSheet n = (n ≤ 10) ⊎ ((20 ≤ n) × (n ≤ 21))
 
 -- the sheet keeps every rule of its layout, and its network is Γ
 pub record Reads (sheet : List ℕ) (Γ : Network) : Type 0 where
-  pub accepted : (read sheet).outcome ≡ Accepted
-  pub network : (read sheet).network ≡ Γ
+  pub accepted : Accepts sheet
+  pub network : network_of sheet ≡ Γ
 
 -- a refusal of a call's own: its number, and its cause, said of the sheet's network
 pub record Own : Type 1 where
@@ -54,20 +51,17 @@ pub record Answers (sheet : List ℕ) (own : List Own) {A : Type 0} (nothing : A
   pub exactly : (Γ : Network) → Reads sheet Γ → Exactly own Γ v.number
   pub refusal_empty : (v.number ≡ 0 → ⊥) → v.value ≡ nothing
 
--- of a call that writes into the memory m, whose answers have these values: it answers so, and "a refusal leaves each
--- lent buffer unaltered"
-pub record Writes (sheet : List ℕ) (own : List Own) {A B : Type 0} (values : A → Values B) (nothing : B) (l : Left A)
-    (m : List ℕ)
-    : Type 0 where
-  pub answers : Answers sheet own nothing (values l.answer)
-  pub keeps : ((values l.answer).number ≡ 0 → ⊥) → l.memory ≡ m
+-- of a call that writes into the memory m: it answers so, and "a refusal leaves each lent buffer unaltered"
+pub record Writes (sheet : List ℕ) (own : List Own) (l : Left (OrRefusal ℕ)) (m : List ℕ) : Type 0 where
+  pub answers : Answers sheet own 0 (number_values l.answer)
+  pub keeps : ((number_values l.answer).number ≡ 0 → ⊥) → l.memory ≡ m
 
 -- it has written this into the memory that it was lent: "the written part has exactly its stated contents and
 -- everything behind it is unaltered"
-pub record WroteInto (text : List ℕ) (m : Lent) (l : Left Written) : Type 0 where
-  pub answer : written_values l.answer ≡ done (length text)
+pub record WroteInto (text : List ℕ) (m : Lent) (l : Left (OrRefusal ℕ)) : Type 0 where
+  pub answer : number_values l.answer ≡ done (length text)
   pub memory : l.memory ≡ m.after text
 
 -- into memory that is lent as it is
-abbrev pub WroteText : List ℕ → List ℕ → Left Written → Type 0
+abbrev pub WroteText : List ℕ → List ℕ → Left (OrRefusal ℕ) → Type 0
 WroteText text m l = WroteInto text (in_place_lem m) l

@@ -1,6 +1,6 @@
 -- The calls of the workshop bench, which is written in C: tables travel as bytes, and an answer is one number (01, The
 -- judge's verdict).
-use Rattle.std.specs.Prelude.{List, ℕ, ◌+◌, ◌*◌, ◌<◌}
+use Rattle.std.specs.Prelude.{List, ℕ, ◌+◌, ◌*◌, ◌<◌, Ok, Err}
 use Rattle.pairs.specs.Pairs.{minutes_of}
 use Rattle.refusal.specs.declared.Refusal.{Refusal}
 use Rattle.checker.specs.declared.Breach.{Breach}
@@ -8,35 +8,31 @@ use Rattle.checker.specs.declared.Breach.TheVariants.{Late, Rule, Unheard}
 use Rattle.checker.specs.declared.Verdict.{Verdict}
 use Rattle.checker.specs.declared.Verdict.TheVariants.{Pass, Breach as Breached}
 use Rattle.dispatch.specs.HeardText.{due_text}
-use Rattle.calls.specs.Values.{Values, done, turned_away}
+use Rattle.calls.specs.Values.{OrRefusal, Values, done, turned_away, number_values}
 use Rattle.calls.specs.Call.{Left}
 use Rattle.calls.specs.Lent.{as_bytes, in_pairs}
-use Rattle.calls.specs.Calls.{judging, written_values, solving_into, listing_of}
+use Rattle.calls.specs.Calls.{judging, solving_into, listing_of}
 use Rattle.calls.specs.Play.{playing}
 use Rattle.calls.specs.Recover.{recovering_into}
-use Rattle.calls.specs.declared.Due.{Due}
-use Rattle.calls.specs.declared.Judgement.{Judgement}
-use Rattle.calls.specs.declared.Judgement.TheVariants as J
-use Rattle.calls.specs.declared.Written.{Written}
 
 -- judging bytes
-abbrev pub bench_judgement : List ℕ → List ℕ → Judgement
+abbrev pub bench_judgement : List ℕ → List ℕ → OrRefusal Verdict
 bench_judgement sheet b = judging sheet (as_bytes b)
 
 -- solving into bytes
-abbrev pub bench_solving : List ℕ → List ℕ → Left Written
+abbrev pub bench_solving : List ℕ → List ℕ → Left (OrRefusal ℕ)
 bench_solving sheet b = solving_into sheet (in_pairs b)
 
 -- reading a listing back into bytes
-abbrev pub bench_recovering : List ℕ → List ℕ → List ℕ → Left Written
+abbrev pub bench_recovering : List ℕ → List ℕ → List ℕ → Left (OrRefusal ℕ)
 bench_recovering sheet printed b = recovering_into sheet printed (in_pairs b)
 
 -- listing a table of bytes
-abbrev pub bench_listed : List ℕ → List ℕ → List ℕ → Left Written
+abbrev pub bench_listed : List ℕ → List ℕ → List ℕ → Left (OrRefusal ℕ)
 bench_listed sheet b m = listing_of sheet (as_bytes b) m
 
 -- playing a table of bytes, for those who have heard a text
-unfoldable pub bench_due : List ℕ → List ℕ → ℕ → List ℕ → Due
+unfoldable pub bench_due : List ℕ → List ℕ → ℕ → List ℕ → OrRefusal ℕ
 bench_due sheet b m text = playing sheet (as_bytes b) (λ Γ. due_text Γ (minutes_of b) m text)
 
 -- the values of a verdict: word 0 is a pass, 1 Late with case and event, 2 Rule with case and rule, 3 Unheard with both
@@ -71,9 +67,9 @@ abbrev pub verdict_values : Verdict → Values Finding
 verdict_values Pass = passed
 verdict_values (Breached b) = breach_values b
 
-abbrev pub judgement_values : Judgement → Values Finding
-judgement_values (J.Judged v) = verdict_values v
-judgement_values (J.Refused r) = refused r
+abbrev pub judgement_values : OrRefusal Verdict → Values Finding
+judgement_values (Ok v) = verdict_values v
+judgement_values (Err r) = refused r
 
 -- the judge's answer for C, lowest byte first: number, line (two bytes), word, three values
 abbrev pub packed : Values Finding → ℕ
@@ -95,5 +91,5 @@ abbrev pub packed_count_lem : Values ℕ → ℕ
 packed_count_lem v = v.number + 256 * (v.line + 65536 * v.value)
 
 -- the answer of a call that writes, as C has it
-abbrev pub packed_left : Left Written → Left ℕ
-packed_left l = record { answer = packed_count_lem (written_values l.answer); memory = l.memory }
+abbrev pub packed_left : Left (OrRefusal ℕ) → Left ℕ
+packed_left l = record { answer = packed_count_lem (number_values l.answer); memory = l.memory }

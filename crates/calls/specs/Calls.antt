@@ -1,6 +1,6 @@
 -- What the public calls answer and what they leave in the memory that they are lent (01, Refused sheets and calls, The
 -- judge's verdict and The printed listing; 02, point 2). Each is its tests, in checking order, and its work.
-use Rattle.std.specs.Prelude.{Bool, true, false, List, [], ◌∷◌, ℕ, leb, length}
+use Rattle.std.specs.Prelude.{Bool, true, false, List, [], ◌∷◌, ℕ, leb, length, Ok, Err}
 use Rattle.refusal.specs.declared.Refusal.{Refusal}
 use Rattle.refusal.specs.declared.Cause.TheVariants.{WrongTableLength, BufferTooShort, Inconsistent, TooManyRows}
 use Rattle.fixpoint.specs.Run.{End, Rests, Passes, Spent}
@@ -8,36 +8,30 @@ use Rattle.network.specs.Limits as L
 use Rattle.network.specs.Build.{cells}
 use Rattle.network.specs.declared.Constraint.{Constraint}
 use Rattle.network.specs.declared.Network.{Network}
+use Rattle.checker.specs.declared.Verdict.{Verdict}
 use Rattle.checker.specs.Verdict.{verdict}
 use Rattle.solver.specs.Solve.{solve, found}
 use Rattle.listing.specs.Listing.{listing}
 use Rattle.tighten.specs.Tightest.{remaining_of}
 use Rattle.canonical.specs.House.{house_text}
-use Rattle.calls.specs.Values.{Values, done, turned_away}
+use Rattle.calls.specs.Values.{OrRefusal, Values, values_of}
 use Rattle.calls.specs.Call.{without_line_lem, Tests, call, Left}
 use Rattle.calls.specs.Lent.{Handed, as_minutes, Lent, in_place_lem}
 use Rattle.calls.specs.declared.Counts.{Counts}
-use Rattle.calls.specs.declared.Summary.{Summary}
-use Rattle.calls.specs.declared.Summary.TheVariants as S
-use Rattle.calls.specs.declared.Judgement.{Judgement}
-use Rattle.calls.specs.declared.Judgement.TheVariants as J
-use Rattle.calls.specs.declared.Written.{Written}
-use Rattle.calls.specs.declared.Written.TheVariants as W
 
 -- reading: the horizon and the counts
 abbrev pub counts_of : Network → Counts
 counts_of Γ = record { horizon = Γ.horizon; events = Γ.events; signals = Γ.signals; rules = Γ.rules }
 
-abbrev pub summary : List ℕ → Summary
-summary sheet = call S.Refused sheet (λ _. []) (λ Γ. S.Accepted (counts_of Γ))
+abbrev pub summary : List ℕ → OrRefusal Counts
+summary sheet = call Err sheet (λ _. []) (λ Γ. Ok (counts_of Γ))
 
 -- the values of an answer: the horizon and the counts
 abbrev pub no_counts : Counts
 no_counts = record { horizon = 0; events = 0; signals = 0; rules = 0 }
 
-abbrev pub summary_values : Summary → Values Counts
-summary_values (S.Accepted c) = done c
-summary_values (S.Refused r) = turned_away no_counts r
+abbrev pub summary_values : OrRefusal Counts → Values Counts
+summary_values = values_of no_counts
 
 -- "A table handed in has not exactly n × 2^k numbers" is 11
 abbrev pub right_length : Handed → Network → Bool × Refusal
@@ -47,16 +41,11 @@ right_length t Γ = (t.has (cells Γ), without_line_lem WrongTableLength)
 abbrev pub judging_tests : Handed → Network → Tests
 judging_tests t Γ = right_length t Γ ∷ []
 
-abbrev pub judging : List ℕ → Handed → Judgement
-judging sheet t = call J.Refused sheet (judging_tests t) (λ Γ. J.Judged (verdict Γ t.minutes))
+abbrev pub judging : List ℕ → Handed → OrRefusal Verdict
+judging sheet t = call Err sheet (judging_tests t) (λ Γ. Ok (verdict Γ t.minutes))
 
-abbrev pub judgement : List ℕ → List ℕ → Judgement
+abbrev pub judgement : List ℕ → List ℕ → OrRefusal Verdict
 judgement sheet t = judging sheet (as_minutes t)
-
--- the value of an answer: how much was written
-abbrev pub written_values : Written → Values ℕ
-written_values (W.Count n) = done n
-written_values (W.Refused r) = turned_away 0 r
 
 module _ (m : Lent) where
   -- "A lent table or byte buffer is too short for what would be written" is 12
@@ -64,12 +53,12 @@ module _ (m : Lent) where
   enough n = (leb n m.room, without_line_lem BufferTooShort)
 
   -- so much is written
-  abbrev pub writing : List ℕ → Left Written
-  writing text = record { answer = W.Count (length text); memory = m.after text }
+  abbrev pub writing : List ℕ → Left (OrRefusal ℕ)
+  writing text = record { answer = Ok (length text); memory = m.after text }
 
   -- refused: the memory keeps its contents
-  abbrev pub refusing : Refusal → Left Written
-  refusing r = record { answer = W.Refused r; memory = m.before }
+  abbrev pub refusing : Refusal → Left (OrRefusal ℕ)
+  refusing r = record { answer = Err r; memory = m.before }
 
 -- solving: the run ends at the least solution, or there is none
 abbrev pub rests : End → Bool
@@ -81,22 +70,22 @@ rests Spent = false
 abbrev pub solving_tests : Lent → Network → Tests
 solving_tests m Γ = enough m (cells Γ) ∷ (rests (solve Γ).end, without_line_lem Inconsistent) ∷ []
 
-abbrev pub solving_into : List ℕ → Lent → Left Written
+abbrev pub solving_into : List ℕ → Lent → Left (OrRefusal ℕ)
 solving_into sheet m = call (refusing m) sheet (solving_tests m) (λ Γ. writing m (found Γ))
 
-abbrev pub solving : List ℕ → List ℕ → Left Written
+abbrev pub solving : List ℕ → List ℕ → Left (OrRefusal ℕ)
 solving sheet m = solving_into sheet (in_place_lem m)
 
 -- listing: "prints any table of the right length"
 abbrev pub listing_tests : List ℕ → Handed → Lent → Network → Tests
 listing_tests sheet t m Γ = right_length t Γ ∷ enough m (length (listing sheet Γ t.minutes)) ∷ []
 
-abbrev pub listing_of : List ℕ → Handed → List ℕ → Left Written
+abbrev pub listing_of : List ℕ → Handed → List ℕ → Left (OrRefusal ℕ)
 listing_of sheet t out =
     let m = in_place_lem out in
     call (refusing m) sheet (listing_tests sheet t m) (λ Γ. writing m (listing sheet Γ t.minutes))
 
-abbrev pub listed : List ℕ → List ℕ → List ℕ → Left Written
+abbrev pub listed : List ℕ → List ℕ → List ℕ → Left (OrRefusal ℕ)
 listed sheet t m = listing_of sheet (as_minutes t) m
 
 -- writing the house form: "17, more than 64 rows would be left" (02, point 2), before 12
@@ -107,7 +96,7 @@ abbrev pub house_tests : List ℕ → Lent → Network → Tests
 house_tests sheet m Γ =
     (fit (remaining_of Γ), without_line_lem TooManyRows) ∷ enough m (length (house_text sheet Γ)) ∷ []
 
-abbrev pub housed : List ℕ → List ℕ → Left Written
+abbrev pub housed : List ℕ → List ℕ → Left (OrRefusal ℕ)
 housed sheet out =
     let m = in_place_lem out in
     call (refusing m) sheet (house_tests sheet m) (λ Γ. writing m (house_text sheet Γ))

@@ -1,7 +1,7 @@
 -- The three demands, as statements about every sheet, table and lent buffer. They speak of the definitions that the
 -- calls' contracts are equations with: `summary`, `judgement`, `solving` and `listed` (Calls), in `Numbers` and
 -- `Benched` those of all calls, and of their answers in the papers' numbers.
-use Rattle.std.specs.Prelude.{◌≡◌, ◌↔◌, List, ℕ, ◌≤◌, length}
+use Rattle.std.specs.Prelude.{◌≡◌, ◌↔◌, List, ℕ, ◌≤◌, length, Err}
 use Rattle.std.proofs.Math.Option.{none}
 use Rattle.refusal.specs.Refusal.{number_of}
 use Rattle.prelude.specs.Checks.{FirstFails}
@@ -16,10 +16,9 @@ use Rattle.network.specs.Least.{Least}
 use Rattle.network.specs.Least as L
 use Rattle.network.specs.declared.Network.{Network}
 use Rattle.line.specs.Labelling.{Read, whole_tests}
-use Rattle.sheet.specs.Reading.{read}
+use Rattle.sheet.specs.Reading.{read, Accepts}
 use Rattle.sheet.specs.Place.{tests}
 use Rattle.sheet.specs.Fault.{FirstFault, Fails, Fault}
-use Rattle.sheet.specs.declared.Outcome.TheVariants.{Accepted, Refused}
 use Rattle.layout.specs.Layout.{Layout}
 use Rattle.layout.specs.Contains.{Contains}
 use Rattle.checker.specs.Verdict.{verdict}
@@ -29,8 +28,8 @@ use Rattle.checker.specs.declared.Verdict.TheVariants.{Pass, Breach as Breached}
 use Rattle.rounds.specs.Hyperarcs.{Dynamic, Waiting, Hyperarcs}
 use Rattle.solver.specs.Solve.{solve, found}
 use Rattle.listing.specs.Listing.{listing}
-use Rattle.calls.specs.Values.{done, refused_as}
-use Rattle.calls.specs.Calls.{counts_of, summary, summary_values, judgement, written_values, solving, listed}
+use Rattle.calls.specs.Values.{done, refused_as, number_values}
+use Rattle.calls.specs.Calls.{counts_of, summary, summary_values, judgement, solving, listed}
 use Rattle.calls.specs.Bench.{passed, breach_values, judgement_values}
 use Rattle.calls.specs.Answers.{Reads, WroteText}
 use Rattle.calls.specs.Former.{Prompt, Unlabelled, Former}
@@ -44,12 +43,12 @@ pub record Demands : Type 0 where
   -- of the reader's call: the counts of an accepted sheet
   pub counted : (sheet : List ℕ) (Γ : Network) → Reads sheet Γ → summary_values (summary sheet) ≡ done (counts_of Γ)
   -- demand 2: "A sheet is accepted when it keeps every rule of its layout, otherwise refused"
-  pub accepted : (sheet : List ℕ) → ((read sheet).outcome ≡ Accepted) ↔ Layout sheet
+  pub accepted : (sheet : List ℕ) → Accepts sheet ↔ Layout sheet
   -- its network holds what it contains: ends, limits and labels of the rules as they are written, the reactions and the
   -- labels of events
   pub contains : (sheet : List ℕ) (Γ : Network) → Reads sheet Γ → (l : Layout sheet) → Contains sheet Γ l.contents
   -- and it is refused with its first line at fault, on which the first test that fails decides
-  pub at_fault : (sheet : List ℕ) (r : Refusal) → ((read sheet).outcome ≡ Refused r) ↔ Fault sheet r
+  pub at_fault : (sheet : List ℕ) (r : Refusal) → (read sheet ≡ Err r) ↔ Fault sheet r
   -- of the last line of the section `cases`, behind its own tests: "20, the start is given a label other than `-`;
   -- 21, an event's or rule's label lacks part of the label of an event whose signal it uses", "20 first" (02, point
   -- 6). `Γ` has what all lines define
@@ -89,7 +88,7 @@ pub record Demands : Type 0 where
   -- demand 3, of the solver's call: "for every accepted sheet and lent table long enough, the program refuses with \"no
   -- table\" exactly when the sheet has no good table"
   pub refused : (sheet m : List ℕ) (Γ : Network) → Reads sheet Γ → cells Γ ≤ length m
-      → (written_values (solving sheet m).answer ≡ refused_as 13) ↔ L.Inconsistent Γ
+      → (number_values (solving sheet m).answer ≡ refused_as 13) ↔ L.Inconsistent Γ
   -- "otherwise it writes a good table in which each event, in each case, is no later than in any other good table, and
   -- leaves everything behind it unaltered"
   pub solved : (sheet m : List ℕ) (Γ : Network) → Reads sheet Γ → cells Γ ≤ length m → (L.Inconsistent Γ → ⊥)

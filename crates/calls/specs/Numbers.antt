@@ -16,11 +16,12 @@ use Rattle.listing.specs.Listing.{header, listing}
 use Rattle.readback.specs.Form.{Formed, Minutes}
 use Rattle.tighten.specs.Tightest.{remaining_of}
 use Rattle.canonical.specs.House.{house_text}
-use Rattle.calls.specs.Calls.{summary, no_counts, summary_values, judgement, written_values, solving, listed}
+use Rattle.calls.specs.Values.{number_values}
+use Rattle.calls.specs.Calls.{summary, no_counts, summary_values, judgement, solving, listed}
 use Rattle.calls.specs.Calls.{housed}
 use Rattle.calls.specs.Bench.{no_finding, judgement_values, bench_judgement, bench_solving, bench_listed, bench_due}
 use Rattle.calls.specs.Bench.{bench_recovering}
-use Rattle.calls.specs.Play.{events_due_lem, events_due_on_lem, due_values}
+use Rattle.calls.specs.Play.{events_due_lem, events_due_on_lem}
 use Rattle.calls.specs.Recover.{recovering}
 use Rattle.calls.specs.Answers.{Own, Answers, Writes}
 
@@ -108,27 +109,27 @@ misnamed_in text Γ = WellWritten Γ text → ⊥
 pub record Numbers : Type 0 where
   pub reader : (sheet : List ℕ) → Answers sheet [] no_counts (summary_values (summary sheet))
   pub judge : (sheet t : List ℕ) → Answers sheet (judges (minutes t)) no_finding (judgement_values (judgement sheet t))
-  pub solver : (sheet m : List ℕ) → Writes sheet (solves (length m)) written_values 0 (solving sheet m) m
-  pub lister : (sheet t m : List ℕ) → Writes sheet (lists (minutes t) sheet t m) written_values 0 (listed sheet t m) m
-  pub house_writer : (sheet m : List ℕ) → Writes sheet (houses sheet m) written_values 0 (housed sheet m) m
+  pub solver : (sheet m : List ℕ) → Writes sheet (solves (length m)) (solving sheet m) m
+  pub lister : (sheet t m : List ℕ) → Writes sheet (lists (minutes t) sheet t m) (listed sheet t m) m
+  pub house_writer : (sheet m : List ℕ) → Writes sheet (houses sheet m) (housed sheet m) m
   pub recoverer : (sheet printed m : List ℕ)
-      → Writes sheet (recovers sheet printed (length m)) written_values 0 (recovering sheet printed m) m
+      → Writes sheet (recovers sheet printed (length m)) (recovering sheet printed m) m
   pub player : (sheet t : List ℕ) (m : ℕ) (hs : List Heard)
       → Answers sheet (plays (minutes t) t (misnamed_by hs) (unheard_by t m hs)) 0
-      (due_values (events_due_lem sheet t m hs))
+      (number_values (events_due_lem sheet t m hs))
   pub player_on : (sheet t : List ℕ) (m x : ℕ)
       → Answers sheet (plays (minutes t) t (misnamed_on x) (unheard_on t m x)) 0
-      (due_values (events_due_on_lem sheet t m x))
+      (number_values (events_due_on_lem sheet t m x))
   -- of the bench's calls; its house form is that of the public call
   pub bench_judge : (sheet b : List ℕ)
       → Answers sheet (judges (bytes b)) no_finding (judgement_values (bench_judgement sheet b))
   pub bench_solver : (sheet b : List ℕ)
-      → Writes sheet (solves (length b / 2)) written_values 0 (bench_solving sheet b) b
+      → Writes sheet (solves (length b / 2)) (bench_solving sheet b) b
   pub bench_lister : (sheet b m : List ℕ)
-      → Writes sheet (lists (bytes b) sheet (minutes_of b) m) written_values 0 (bench_listed sheet b m) m
+      → Writes sheet (lists (bytes b) sheet (minutes_of b) m) (bench_listed sheet b m) m
   pub bench_recoverer : (sheet printed b : List ℕ)
-      → Writes sheet (recovers sheet printed (length b / 2)) written_values 0 (bench_recovering sheet printed b) b
+      → Writes sheet (recovers sheet printed (length b / 2)) (bench_recovering sheet printed b) b
   pub bench_player : (sheet b : List ℕ) (m : ℕ) (text : List ℕ)
       → let t = minutes_of b in
       Answers sheet (plays (bytes b) t (misnamed_in text) (unheard_by t m (heard_in text))) 0
-      (due_values (bench_due sheet b m text))
+      (number_values (bench_due sheet b m text))

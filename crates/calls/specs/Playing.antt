@@ -10,8 +10,8 @@ use Rattle.dispatch.specs.History.{History, history_of}
 use Rattle.dispatch.specs.Said.{said_from}
 use Rattle.dispatch.specs.declared.Heard.{Heard}
 use Rattle.calls.specs.Answers.{Reads}
-use Rattle.calls.specs.Values.{Values}
-use Rattle.calls.specs.Play.{events_due_lem, events_due_on_lem, due_values}
+use Rattle.calls.specs.Values.{Values, number_values}
+use Rattle.calls.specs.Play.{events_due_lem, events_due_on_lem}
 
 -- the answer is the row of the case s at the minute m: of each event, whether it happens in s and is due; and no bit
 -- behind the events
@@ -24,7 +24,7 @@ pub record RowAt (Γ : Network) (t : List ℕ) (m s : ℕ) (v : Values ℕ) : Ty
 module _ (sheet t : List ℕ) where
   -- the answer's values
   abbrev pub answer : ℕ → List Heard → Values ℕ
-  answer m hs = due_values (events_due_lem sheet t m hs)
+  answer m hs = number_values (events_due_lem sheet t m hs)
 
   -- of a good table of the network Γ
   pub record Plays (Γ : Network) : Type 0 where

@@ -8,13 +8,12 @@ use Rattle.network.specs.Build.{cells}
 use Rattle.network.specs.declared.Network.{Network}
 use Rattle.listing.specs.Listing.{header, listing}
 use Rattle.readback.specs.Form.{Misfit, Unread}
-use Rattle.calls.specs.Values.{Values, turned_away}
+use Rattle.calls.specs.Values.{OrRefusal, Values, turned_away, number_values}
 use Rattle.calls.specs.Call.{Left}
 use Rattle.calls.specs.Lent.{Lent}
-use Rattle.calls.specs.Calls.{written_values, listed}
+use Rattle.calls.specs.Calls.{listed}
 use Rattle.calls.specs.Recover.{recovering_into}
 use Rattle.calls.specs.Answers.{Reads, WroteInto, WroteText}
-use Rattle.calls.specs.declared.Written.{Written}
 
 -- a table "of the right length", whose minutes "run to 65,535 as the writer allows"; that number is printed `-`
 pub record Printable (Γ : Network) (σ : List ℕ) : Type 0 where
@@ -29,12 +28,12 @@ pub record Printed (sheet : List ℕ) (Γ : Network) (printed : List ℕ) : Type
 
 -- the memory is lent as minutes, or for C as bytes
 module _ (sheet printed : List ℕ) (m : Lent) where
-  abbrev pub back : Left Written
+  abbrev pub back : Left (OrRefusal ℕ)
   back = recovering_into sheet printed m
 
   -- the answer's values
   abbrev pub answer : Values ℕ
-  answer = written_values back.answer
+  answer = number_values back.answer
 
   -- of an accepted sheet, whose network is Γ
   pub record ReadsBack (Γ : Network) : Type 0 where

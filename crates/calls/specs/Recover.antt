@@ -10,10 +10,10 @@ use Rattle.network.specs.Build.{cells}
 use Rattle.network.specs.declared.Network.{Network}
 use Rattle.listing.specs.Listing.{header}
 use Rattle.readback.specs.Rows.{misfit, unread, recovered}
+use Rattle.calls.specs.Values.{OrRefusal}
 use Rattle.calls.specs.Call.{without_line_lem, Tests, call, Left}
 use Rattle.calls.specs.Lent.{Lent, in_place_lem}
 use Rattle.calls.specs.Calls.{enough, writing, refusing}
-use Rattle.calls.specs.declared.Written.{Written}
 
 -- a test that holds where no line is at fault; otherwise the refusal has the line
 abbrev pub faultless : Option ℕ → Cause → Bool × Refusal
@@ -39,8 +39,8 @@ module _ (sheet printed : List ℕ) where
   abbrev pub recovering_tests : Lent → Network → Tests
   recovering_tests m Γ = recovery_tests (header sheet Γ) Γ.signals Γ.events printed (enough m (cells Γ))
 
-  abbrev pub recovering_into : Lent → Left Written
+  abbrev pub recovering_into : Lent → Left (OrRefusal ℕ)
   recovering_into m = call (refusing m) sheet (recovering_tests m) (λ Γ. writing m (recovered_in Γ))
 
-  abbrev pub recovering : List ℕ → Left Written
+  abbrev pub recovering : List ℕ → Left (OrRefusal ℕ)
   recovering m = recovering_into (in_place_lem m)

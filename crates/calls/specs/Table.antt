@@ -8,20 +8,19 @@ use Rattle.text.specs.Decimal.{decimal}
 use Rattle.network.specs.Limits as L
 use Rattle.sheet.specs.Reading.{longest}
 use Rattle.listing.specs.Most.{most_listing}
-use Rattle.calls.specs.Values.{Values}
+use Rattle.calls.specs.Values.{OrRefusal, Values, number_values}
 use Rattle.calls.specs.Call.{Left}
-use Rattle.calls.specs.Calls.{judgement, written_values, solving, listed, housed}
+use Rattle.calls.specs.Calls.{judgement, solving, listed, housed}
 use Rattle.calls.specs.Bench.{Finding, judgement_values}
 use Rattle.calls.specs.Recover.{recovering}
-use Rattle.calls.specs.declared.Written.{Written}
 
 abbrev pub refused_text : Values ℕ → List ℕ
 refused_text v = ascii "refused " ++ decimal v.number ++ ascii " line " ++ decimal v.line ++ line_feed ∷ []
 
 -- what a call has written goes on; a refusal is printed
-abbrev pub or_refused : Left Written → (List ℕ → List ℕ) → List ℕ
+abbrev pub or_refused : Left (OrRefusal ℕ) → (List ℕ → List ℕ) → List ℕ
 or_refused l next =
-    let v = written_values l.answer in
+    let v = number_values l.answer in
     elim (eqb v.number 0) [ true ↦ next (take v.value l.memory) | false ↦ refused_text v ]
 
 -- the listing of a table, on a page that is lent

@@ -10,8 +10,7 @@ use lib.ListN.{length}
 use Rattle.network.specs.Limits as L
 use Rattle.network.specs.Solution.{Solution}
 use Rattle.network.specs.declared.Network.{Network}
-use Rattle.sheet.specs.Reading.{read}
-use Rattle.sheet.specs.declared.Outcome.TheVariants.{Accepted}
+use Rattle.sheet.specs.Reading.{Accepts, network_of}
 use Rattle.layout.specs.Layout.{Layout, text_of}
 use Rattle.layout.specs.Contains.{Contains}
 use Rattle.layout.proofs.Accepted.{accepted_iff, network-contains}
@@ -37,16 +36,16 @@ text-is : (sheet : List ℕ) (Γ : Network) → house_text sheet Γ ≡ text_of 
 unfolding house_text
 text-is sheet Γ = refl
 
-module _ (sheet : List ℕ) (a : (read sheet).outcome ≡ Accepted)
-    (few : length (remaining_of (read sheet).network) ≤ L.rules) where
+module _ (sheet : List ℕ) (a : Accepts sheet)
+    (few : length (remaining_of (network_of sheet)) ≤ L.rules) where
   abbrev Γ : Network
-  Γ = (read sheet).network
+  Γ = network_of sheet
 
   abbrev form : List ℕ
   form = house_text sheet Γ
 
   abbrev Δ : Network
-  Δ = (read form).network
+  Δ = network_of form
 
   -- at most 3,021 bytes
   pub form-short : length form ≤ most_form
@@ -63,7 +62,7 @@ module _ (sheet : List ℕ) (a : (read sheet).outcome ≡ Accepted)
     short = omega (arith, form-short);
   }
 
-  pub form-accepted : (read form).outcome ≡ Accepted
+  pub form-accepted : Accepts form
   form-accepted = (accepted_iff form).1 form_layout
 
   form-contains : Contains form Δ (house_of sheet Γ)

@@ -22,9 +22,7 @@ use Rattle.network.proofs.Labels.{truth-none}
 use Rattle.names.specs.Names.{is_name_lem, Literal, letters_of}
 use Rattle.names.specs.Defined.{mask_of}
 use Rattle.names.proofs.Apart.{Apart, mask-apart}
-use Rattle.names.proofs.Tokens.{name-empty}
-use Rattle.sheet.specs.Reading.{read}
-use Rattle.sheet.specs.declared.Outcome.TheVariants.{Accepted}
+use Rattle.sheet.specs.Reading.{Accepts, network_of}
 use Rattle.sheet.proofs.WellFormed.{accepted_well_formed}
 use Rattle.layout.specs.Contents.{Signal, Contents, no_signal, no_rule, no_case, signal_letters, case_events}
 use Rattle.layout.specs.Contents.{listed_cases}
@@ -45,7 +43,7 @@ pub record Faithful (sheet : List ℕ) (Γ : Network) : Type 0 where
   pub held : Contains sheet Γ contents
   pub formed : WellFormed Γ
 
-pub faithful : (sheet : List ℕ) → (read sheet).outcome ≡ Accepted → Faithful sheet (read sheet).network
+pub faithful : (sheet : List ℕ) → Accepts sheet → Faithful sheet (network_of sheet)
 faithful sheet a =
     let l = (accepted_iff sheet).0 a in
     record {
@@ -78,7 +76,7 @@ name-tells {ns} names once u v h e =
       | inl l ↦ once.once u v l h e
       | inr l ↦
           let none : get_or ns v [] ≡ [] = sym e ∙ get_or-eq_default ns [] {n = u} l in
-          clash (is_name_lem (get_or ns v [])) (names.each v h) (name-empty (get_or ns v []) (ap length none))
+          clash (is_name_lem (get_or ns v [])) (names.each v h) (ap is_name_lem none)
     ]
 
 module _ {sheet : List ℕ} {Γ : Network} (t : Faithful sheet Γ) where

@@ -12,8 +12,7 @@ use Rattle.network.specs.Limits as L
 use Rattle.network.specs.Build.{event_label}
 use Rattle.network.specs.Strategy.{reaction}
 use Rattle.network.specs.declared.Network.{Network}
-use Rattle.sheet.specs.Reading.{read}
-use Rattle.sheet.specs.declared.Outcome.TheVariants.{Accepted}
+use Rattle.sheet.specs.Reading.{Accepts, network_of}
 use Rattle.tighten.specs.Tightest.{remaining_of}
 use Rattle.canonical.specs.House.{names_of, signals_of, house_text}
 use Rattle.canonical.specs.Same.{Same}
@@ -23,17 +22,17 @@ use Rattle.canonical.proofs.Again.{form_agrees, form-same}
 
 -- the network that is read from a form
 abbrev from : List ℕ → Network
-from form = (read form).network
+from form = network_of form
 
-module _ (sheet : List ℕ) (a : (read sheet).outcome ≡ Accepted)
-    (few : length (remaining_of (read sheet).network) ≤ L.rules)
-    (other : List ℕ) (b : (read other).outcome ≡ Accepted)
-    (fits : length (remaining_of (read other).network) ≤ L.rules) where
+module _ (sheet : List ℕ) (a : Accepts sheet)
+    (few : length (remaining_of (network_of sheet)) ≤ L.rules)
+    (other : List ℕ) (b : Accepts other)
+    (fits : length (remaining_of (network_of other)) ≤ L.rules) where
   abbrev Γ : Network
-  Γ = (read sheet).network
+  Γ = network_of sheet
 
   abbrev Δ : Network
-  Δ = (read other).network
+  Δ = network_of other
 
   pub same_of_equal : house_text sheet Γ ≡ house_text other Δ → Same sheet Γ other Δ
   same_of_equal e =

@@ -2,7 +2,7 @@
 -- reactions; the events with a label; what is known of an accepted sheet's network; the form keeps the layout's rules,
 -- also in its labels, and is short; what is read back from it. Then the theorems: `Again` of one sheet and its form,
 -- and `Forms` of two sheets. Behind them the laws that the writer's proofs cite: a section, and one of what is
--- gathered; a label, the reactions, the labels of events, a limit and a line; the upper bounds that remain; the form.
+-- gathered; a label, the reactions, the labels of events and a line; the upper bounds that remain; the form.
 pub mod Keyed
 pub mod Signs
 pub mod Listed
@@ -23,7 +23,6 @@ pub mod Gathered
 pub mod Literals
 pub mod SlowLines
 pub mod CaseLines
-pub mod Limit
 pub mod RuleLine
 pub mod Remaining
 pub mod House

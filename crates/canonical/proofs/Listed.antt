@@ -4,7 +4,6 @@ use mathlib.Core.Path.{◌≡◌, refl}
 use mathlib.Core.Option.{none, some, get_or}
 use mathlib.Core.List.{List, [], ◌∷◌, map}
 use Prim.Native.Nat.{ℕ, zero, suc}
-use native.Mathlib.Omega.{arith}
 use lib.ListN.{length}
 use Rattle.prelude.proofs.Search.{some-not-none}
 use Rattle.layout.specs.Contents.{Reaction}
@@ -15,17 +14,9 @@ module _ {A : Type 0} where
   listed-section [] = refl
   listed-section (x ∷ xs) = refl
 
-  pub section-none : (xs : List A) → length xs ≡ 0 → section_of xs ≡ none
-  section-none [] e = refl
-  section-none (x ∷ xs) e = absurd (omega arith)
-
   pub section-some : (xs : List A) → (length xs ≡ 0 → ⊥) → section_of xs ≡ some xs
   section-some [] h = absurd (h refl)
   section-some (x ∷ xs) h = refl
-
-pub before-none : (n : ℕ) (ys : List Reaction) → n ≡ 0 → length ys ≡ 0 → before_labels n ys ≡ none
-before-none zero ys e h = section-none ys h
-before-none (suc n) ys e h = absurd (omega arith)
 
 pub before-some : (n : ℕ) (ys : List Reaction) → (length ys ≡ 0 → n ≡ 0 → ⊥) → before_labels n ys ≡ some ys
 before-some zero ys h = section-some ys (λ e. h e refl)

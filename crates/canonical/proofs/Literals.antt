@@ -1,11 +1,12 @@
 -- Laws of a label as it is written: signal by signal, what the label asks of each; and `-` exactly where nothing was
 -- written. Assumes nothing.
 use mathlib.Core.Path.{◌≡◌, refl, ◌∙◌, ap}
-use mathlib.Core.Bool.{Bool, true, false}
+use mathlib.Core.Bool.{Bool, true, false, cond}
 use mathlib.Core.List.{List, [], ◌∷◌, ◌++◌}
 use Prim.Native.Nat.{ℕ, zero, suc}
 use native.Mathlib.Omega.{arith}
 use lib.ListN.{length, length-append}
+use Rattle.std.proofs.Common.{Some, None}
 use Rattle.prelude.specs.Bytes.{ascii}
 use Rattle.prelude.specs.Gather.{ahead, gather_from}
 use Rattle.page.specs.Joined.{join_from}
@@ -15,6 +16,7 @@ use Rattle.network.specs.declared.Label.{Label}
 use Rattle.network.specs.declared.Network.{Network}
 use Rattle.names.specs.Names.{Literal}
 use Rattle.layout.specs.Layout.{sign_text, literals_text, label_text}
+use Rattle.canonical.specs.Asked.{asked, asked_text}
 use Rattle.canonical.specs.House.{literal_by, literal_at, literals_of}
 
 -- the letters of a label have no text only where there are none
@@ -37,10 +39,21 @@ literal-first b true negative ls = refl
 literal-first b false true ls = refl
 literal-first b false false ls = refl
 
+-- one letter, as the code writes it
+literal-asked : (b : ℕ) (positive negative : Bool)
+    → asked_text b (cond positive (Some true) (cond negative (Some false) None))
+    ≡ literals_text (ahead (literal_by b positive negative) [])
+literal-asked b true negative = refl
+literal-asked b false true = refl
+literal-asked b false false = refl
+
 module _ (Γ : Network) (ℓ : Label) where
   -- what is written for signal p
   abbrev pub literal_text_at : ℕ → List ℕ
   literal_text_at p = literals_text (ahead (literal_at Γ ℓ p) [])
+
+  pub asked-literal : (p : ℕ) → asked_text (letter Γ p) (asked ℓ p) ≡ literal_text_at p
+  asked-literal p = literal-asked (letter Γ p) (truth ℓ.positive p) (truth ℓ.negative p)
 
   literals-join : (i n : ℕ) → literals_text (gather_from i n (literal_at Γ ℓ)) ≡ join_from i n literal_text_at
   literals-join i zero = refl

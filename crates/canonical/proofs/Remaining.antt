@@ -1,13 +1,12 @@
--- The upper bounds that remain, in an array: they are no more than it has room for, each is proper, and their lines
--- are those of the form. Assumes nothing.
-use mathlib.Core.Path.{◌≡◌, sym, ◌∙◌}
-use mathlib.Core.Bool.{true}
+-- The upper bounds that remain: they are no more than a sheet may have, each is proper, and their lines are those of
+-- the form. Assumes nothing.
+use mathlib.Core.Path.{◌≡◌, sym, ◌∙◌, ap}
 use mathlib.Core.List.{List, map}
 use Prim.Native.Nat.{ℕ, ◌≤◌, ◌<◌}
 use native.Mathlib.Omega.{arith}
-use borrow.Author.Tests.{leb-true}
 use lib.ListN.{length, get_or}
-use lib.Seq.{get_or-take}
+use Rattle.std.proofs.Common.{Some}
+use Rattle.std.proofs.Math.Seq.{take-length}
 use Rattle.prelude.specs.Bounded.{tabulate}
 use Rattle.prelude.proofs.Mapped.{map-tabulate, take-tabulate}
 use Rattle.network.specs.Limits as L
@@ -17,37 +16,37 @@ use Rattle.network.specs.declared.Constraint.{Constraint}
 use Rattle.network.specs.declared.Network.{Network}
 use Rattle.layout.specs.Layout.{rule_line}
 use Rattle.tighten.specs.Tightest.{remaining_of}
-use Rattle.tighten.specs.Fronts.{Front, UppersAre}
-use Rattle.tighten.specs.declared.UpperBounds.{UpperBounds}
+use Rattle.tighten.specs.Fitting.{fitting}
+use Rattle.tighten.proofs.Fitting.{Fitted, fitted}
 use Rattle.tighten.proofs.Remains.{remaining-proper}
 use Rattle.canonical.specs.House.{as_rule}
 
-module _ (Γ : Network) {r : UpperBounds} (held : UppersAre (remaining_of Γ) r) (fits : r.fits ≡ true) where
+module _ (Γ : Network) (us : List Constraint) (held : Some us ≡ fitting (remaining_of Γ)) where
   abbrev at : ℕ → Constraint
-  at i = get_or r.uppers i no_constraint
+  at i = get_or us i no_constraint
 
-  front : Front L.rules (remaining_of Γ) r.count r.uppers
-  front = held.held fits
+  all : Fitted (remaining_of Γ) us
+  all = fitted (remaining_of Γ) us held
 
-  pub remaining-few : r.count ≤ L.rules
-  remaining-few = omega (arith, front.counted, leb-true (length (remaining_of Γ)) L.rules (sym held.fits ∙ fits))
+  pub remaining-few : length us ≤ L.rules
+  remaining-few = all.few
 
-  pub remaining-proper-at : WellFormed Γ → (i : ℕ) → i < r.count → Proper Γ (at i)
+  pub remaining-proper-at : WellFormed Γ → (i : ℕ) → i < length us → Proper Γ (at i)
   remaining-proper-at w i h =
-      let same : get_or (remaining_of Γ) i no_constraint ≡ at i =
-      rw (← front.front) (get_or-take r.count r.uppers i no_constraint h) in
-      rw same at ((remaining-proper Γ w).each i (omega (arith, front.counted)))
+      let each = remaining-proper Γ w in
+      let same = ap (λ (l : List Constraint). get_or l i no_constraint) all.is in
+      rw same (each.each i (omega (arith, ap (λ (l : List Constraint). length l) all.is)))
 
-  -- the lines of those that remain, by their places in the array
+  -- the lines of those that remain, by their places
   pub remaining-lines : (sheet : List ℕ)
       → map rule_line (map (as_rule sheet Γ) (remaining_of Γ))
-      ≡ tabulate r.count (λ i. rule_line (as_rule sheet Γ (at i)))
+      ≡ tabulate (length us) (λ i. rule_line (as_rule sheet Γ (at i)))
   remaining-lines sheet =
-      let all : remaining_of Γ ≡ tabulate r.count at =
-      sym front.front
-      ∙ take-tabulate no_constraint r.count r.uppers (omega (arith, remaining-few, front.sized)) in
+      let table : us ≡ tabulate (length us) at =
+      sym (take-length us) ∙ take-tabulate no_constraint (length us) us (omega arith) in
+      let all-of : remaining_of Γ ≡ tabulate (length us) at = sym all.is ∙ table in
       rw (
-        all,
-        map-tabulate (as_rule sheet Γ) at r.count,
-        map-tabulate rule_line (λ i. as_rule sheet Γ (at i)) r.count,
+        all-of,
+        map-tabulate (as_rule sheet Γ) at (length us),
+        map-tabulate rule_line (λ i. as_rule sheet Γ (at i)) (length us),
       )

@@ -10,8 +10,8 @@ use Rattle.prelude.proofs.Bounded.{length-tabulate}
 use Rattle.text.specs.Lines.{line}
 use Rattle.text.specs.Decimal.{decimal}
 use Rattle.page.specs.Joined.{join_from}
-use Rattle.page.specs.Appended.{Appended}
-use Rattle.page.proofs.Append.{append_then}
+use Rattle.page.specs.Pushed.{Pushed}
+use Rattle.page.proofs.Pushed.{pushed_then}
 use Rattle.layout.specs.Layout.{lines, section}
 
 module _ (f : ℕ → List ℕ) where
@@ -24,9 +24,9 @@ module _ (f : ℕ → List ℕ) where
   section-tabulate word n = rw (length-tabulate f n, lines-tabulate_from 0 n)
 
 -- the first line, and the lines of a table of n
-pub section_appended : (word : String) (ls : List (List ℕ)) (n : ℕ) (f : ℕ → List ℕ) → ls ≡ tabulate n f
-    → {j k l : ℕ} {b m a : List ℕ} {at r e : ℕ}
-    → Appended j b at (line (ascii word) (decimal n ∷ [])) m r
-    → Appended k m r (join_from 0 n f) a e
-    → j + k ≤ l → Appended l b at (section word ls) a e
-section_appended word ls n f p g h w = rw (p, ← section-tabulate f word n) (append_then g h w)
+pub section_pushed : (word : String) (ls : List (List ℕ)) (n : ℕ) (f : ℕ → List ℕ) → ls ≡ tabulate n f
+    → {j k l : ℕ} {b m a : List ℕ}
+    → Pushed j b (line (ascii word) (decimal n ∷ [])) m
+    → Pushed k m (join_from 0 n f) a
+    → j + k ≤ l → Pushed l b (section word ls) a
+section_pushed word ls n f p g h w = rw (p, ← section-tabulate f word n) (pushed_then g h w)

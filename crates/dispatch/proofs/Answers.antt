@@ -22,8 +22,9 @@ use Rattle.dispatch.specs.Heard.{WellNamed, is_well_named, Lettered, says}
 use Rattle.dispatch.specs.History.{History}
 use Rattle.dispatch.specs.Due.{hears, due_in_lem, as_heard, has_heard_lem, hearer, due_for, due}
 use Rattle.dispatch.specs.declared.Heard.{Heard}
-use Rattle.dispatch.specs.declared.Dispatched.{Dispatched}
-use Rattle.dispatch.specs.declared.Dispatched.TheVariants.{Events, Misnamed, NeverHeard}
+use Rattle.std.proofs.Common.{Result, Ok, Err}
+use Rattle.dispatch.specs.declared.Unheard.{Unheard}
+use Rattle.dispatch.specs.declared.Unheard.TheVariants.{Misnamed, NeverHeard}
 use Rattle.dispatch.proofs.History.{well_named, named_of_history, told_of_history, history_of_told}
 use Rattle.dispatch.proofs.Alike.{heard-due}
 
@@ -67,10 +68,10 @@ module _ (Γ : Network) (σ : List ℕ) (m : ℕ) (lettered : Lettered Γ) (hs :
   Never = WellNamed Γ hs × ((s : ℕ) → s < scenarios Γ → History Γ σ m hs s → ⊥)
 
   -- what each answer says of the list
-  data Answer : Dispatched → Type 0 where
-    misnamed : (WellNamed Γ hs → ⊥) → Answer Misnamed
-    never : Never → Answer NeverHeard
-    events : (s : ℕ) → s < scenarios Γ → History Γ σ m hs s → Answer (Events (due_in_lem Γ σ m s))
+  data Answer : Result ℕ Unheard → Type 0 where
+    misnamed : (WellNamed Γ hs → ⊥) → Answer (Err Misnamed)
+    never : Never → Answer (Err NeverHeard)
+    events : (s : ℕ) → s < scenarios Γ → History Γ σ m hs s → Answer (Ok (due_in_lem Γ σ m s))
 
   answer_for : (o : Option ℕ) → hearer Γ σ m (says hs) ≡ o → WellNamed Γ hs → Answer (due_for Γ σ m o)
   answer_for none e n =
@@ -89,41 +90,41 @@ module _ (Γ : Network) (σ : List ℕ) (m : ℕ) (lettered : Lettered Γ) (hs :
   due-answer : Answer (due Γ σ m hs)
   unfolding due
   due-answer =
-      by_cond Answer (is_well_named Γ hs) (due_for Γ σ m (hearer Γ σ m (says hs))) Misnamed
+      by_cond Answer (is_well_named Γ hs) (due_for Γ σ m (hearer Γ σ m (says hs))) (Err Misnamed)
       (λ e. answer_for (hearer Γ σ m (says hs)) refl ((well_named Γ hs).0 e))
       (λ e. misnamed (λ w. clash (is_well_named Γ hs) ((well_named Γ hs).1 w) e))
 
   -- a letter is undefined or stands twice
-  pub due-misnamed : (due Γ σ m hs ≡ Misnamed) ↔ (WellNamed Γ hs → ⊥)
+  pub due-misnamed : (due Γ σ m hs ≡ Err Misnamed) ↔ (WellNamed Γ hs → ⊥)
   due-misnamed = (λ e. only (rw e at due-answer), λ e. so e due-answer)
     where
-      only : Answer Misnamed → WellNamed Γ hs → ⊥
+      only : Answer (Err Misnamed) → WellNamed Γ hs → ⊥
       only (misnamed e) = e
 
-      so : {d : Dispatched} → (WellNamed Γ hs → ⊥) → Answer d → d ≡ Misnamed
+      so : {d : Result ℕ Unheard} → (WellNamed Γ hs → ⊥) → Answer d → d ≡ Err Misnamed
       so e (misnamed n) = refl
       so e (never w) = absurd (e w.0)
       so e (events s l h) = absurd (e (named_of_history Γ σ m h))
 
   -- no case has heard it
-  pub due-never : (due Γ σ m hs ≡ NeverHeard)
+  pub due-never : (due Γ σ m hs ≡ Err NeverHeard)
       ↔ (WellNamed Γ hs × ((s : ℕ) → s < scenarios Γ → History Γ σ m hs s → ⊥))
   due-never = (λ e. only (rw e at due-answer), λ w. so w due-answer)
     where
-      only : Answer NeverHeard → Never
+      only : Answer (Err NeverHeard) → Never
       only (never w) = w
 
-      so : {d : Dispatched} → Never → Answer d → d ≡ NeverHeard
+      so : {d : Result ℕ Unheard} → Never → Answer d → d ≡ Err NeverHeard
       so w (misnamed n) = absurd (n w.0)
       so w (never x) = refl
       so w (events s l h) = absurd (w.1 s l h)
 
   -- what is due in any case that has heard it
   pub due_history : Solution Γ σ → WellFormed Γ → (s : ℕ) → s < scenarios Γ → History Γ σ m hs s
-      → due Γ σ m hs ≡ Events (due_in_lem Γ σ m s)
+      → due Γ σ m hs ≡ Ok (due_in_lem Γ σ m s)
   due_history good wf s l h = so due-answer
     where
-      so : {d : Dispatched} → Answer d → d ≡ Events (due_in_lem Γ σ m s)
+      so : {d : Result ℕ Unheard} → Answer d → d ≡ Ok (due_in_lem Γ σ m s)
       so (misnamed n) = absurd (n (named_of_history Γ σ m h))
       so (never w) = absurd (w.1 s l h)
-      so (events r k g) = ap Events (heard-due Γ σ m good wf lettered k l hs g h)
+      so (events r k g) = ap Ok (heard-due Γ σ m good wf lettered k l hs g h)

@@ -1,8 +1,8 @@
 -- Laws of the core. What is said of a letter, by its two bits, and that over a network it is what a case has heard.
 -- Then three loops, each by what has been passed: bits that add up, each of them new, so that nothing is carried
 -- (`Summing`), the records that a mask names (`Naming`), and the search for a case (`Hearing`). Assumes nothing.
-use mathlib.Core.Path.{◌≡◌, refl, sym, ◌∙◌, ap, ap₂}
-use mathlib.Core.Bool.{Bool, true, false, ◌&&◌, not, beq, cond}
+use mathlib.Core.Path.{◌≡◌, refl, sym, ◌∙◌, ap}
+use mathlib.Core.Bool.{Bool, true, false, ◌&&◌, ◌||◌, not, beq, cond}
 use mathlib.Core.List.{List}
 use Prim.Native.Nat.{ℕ, suc, ◌+◌, ◌*◌, ◌%◌, ◌^◌, ◌≤◌, ◌<◌}
 use native.Mathlib.Nat.{zero-add, add-zero}
@@ -10,6 +10,7 @@ use native.Mathlib.Numerals.{add-one}
 use native.Mathlib.Omega.{arith}
 use lib.Dec.{eqb}
 use lib.Pow.{pow_mono}
+use Rattle.std.proofs.Common.{Some, None, Ok, Err}
 use Rattle.prelude.specs.Search.{when}
 use Rattle.prelude.specs.Bounded.{sum_below}
 use Rattle.prelude.proofs.Search.{Searching}
@@ -18,33 +19,41 @@ use Rattle.network.specs.Scenario.{truth}
 use Rattle.network.specs.Strategy.{known}
 use Rattle.network.specs.declared.Network.{Network}
 use Rattle.names.proofs.Finds.{finds_on, finds_at, finds_end}
+use Rattle.dispatch.specs.History.{known_truth}
 use Rattle.dispatch.specs.Due.{is_due_lem, due_in_lem, as_heard, has_heard_lem}
-use Rattle.dispatch.specs.Said.{said_on, stands_on, as_said_lem, with_heard, said_from}
+use Rattle.dispatch.specs.Said.{said_on, stands_on, tells, with_heard, said_from}
 use Rattle.dispatch.specs.Said.{records_on, well_named_on, due_on}
-use Rattle.dispatch.specs.declared.Dispatched.TheVariants.{Events, Misnamed, NeverHeard}
+use Rattle.dispatch.specs.declared.Unheard.TheVariants.{Misnamed, NeverHeard}
 use Rattle.dispatch.proofs.Bits.{one_shifted, mask_small}
 use Rattle.dispatch.proofs.Again.{named-from}
 
--- a test against a constant is the test or its negation
-beq-with-true : (b : Bool) → beq b true ≡ b
-beq-with-true true = refl
-beq-with-true false = refl
+-- what a mask says of a letter, true or false, is tested as the code tests it: of nothing known, of true, of false
+tells-none : (a b : Bool) → not (a || b) ≡ beq a false && beq b false
+tells-none true b = refl
+tells-none false true = refl
+tells-none false false = refl
 
-beq-with-false : (b : Bool) → beq b false ≡ not b
-beq-with-false true = refl
-beq-with-false false = refl
+tells-true : (a b : Bool) → a && not b ≡ beq a true && beq b false
+tells-true true true = refl
+tells-true true false = refl
+tells-true false b = refl
 
--- p and n, whether l is said to be true and whether it is said to be false, are tested as the code tests them
-pub as_said-is : (x l : ℕ) (p n known t : Bool) → p ≡ said_on x l true → n ≡ said_on x l false
-    → as_said_lem x l known t ≡ cond (not known) (not p && not n) (cond t (p && not n) (not p && n))
-as_said-is x l p n true true e d = rw (← e, ← d) (ap₂ ◌&&◌ (beq-with-true p) (beq-with-false n))
-as_said-is x l p n true false e d = rw (← e, ← d) (ap₂ ◌&&◌ (beq-with-false p) (beq-with-true n))
-as_said-is x l p n false t e d = rw (← e, ← d) (ap₂ ◌&&◌ (beq-with-false p) (beq-with-false n))
+tells-false : (a b : Bool) → b && not a ≡ beq a false && beq b true
+tells-false true true = refl
+tells-false true false = refl
+tells-false false true = refl
+tells-false false false = refl
 
--- with k whether p is known and t its truth, that is what s has heard
-pub as_heard-is : (Γ : Network) (σ : List ℕ) (m x s p : ℕ) (k t : Bool) → k ≡ known Γ σ s p m → t ≡ truth s p
-    → as_said_lem x (letter Γ p) k t ≡ as_heard Γ σ m (said_on x) s p
-as_heard-is Γ σ m x s p k t e d = rw (e, d)
+tells-is : (x l : ℕ) (k t : Bool) → tells x l (cond k (Some t) None)
+    ≡ beq (said_on x l true) (k && beq t true) && beq (said_on x l false) (k && beq t false)
+tells-is x l true true = tells-true (said_on x l true) (said_on x l false)
+tells-is x l true false = tells-false (said_on x l true) (said_on x l false)
+tells-is x l false t = tells-none (said_on x l true) (said_on x l false)
+
+-- so it is what s has heard of the signal p
+pub as_heard-is : (Γ : Network) (σ : List ℕ) (m x s p : ℕ)
+    → tells x (letter Γ p) (known_truth Γ σ m s p) ≡ as_heard Γ σ m (said_on x) s p
+as_heard-is Γ σ m x s p = tells-is x (letter Γ p) (known Γ σ s p m) (truth s p)
 
 -- a loop over the events of s has come to u, and due has a bit for each below u that is due at m
 pub record Summing (Γ : Network) (σ : List ℕ) (m s due u : ℕ) : Type 0 where
@@ -68,7 +77,7 @@ module _ {Γ : Network} {σ : List ℕ} {m s due u : ℕ} (here : Summing Γ σ 
   pub summed : Γ.events ≤ u → due ≡ due_in_lem Γ σ m s
   summed l = let end : u ≡ Γ.events = omega (arith, here.within) in rw end at here.sum
 
-pub misnamed-on : (Γ : Network) (σ : List ℕ) (m x : ℕ) → well_named_on Γ x ≡ false → Misnamed ≡ due_on Γ σ m x
+pub misnamed-on : (Γ : Network) (σ : List ℕ) (m x : ℕ) → well_named_on Γ x ≡ false → Err Misnamed ≡ due_on Γ σ m x
 unfolding due_on
 misnamed-on Γ σ m x e = rw e
 
@@ -106,11 +115,11 @@ module _ {Γ : Network} {σ : List ℕ} {m x s : ℕ} (here : Hearing Γ σ m x 
   pub hearing_on : s < scenarios Γ → has_heard_lem Γ σ m (said_on x) s ≡ false → Hearing Γ σ m x (s + 1)
   hearing_on h e = record { named = here.named; search = finds_on (has_heard_lem Γ σ m (said_on x)) here.search h e }
 
-  pub heard-on : s < scenarios Γ → has_heard_lem Γ σ m (said_on x) s ≡ true → Events (due_in_lem Γ σ m s)
+  pub heard-on : s < scenarios Γ → has_heard_lem Γ σ m (said_on x) s ≡ true → Ok (due_in_lem Γ σ m s)
       ≡ due_on Γ σ m x
   unfolding due_on
   heard-on h e = rw (here.named, finds_at (has_heard_lem Γ σ m (said_on x)) here.search h e)
 
-  pub never_on : scenarios Γ ≤ s → NeverHeard ≡ due_on Γ σ m x
+  pub never_on : scenarios Γ ≤ s → Err NeverHeard ≡ due_on Γ σ m x
   unfolding due_on
   never_on h = rw (here.named, finds_end (has_heard_lem Γ σ m (said_on x)) here.search h)

@@ -7,6 +7,7 @@ use mathlib.Core.List.{List, [], ◌∷◌}
 use Prim.Native.Nat.{ℕ, zero, suc, ◌+◌, ◌^◌}
 use Prim.Native.Char.{code}
 use lib.Dec.{eqb}
+use Rattle.std.proofs.Common.{Result, Ok, Err}
 use Rattle.prelude.specs.Bounded.{tabulate}
 use Rattle.prelude.specs.Bytes.{every}
 use Rattle.network.specs.Build.{empty, with_event, with_signal, with_label}
@@ -17,8 +18,8 @@ use Rattle.network.specs.declared.Network.{Network}
 use Rattle.dispatch.specs.Due.{due}
 use Rattle.dispatch.specs.Said.{with_heard, said_from, due_on}
 use Rattle.dispatch.specs.declared.Heard.{Heard}
-use Rattle.dispatch.specs.declared.Dispatched.{Dispatched}
-use Rattle.dispatch.specs.declared.Dispatched.TheVariants.{Events, Misnamed, NeverHeard}
+use Rattle.dispatch.specs.declared.Unheard.{Unheard}
+use Rattle.dispatch.specs.declared.Unheard.TheVariants.{Misnamed, NeverHeard}
 
 -- start, call and door; p is given at the call, and q at the door
 abbrev net : Network
@@ -41,38 +42,38 @@ q v = is (code "q") v
 pub record Question : Type 0 where
   pub minute : ℕ
   pub list : List Heard
-  pub answer : Dispatched
+  pub answer : Result ℕ Unheard
 
-abbrev asked : ℕ → List Heard → Dispatched → Question
+abbrev asked : ℕ → List Heard → Result ℕ Unheard → Question
 asked m hs a = record { minute = m; list = hs; answer = a }
 
 abbrev questions : List Question
 questions =
-    asked 0 [] (Events 1)
-    ∷ asked 4 [] (Events 0)
-    ∷ asked 5 [] (Events 2)
+    asked 0 [] (Ok 1)
+    ∷ asked 4 [] (Ok 0)
+    ∷ asked 5 [] (Ok 2)
     -- in its own minute a signal is not yet heard, and in the next it is
-    ∷ asked 5 (p true ∷ []) NeverHeard
-    ∷ asked 6 [] NeverHeard
-    ∷ asked 6 (p false ∷ []) (Events 4)
-    ∷ asked 6 (p true ∷ []) (Events 0)
+    ∷ asked 5 (p true ∷ []) (Err NeverHeard)
+    ∷ asked 6 [] (Err NeverHeard)
+    ∷ asked 6 (p false ∷ []) (Ok 4)
+    ∷ asked 6 (p true ∷ []) (Ok 0)
     -- a part of what was heard is not what was heard; nor is more than that
-    ∷ asked 7 (p false ∷ []) NeverHeard
-    ∷ asked 7 (q true ∷ []) NeverHeard
-    ∷ asked 7 (p true ∷ q true ∷ []) NeverHeard
-    ∷ asked 20 (p true ∷ []) (Events 4)
+    ∷ asked 7 (p false ∷ []) (Err NeverHeard)
+    ∷ asked 7 (q true ∷ []) (Err NeverHeard)
+    ∷ asked 7 (p true ∷ q true ∷ []) (Err NeverHeard)
+    ∷ asked 20 (p true ∷ []) (Ok 4)
     -- any order, any minute
-    ∷ asked 21 (q false ∷ p true ∷ []) (Events 0)
-    ∷ asked 21 (p true ∷ q false ∷ []) (Events 0)
-    ∷ asked 65535 (q false ∷ p true ∷ []) (Events 0)
+    ∷ asked 21 (q false ∷ p true ∷ []) (Ok 0)
+    ∷ asked 21 (p true ∷ q false ∷ []) (Ok 0)
+    ∷ asked 65535 (q false ∷ p true ∷ []) (Ok 0)
     -- letters that are undefined or stand twice, with either truth; before it is asked who has heard the list
-    ∷ asked 0 (p true ∷ p true ∷ []) Misnamed
-    ∷ asked 0 (p true ∷ p false ∷ []) Misnamed
-    ∷ asked 6 (p true ∷ q true ∷ p true ∷ []) Misnamed
-    ∷ asked 6 (is (code "r") true ∷ p true ∷ []) Misnamed
-    ∷ asked 6 (is (code "P") true ∷ []) Misnamed
-    ∷ asked 6 (is 0 false ∷ []) Misnamed
-    ∷ asked 6 (is 255 true ∷ []) Misnamed
+    ∷ asked 0 (p true ∷ p true ∷ []) (Err Misnamed)
+    ∷ asked 0 (p true ∷ p false ∷ []) (Err Misnamed)
+    ∷ asked 6 (p true ∷ q true ∷ p true ∷ []) (Err Misnamed)
+    ∷ asked 6 (is (code "r") true ∷ p true ∷ []) (Err Misnamed)
+    ∷ asked 6 (is (code "P") true ∷ []) (Err Misnamed)
+    ∷ asked 6 (is 0 false ∷ []) (Err Misnamed)
+    ∷ asked 6 (is 255 true ∷ []) (Err Misnamed)
     ∷ []
 
 -- the door, where p is true alone: elsewhere its cell is blank
@@ -84,29 +85,29 @@ blanks = 0 ∷ 5 ∷ 65535 ∷ 0 ∷ 5 ∷ 20 ∷ 0 ∷ 5 ∷ 65535 ∷ 0 ∷ 5 
 
 abbrev questions_of_some : List Question
 questions_of_some =
-    asked 20 (p true ∷ []) (Events 4)
-    ∷ asked 21 (p true ∷ q false ∷ []) (Events 0)
+    asked 20 (p true ∷ []) (Ok 4)
+    ∷ asked 21 (p true ∷ q false ∷ []) (Ok 0)
     -- a blank is not due at the minute that it holds
-    ∷ asked 65535 (p false ∷ []) (Events 0)
+    ∷ asked 65535 (p false ∷ []) (Ok 0)
     -- nor is its signal heard after it
-    ∷ asked 65536 (p false ∷ []) (Events 0)
-    ∷ asked 65536 (p false ∷ q false ∷ []) NeverHeard
-    ∷ asked 65536 (p false ∷ q true ∷ []) NeverHeard
+    ∷ asked 65536 (p false ∷ []) (Ok 0)
+    ∷ asked 65536 (p false ∷ q false ∷ []) (Err NeverHeard)
+    ∷ asked 65536 (p false ∷ q true ∷ []) (Err NeverHeard)
     ∷ []
 
 -- and in the table above, where the door has a minute in cases that do not have it, neither is it due nor q heard
 abbrev questions_of_filled : List Question
 questions_of_filled =
-    asked 6 (p false ∷ []) (Events 0)
-    ∷ asked 7 (p false ∷ []) (Events 0)
-    ∷ asked 7 (p false ∷ q true ∷ []) NeverHeard
+    asked 6 (p false ∷ []) (Ok 0)
+    ∷ asked 7 (p false ∷ []) (Ok 0)
+    ∷ asked 7 (p false ∷ q true ∷ []) (Err NeverHeard)
     ∷ []
 
 -- answers as numbers, to compare them
-abbrev number : Dispatched → ℕ
-number (Events e) = e
-number Misnamed = 65536
-number NeverHeard = 65537
+abbrev number : Result ℕ Unheard → ℕ
+number (Ok e) = e
+number (Err Misnamed) = 65536
+number (Err NeverHeard) = 65537
 
 -- by the list, and by its mask
 abbrev holds : Network → List ℕ → Question → Bool
@@ -131,7 +132,7 @@ abbrev ends : Bool
 ends =
     eqb (number (due (sixteen 16) row 15 [])) 32768
     && (eqb (number (due (sixteen 16) row 16 [])) 0
-    && eqb (number (due (sixteen 16) row 0 (p true ∷ []))) (number Misnamed))
+    && eqb (number (due (sixteen 16) row 0 (p true ∷ []))) (number (Err Misnamed)))
 
 -- at 6, the mask of p true, and of p false; and masks that no list has, p true with one bit more: p false, r, those of
 -- no letter, and one past the 64
@@ -139,7 +140,7 @@ abbrev masks : Bool
 masks =
     eqb (number (due_on net table 6 (2 ^ 15))) 0
     && (eqb (number (due_on net table 6 (2 ^ 47))) 4
-    && every (λ k. eqb (number (due_on net table 6 (2 ^ 15 + 2 ^ k))) (number Misnamed))
+    && every (λ k. eqb (number (due_on net table 6 (2 ^ 15 + 2 ^ k))) (number (Err Misnamed)))
     (47 ∷ 17 ∷ 26 ∷ 31 ∷ 58 ∷ 62 ∷ 63 ∷ 64 ∷ []))
 
 pub played : all net table questions && (ends && masks) ≡ true

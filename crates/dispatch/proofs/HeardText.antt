@@ -22,7 +22,9 @@ use Rattle.dispatch.specs.History.{History}
 use Rattle.dispatch.specs.Due.{due}
 use Rattle.dispatch.specs.Said.{misnamed, with_bit, with_heard, said_from, due_on}
 use Rattle.dispatch.specs.HeardText.{is_heard_lem, record_of, heard_in, WellWritten, due_text, said_text}
-use Rattle.dispatch.specs.declared.Dispatched.TheVariants.{Misnamed, NeverHeard}
+use Rattle.std.proofs.Common.{Result, Err}
+use Rattle.dispatch.specs.declared.Unheard.{Unheard}
+use Rattle.dispatch.specs.declared.Unheard.TheVariants.{Misnamed, NeverHeard}
 use Rattle.dispatch.proofs.Answers.{due-misnamed, due-never}
 use Rattle.dispatch.proofs.Fold.{with_heard-other}
 use Rattle.dispatch.proofs.Mask.{due-said}
@@ -37,7 +39,7 @@ module _ (text : List ℕ) where
   unfolding said_text
   said-other e = ap (λ (b : Bool). cond b (said_from 0 (heard_in text)) (with_bit 0 misnamed)) e
 
-unlike : {A : Type 0} → Misnamed ≡ NeverHeard → A
+unlike : {A : Type 0} → ◌≡◌ {A = Result ℕ Unheard} (Err Misnamed) (Err NeverHeard) → A
 unlike q = zero-is-one cc
 
 module _ (Γ : Network) (σ : List ℕ) (m : ℕ) (lettered : Lettered Γ) where
@@ -47,7 +49,7 @@ module _ (Γ : Network) (σ : List ℕ) (m : ℕ) (lettered : Lettered Γ) where
       let d = w.defined.each 0 (omega arith) in
       clash (is_letter_lem 0) (rw d.is at (lettered.lower d.signal d.below)) refl
 
-  misnamed_alone : due_on Γ σ m (with_bit 0 misnamed) ≡ Misnamed
+  misnamed_alone : due_on Γ σ m (with_bit 0 misnamed) ≡ Err Misnamed
   misnamed_alone =
       ap (due_on Γ σ m) (sym (with_heard-other 0 no_heard refl)) ∙ due-said Γ σ m (no_heard ∷ []) lettered
       ∙ (due-misnamed Γ σ m lettered (no_heard ∷ [])).1 unnamed
@@ -55,11 +57,11 @@ module _ (Γ : Network) (σ : List ℕ) (m : ℕ) (lettered : Lettered Γ) where
   module _ (text : List ℕ) where
     pub due-heard : is_heard_lem text ≡ true → due_text Γ σ m text ≡ due Γ σ m (heard_in text)
     unfolding due_text
-    due-heard e = ap (λ (b : Bool). cond b (due Γ σ m (heard_in text)) Misnamed) e
+    due-heard e = ap (λ (b : Bool). cond b (due Γ σ m (heard_in text)) (Err Misnamed)) e
 
-    due-other : is_heard_lem text ≡ false → due_text Γ σ m text ≡ Misnamed
+    due-other : is_heard_lem text ≡ false → due_text Γ σ m text ≡ Err Misnamed
     unfolding due_text
-    due-other e = ap (λ (b : Bool). cond b (due Γ σ m (heard_in text)) Misnamed) e
+    due-other e = ap (λ (b : Bool). cond b (due Γ σ m (heard_in text)) (Err Misnamed)) e
 
     -- what is due by the mask of a text is what is due by the text
     pub due-said-text : due_on Γ σ m (said_text text) ≡ due_text Γ σ m text
@@ -71,7 +73,7 @@ module _ (Γ : Network) (σ : List ℕ) (m : ℕ) (lettered : Lettered Γ) where
         ]
 
     -- it is of another form, or a letter is undefined or stands twice
-    pub text-misnamed : (due_text Γ σ m text ≡ Misnamed) ↔ (WellWritten Γ text → ⊥)
+    pub text-misnamed : (due_text Γ σ m text ≡ Err Misnamed) ↔ (WellWritten Γ text → ⊥)
     text-misnamed = (
       λ d w. (due-misnamed Γ σ m lettered (heard_in text)).0 (sym (due-heard w.formed) ∙ d) w.named,
       λ n.
@@ -84,7 +86,7 @@ module _ (Γ : Network) (σ : List ℕ) (m : ℕ) (lettered : Lettered Γ) where
     )
 
     -- no case has heard it
-    pub text-never : (due_text Γ σ m text ≡ NeverHeard)
+    pub text-never : (due_text Γ σ m text ≡ Err NeverHeard)
         ↔ (WellWritten Γ text × ((s : ℕ) → s < scenarios Γ → History Γ σ m (heard_in text) s → ⊥))
     text-never = (
       λ d.

@@ -24,7 +24,8 @@ use Rattle.dispatch.specs.Heard.{letters_of, WellNamed, is_well_named, says, Let
 use Rattle.dispatch.specs.Due.{due_for, due_by, due}
 use Rattle.dispatch.specs.Said.{misnamed, said_on, stands_on, said_from, records_on, well_named_on, due_on}
 use Rattle.dispatch.specs.declared.Heard.{Heard}
-use Rattle.dispatch.specs.declared.Dispatched.TheVariants.{Misnamed}
+use Rattle.std.proofs.Common.{Err}
+use Rattle.dispatch.specs.declared.Unheard.TheVariants.{Misnamed}
 use Rattle.dispatch.proofs.Letters.{nothing_said}
 use Rattle.dispatch.proofs.History.{is_defined, found-defined, well_named}
 use Rattle.dispatch.proofs.Answers.{hearer-same, due-misnamed}
@@ -131,7 +132,7 @@ due-said Γ σ m hs lettered =
 
 -- a mask is misnamed where no list that is well named has it
 pub due-on-misnamed : (Γ : Network) (σ : List ℕ) (m x : ℕ) → Lettered Γ
-    → (due_on Γ σ m x ≡ Misnamed) ↔ ((hs : List Heard) → said_from 0 hs ≡ x → WellNamed Γ hs → ⊥)
+    → (due_on Γ σ m x ≡ Err Misnamed) ↔ ((hs : List Heard) → said_from 0 hs ≡ x → WellNamed Γ hs → ⊥)
 due-on-misnamed Γ σ m x lettered = (
   λ e hs s. (due-misnamed Γ σ m lettered hs).0 (sym (due-said Γ σ m hs lettered) ∙ rw s e),
   λ n.

@@ -1,6 +1,6 @@
 -- What is due at a minute, by what has been heard before it (02, point 1; with reactions, point 3, and events that only
 -- some cases have, point 6).
-use Rattle.std.specs.Prelude.{Bool, true, false, ◌&&◌, cond, List, ℕ, ◌^◌, eqb}
+use Rattle.std.specs.Prelude.{Bool, true, false, ◌&&◌, cond, List, ℕ, ◌^◌, eqb, Result, Ok, Err}
 use Rattle.std.specs.Bool.{beq}
 use Rattle.std.proofs.Math.Option.{Option, none, some}
 use Rattle.prelude.specs.Search.{first_below, when}
@@ -12,8 +12,8 @@ use Rattle.network.specs.Strategy.{time, known}
 use Rattle.network.specs.declared.Network.{Network}
 use Rattle.dispatch.specs.Heard.{is_well_named, says}
 use Rattle.dispatch.specs.declared.Heard.{Heard}
-use Rattle.dispatch.specs.declared.Dispatched.{Dispatched}
-use Rattle.dispatch.specs.declared.Dispatched.TheVariants.{Events, Misnamed, NeverHeard}
+use Rattle.dispatch.specs.declared.Unheard.{Unheard}
+use Rattle.dispatch.specs.declared.Unheard.TheVariants.{Misnamed, NeverHeard}
 
 module _ (Γ : Network) (σ : List ℕ) (m : ℕ) where
   -- whether event u is due in s: it happens there, and m is its minute. A cell without its event "is never due" (02,
@@ -44,14 +44,14 @@ module _ (Γ : Network) (σ : List ℕ) (m : ℕ) where
 
   -- what is due in that case; in a good table any other that has heard the same has the same due
   -- (`dispatch/proofs/Alike.antt`)
-  abbrev pub due_for : Option ℕ → Dispatched
-  due_for none = NeverHeard
-  due_for (some s) = Events (due_in_lem s)
+  abbrev pub due_for : Option ℕ → Result ℕ Unheard
+  due_for none = Err NeverHeard
+  due_for (some s) = Ok (due_in_lem s)
 
   -- 15 is tried before 16
-  abbrev pub due_by : Bool → (ℕ → Bool → Bool) → Dispatched
-  due_by named said = cond named (due_for (hearer said)) Misnamed
+  abbrev pub due_by : Bool → (ℕ → Bool → Bool) → Result ℕ Unheard
+  due_by named said = cond named (due_for (hearer said)) (Err Misnamed)
 
   -- what is due for those who have heard the list
-  unfoldable pub due : List Heard → Dispatched
+  unfoldable pub due : List Heard → Result ℕ Unheard
   due hs = due_by (is_well_named Γ hs) (says hs)

@@ -1,5 +1,5 @@
 -- What a case has heard before a minute (004, Definition 7: the scenario history).
-use Rattle.std.specs.Prelude.{◌≡◌, ◌↔◌, true, List, ℕ, ◌<◌}
+use Rattle.std.specs.Prelude.{◌≡◌, ◌↔◌, Bool, true, cond, List, ℕ, ◌<◌, Option, Some, None}
 use Rattle.prelude.specs.Lists.{In, Distinct}
 use Rattle.network.specs.Build.{letter}
 use Rattle.network.specs.Scenario.{truth}
@@ -17,6 +17,10 @@ module _ (Γ : Network) (σ : List ℕ) (m : ℕ) where
     pub named : letter Γ signal ≡ h.letter
     pub heard : known Γ σ s signal m ≡ true
     pub told : truth s signal ≡ h.truth
+
+  -- the truth of the signal p, where s has heard it
+  abbrev pub known_truth : ℕ → ℕ → Option Bool
+  known_truth s p = cond (known Γ σ s p m) (Some (truth s p)) None
 
   -- the list is, "in any order, exactly what" the case s "has heard before the minute"
   pub record History (hs : List Heard) (s : ℕ) : Type 0 where

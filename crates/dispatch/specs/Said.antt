@@ -1,7 +1,7 @@
 -- The list as a mask of 64 bits, which the covered core works on: a letter that is true has its bit from 0 on, one
 -- that is false from 32 on. A mask has a bit where its weight is in it, as a case has a signal.
 use Rattle.std.specs.Prelude.{Bool, true, false, ◌&&◌, ◌||◌, not, cond, List, [], ◌∷◌, ℕ, ◌+◌, ◌-◌, ◌^◌, eqb}
-use Rattle.std.specs.Bool.{beq}
+use Rattle.std.specs.Prelude.{Option, Some, None, Result}
 use Prim.Native.Char.{code}
 use Rattle.std.specs.Int.Bits.{bit_or}
 use Rattle.network.specs.Build.{letter}
@@ -11,7 +11,7 @@ use Rattle.names.specs.Names.{is_letter_lem}
 use Rattle.dispatch.specs.Heard.{records_of}
 use Rattle.dispatch.specs.Due.{due_by}
 use Rattle.dispatch.specs.declared.Heard.{Heard}
-use Rattle.dispatch.specs.declared.Dispatched.{Dispatched}
+use Rattle.dispatch.specs.declared.Unheard.{Unheard}
 
 -- the bit of a letter with a truth
 abbrev pub bit_of : ℕ → Bool → ℕ
@@ -32,10 +32,10 @@ said_on x l v = truth x (bit_of l v)
 abbrev pub stands_on : ℕ → ℕ → Bool
 stands_on x l = said_on x l true || said_on x l false
 
--- whether what is said of the letter l is its truth t where that is known, and nothing where it is not
-abbrev pub as_said_lem : ℕ → ℕ → Bool → Bool → Bool
-as_said_lem x l known t =
-    beq (said_on x l true) (known && beq t true) && beq (said_on x l false) (known && beq t false)
+-- whether what is said of the letter l is its truth where that is known, and nothing where it is not
+abbrev pub tells : ℕ → ℕ → Option Bool → Bool
+tells x l None = not (stands_on x l)
+tells x l (Some v) = said_on x l v && not (said_on x l (not v))
 
 -- one record more
 unfoldable pub with_heard : ℕ → Heard → ℕ
@@ -56,5 +56,5 @@ module _ (Γ : Network) where
   abbrev pub well_named_on : ℕ → Bool
   well_named_on x = eqb (said_from 0 (records_on x)) x
 
-  unfoldable pub due_on : List ℕ → ℕ → ℕ → Dispatched
+  unfoldable pub due_on : List ℕ → ℕ → ℕ → Result ℕ Unheard
   due_on σ m x = due_by Γ σ m (well_named_on x) (said_on x)

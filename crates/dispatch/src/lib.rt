@@ -7,35 +7,49 @@ ghost use Rattle.network.specs.Build.{scenarios, cells};
 ghost use Rattle.network.specs.Scenario as S;
 ghost use Rattle.network.specs.Happens as E;
 ghost use Rattle.network.specs.Strategy as T;
-ghost use Rattle.network.specs.WellFormed.{WellFormed};
 ghost use Rattle.names.specs.Names.{is_letter_lem};
 ghost use Rattle.dispatch.specs.Heard.{Lettered};
+ghost use Rattle.dispatch.specs.History as H;
 ghost use Rattle.dispatch.specs.Due as D;
 ghost use Rattle.dispatch.specs.Said as M;
 
-use network::{Network, times};
+use names::token;
+use network::formed::Formed;
+use network::times;
 
 pub mod heard_text;
 
 // A signal that has been heard: its letter and its truth.
-#[derive(Clone, Copy)]
+#[derive(Clone, Copy, PartialEq, Eq)]
 pub struct Heard {
     pub letter: u8,
     pub truth: bool,
 }
 
-#[derive(Clone, Copy)]
-pub enum Dispatched {
-    // The events that are due: bit u for event u.
-    Events(u16),
+// Why nothing is due, not even no event.
+#[derive(Clone, Copy, PartialEq, Eq)]
+pub enum Unheard {
     // A letter is undefined or stands twice.
     Misnamed,
     // No case has heard exactly this.
     NeverHeard,
 }
 
-// The bit of a list that holds a byte that is no letter, or a letter twice.
-const MISNAMED: u32 = 63;
+// What is said to have been heard, as a mask: a letter has one bit for true and another for false.
+#[derive(Clone, Copy, PartialEq, Eq)]
+pub struct Said {
+    pub mask: u64,
+}
+
+// A network with a table for it, at a minute.
+#[derive(Clone, Copy)]
+struct Moment<'a> {
+    formed: &'a Formed,
+    table: &'a [u16],
+    minute: u16,
+    ghost sized: { length table.now ≡ cells formed.now.network },
+    ghost lettered: { Lettered formed.now.network },
+}
 
 // Whether the mask has the bit.
 fn has(mask: u64, bit: u32) -> bool
@@ -45,186 +59,182 @@ fn has(mask: u64, bit: u32) -> bool
     (mask >> bit) & 1 == 1
 }
 
-// The mask with the bit.
-fn with(mask: u64, bit: u32) -> u64
-    requires { bit < 64 }
-    ensures { result ≡ M.with_bit mask bit }
-{
-    mask | (1 << bit)
-}
-
 // The bit of a letter with a truth.
 fn bit_of(letter: u8, truth: bool) -> u32
     requires { is_letter_lem letter ≡ true }
     ensures { result ≡ M.bit_of letter truth }
 {
-    let l = (letter - b'a') as u32;
-    if truth {
-        return l;
-    }
-    l + 32
+    let place = u32::from(letter - b'a');
+    if truth { place } else { place + 32 }
 }
 
-// Whether the letter stands in the mask, with either truth.
-fn stands(said: u64, letter: u8) -> bool
-    requires { is_letter_lem letter ≡ true }
-    ensures { result ≡ M.stands_on said letter }
-{
-    if has(said, bit_of(letter, true)) {
-        return true;
-    }
-    has(said, bit_of(letter, false))
-}
+impl Said {
+    pub const NOTHING: Said = Said { mask: 0 };
 
-// One record more, behind those that the mask has; 0 has none.
-pub fn add(said: u64, heard: Heard) -> u64
-    ensures { result ≡ M.with_heard said heard }
-{
-    let letter = heard.letter;
-    if letter < b'a' || b'z' < letter {
-        return with(said, MISNAMED);
-    }
-    if stands(said, letter) {
-        return with(said, MISNAMED);
-    }
-    with(said, bit_of(letter, heard.truth))
-}
+    // The bit of a list that holds a byte that is no letter, or a letter twice.
+    const MISNAMED: u32 = 63;
 
-// All records, in any order.
-pub fn said(heard: &[Heard]) -> u64
-    ensures { result ≡ M.said_from 0 heard.now }
-{
-    let mut said: u64 = 0;
-    let mut i: usize = 0;
-    while i < heard.len() {
-        said = add(said, heard[i]);
-        i += 1;
-    }
-    said
-}
-
-// Whether the mask is that of the records it names: one of each signal whose letter stands.
-fn well_named(network: Network, said: u64) -> bool
-    requires { WellFormed network × Lettered network }
-    ensures { result ≡ M.well_named_on network said }
-{
-    let signals = network.signals;
-    let mut named: u64 = 0;
-    let mut p = 0;
-    while p < signals {
-        let letter = network.letters[p];
-        if stands(said, letter) {
-            let truth = has(said, bit_of(letter, true));
-            named = add(named, Heard { letter, truth });
+    // One bit more.
+    fn with(self, bit: u32) -> Said
+        requires { bit < 64 }
+        ensures { result.mask ≡ M.with_bit self.mask bit }
+    {
+        Said {
+            mask: self.mask | (1 << bit),
         }
-        p += 1;
     }
-    named == said
-}
 
-// Whether what is said of a letter is its truth where that is known, and nothing where it is not.
-fn as_said(said: u64, letter: u8, known: bool, truth: bool) -> bool
-    requires { is_letter_lem letter ≡ true }
-    ensures { result ≡ M.as_said_lem said letter known truth }
-{
-    let positive = has(said, bit_of(letter, true));
-    let negative = has(said, bit_of(letter, false));
-    if !known {
-        return !positive && !negative;
+    // Whether the letter is said to have this truth.
+    fn says(self, letter: u8, truth: bool) -> bool
+        requires { is_letter_lem letter ≡ true }
+        ensures { result ≡ M.said_on self.mask letter truth }
+    {
+        has(self.mask, bit_of(letter, truth))
     }
-    if truth {
-        return positive && !negative;
+
+    // Whether the letter stands in the mask, with either truth.
+    fn stands(self, letter: u8) -> bool
+        requires { is_letter_lem letter ≡ true }
+        ensures { result ≡ M.stands_on self.mask letter }
+    {
+        self.says(letter, true) || self.says(letter, false)
     }
-    !positive && negative
-}
 
-// Whether event u happens in s.
-fn happens(network: Network, s: usize, u: usize) -> bool
-    requires { WellFormed network × (s < scenarios network) × (u < network.events) }
-    ensures { result ≡ E.happens network s u }
-{
-    network::satisfies(s, network.labels[u])
-}
-
-// Whether the signal p is known in s at the minute: never where its event does not happen.
-fn is_known(network: Network, table: &[u16], minute: u16, s: usize, p: usize) -> bool
-    requires { WellFormed network × (length table.now ≡ cells network) × (s < scenarios network)
-        × (p < network.signals) }
-    ensures { result ≡ T.known network table.now s p minute }
-{
-    let events = network.events;
-    let observation = network.observations[p];
-    let stated = network.reactions[p];
-    if !happens(network, s, observation) {
-        return false;
-    }
-    times::known_after(table, events, s, observation, stated) <= minute as u32
-}
-
-// Whether exactly what is said has been heard in s before the minute.
-fn has_heard(network: Network, table: &[u16], minute: u16, said: u64, s: usize) -> bool
-    requires { WellFormed network × (length table.now ≡ cells network) × Lettered network
-        × (s < scenarios network) }
-    ensures { result ≡ D.has_heard_lem network table.now minute (M.said_on said) s }
-{
-    let signals = network.signals;
-    let mut p = 0;
-    while p < signals {
-        let letter = network.letters[p];
-        let known = is_known(network, table, minute, s, p);
-        if !as_said(said, letter, known, has(s as u64, p as u32)) {
-            return false;
+    // Whether what is said of a letter is its truth where that is known, and nothing where it is not.
+    fn tells(self, letter: u8, truth: Option<bool>) -> bool
+        requires { is_letter_lem letter ≡ true }
+        ensures { result ≡ M.tells self.mask letter truth }
+    {
+        match truth {
+            None => !self.stands(letter),
+            Some(v) => self.says(letter, v) && !self.says(letter, !v),
         }
-        p += 1;
     }
-    true
-}
 
-// Whether event u is due in s at the minute: never where it does not happen, whatever its cell holds.
-fn is_due(network: Network, table: &[u16], minute: u16, s: usize, u: usize) -> bool
-    requires { WellFormed network × (length table.now ≡ cells network) × (s < scenarios network)
-        × (u < network.events) }
-    ensures { result ≡ D.is_due_lem network table.now minute s u }
-{
-    if happens(network, s, u) {
-        return times::time_of(table, network.events, s, u) == minute;
-    }
-    false
-}
-
-// The events of s that are due at the minute: bit u for event u.
-fn due_in(network: Network, table: &[u16], minute: u16, s: usize) -> u16
-    requires { WellFormed network × (length table.now ≡ cells network) × (s < scenarios network) }
-    ensures { result ≡ D.due_in_lem network table.now minute s }
-{
-    let events = network.events;
-    let mut due: u16 = 0;
-    let mut u = 0;
-    while u < events {
-        if is_due(network, table, minute, s, u) {
-            due += 1 << u;
+    // One record more, behind those that the mask has.
+    pub fn add(self, heard: Heard) -> Said
+        ensures { result.mask ≡ M.with_heard self.mask heard }
+    {
+        let letter = heard.letter;
+        if !token::is_letter(letter) || self.stands(letter) {
+            return self.with(Self::MISNAMED);
         }
-        u += 1;
+        self.with(bit_of(letter, heard.truth))
     }
-    due
+
+    // All records, in any order.
+    pub fn of(heard: &[Heard]) -> Said
+        ensures { result.mask ≡ M.said_from 0 heard.now }
+    {
+        let mut said = Said::NOTHING;
+        for record in heard {
+            said = said.add(*record);
+        }
+        said
+    }
 }
 
-// What is due at the minute for those who have heard what is said.
-pub fn due(network: Network, table: &[u16], minute: u16, said: u64) -> Dispatched
-    requires { WellFormed network × (length table.now ≡ cells network) × Lettered network }
-    ensures { result ≡ M.due_on network table.now minute said }
-{
-    let signals = network.signals;
-    if !well_named(network, said) {
-        return Dispatched::Misnamed;
-    }
-    let scenarios = network::scenario_count(signals);
-    let mut s = 0;
-    while s < scenarios {
-        if has_heard(network, table, minute, said, s) {
-            return Dispatched::Events(due_in(network, table, minute, s));
+impl Moment<'_> {
+    // Whether the mask is that of the records it names: one of each signal whose letter stands.
+    fn is_well_named(&self, said: Said) -> bool
+        ensures { result ≡ M.well_named_on self.now.formed.now.network said.mask }
+    {
+        let network = &self.formed.network;
+        let mut named = Said::NOTHING;
+        for p in 0..network.signals {
+            let letter = network.letters[p];
+            if said.stands(letter) {
+                let truth = said.says(letter, true);
+                named = named.add(Heard { letter, truth });
+            }
         }
-        s += 1;
+        named == said
     }
-    Dispatched::NeverHeard
+
+    // Whether event u happens in s.
+    fn happens(&self, s: usize, u: usize) -> bool
+        requires { (s < scenarios self.now.formed.now.network) × (u < self.now.formed.now.network.events) }
+        ensures { result ≡ E.happens self.now.formed.now.network s u }
+    {
+        network::satisfies(s, self.formed.network.labels[u])
+    }
+
+    // The truth of the signal p in s, where it is known there at the minute: never where its event does not happen.
+    fn known_truth(&self, s: usize, p: usize) -> Option<bool>
+        requires { (s < scenarios self.now.formed.now.network) × (p < self.now.formed.now.network.signals) }
+        ensures { result ≡ H.known_truth self.now.formed.now.network self.now.table.now self.now.minute s p }
+    {
+        let network = &self.formed.network;
+        let observation = network.observations[p];
+        if !self.happens(s, observation) {
+            return None;
+        }
+        let stated = network.reactions[p];
+        let known_from = times::known_after(self.table, network.events, s, observation, stated);
+        if u32::from(self.minute) < known_from {
+            return None;
+        }
+        Some((s >> p) & 1 == 1)
+    }
+
+    // Whether exactly what is said has been heard in s before the minute.
+    fn has_heard(&self, said: Said, s: usize) -> bool
+        requires { s < scenarios self.now.formed.now.network }
+        ensures { result ≡ D.has_heard_lem self.now.formed.now.network self.now.table.now self.now.minute
+            (M.said_on said.mask) s }
+    {
+        let network = &self.formed.network;
+        for p in 0..network.signals {
+            if !said.tells(network.letters[p], self.known_truth(s, p)) {
+                return false;
+            }
+        }
+        true
+    }
+
+    // Whether event u is due in s: never where it does not happen, whatever its cell holds.
+    fn is_due(&self, s: usize, u: usize) -> bool
+        requires { (s < scenarios self.now.formed.now.network) × (u < self.now.formed.now.network.events) }
+        ensures { result ≡ D.is_due_lem self.now.formed.now.network self.now.table.now self.now.minute s u }
+    {
+        if self.happens(s, u) {
+            return times::time_of(self.table, self.formed.network.events, s, u) == self.minute;
+        }
+        false
+    }
+
+    // The events of s that are due: bit u for event u.
+    fn due_in(&self, s: usize) -> u16
+        requires { s < scenarios self.now.formed.now.network }
+        ensures { result ≡ D.due_in_lem self.now.formed.now.network self.now.table.now self.now.minute s }
+    {
+        let mut due: u16 = 0;
+        for u in 0..self.formed.network.events {
+            if self.is_due(s, u) {
+                due += 1 << u;
+            }
+        }
+        due
+    }
+}
+
+// What is due at the minute for those who have heard what is said: bit u for event u.
+pub fn due(formed: &Formed, table: &[u16], minute: u16, said: Said) -> Result<u16, Unheard>
+    requires { (length table.now ≡ cells formed.now.network) × Lettered formed.now.network }
+    ensures { result ≡ M.due_on formed.now.network table.now minute said.mask }
+{
+    let moment = Moment {
+        formed,
+        table,
+        minute,
+    };
+    if !moment.is_well_named(said) {
+        return Err(Unheard::Misnamed);
+    }
+    for s in 0..network::scenario_count(formed.network.signals) {
+        if moment.has_heard(said, s) {
+            return Ok(moment.due_in(s));
+        }
+    }
+    Err(Unheard::NeverHeard)
 }

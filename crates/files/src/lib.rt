@@ -7,7 +7,7 @@ ghost use Rattle.std.specs.Io.KnownBytes.{Consumes, IsAtEnd};
 
 use std::io::Read;
 use std::rt::Files;
-use std::{fs, io, str};
+use std::{fs, io};
 
 // Reads into buf, as far as there is room, and counts the bytes. A read that fails ends it, and its error is handed on:
 // then what was read before stands in front in buf.
@@ -29,25 +29,17 @@ pub fn read_full<R: Read>(input: &mut R, buf: &mut [u8]) -> io::Result<usize>
     Ok(done)
 }
 
-// The file, where it can be opened. A name that is not UTF-8 is that of none.
-fn opened<R: Files>(rt: &R, path: &[u8]) -> Option<R::File> {
-    let Ok(name) = str::from_utf8(path) else {
-        return None;
-    };
-    fs::open(rt, name).ok()
-}
-
 // Reads a file into buf, as far as there is room; one that can't be opened counts as empty.
-pub fn read(rt: &impl Files, path: &[u8], buf: &mut [u8]) -> io::Result<usize>
+pub fn read(rt: &impl Files, path: &str, buf: &mut [u8]) -> io::Result<usize>
     ensures { IfOk result (λ n. IsPrefixLen n buf.new) }
 {
-    match opened(rt, path) {
-        Some(mut file) => read_full(&mut file, buf),
-        None => Ok(0),
+    match fs::open(rt, path) {
+        Ok(mut file) => read_full(&mut file, buf),
+        Err(_) => Ok(0),
     }
 }
 
 // Whether a file can be opened.
-pub fn is_there(rt: &impl Files, path: &[u8]) -> bool {
-    opened(rt, path).is_some()
+pub fn is_there(rt: &impl Files, path: &str) -> bool {
+    fs::open(rt, path).is_ok()
 }

@@ -8,6 +8,8 @@ fn main(rt: HostRuntime) -> io::Result<()> {
     let mut sheet = [0u8; opening::SHEET_BYTES + 1];
     let mut page = [0u8; opening::SHEET_BYTES];
     let n = files::read_full(&mut rt.stdin(), &mut sheet)?;
-    let bytes = report::house(&rt, b"", &sheet[..n], &mut page)?;
-    report::print(&rt, &page[..bytes])
+    match report::house(&rt, "", &sheet[..n], &mut page)? {
+        Some(bytes) => rt.write_all(&page[..bytes]),
+        None => Ok(()),
+    }
 }

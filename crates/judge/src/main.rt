@@ -9,11 +9,10 @@ fn main(rt: HostRuntime) -> io::Result<()> {
     let mut sheet = [0u8; opening::SHEET_BYTES + 1];
     let mut printed = [0u8; opening::PRINTED_BYTES + 1];
     let mut table = [0u16; opening::TABLE_MINUTES];
-    let n = files::read(&rt, b"sheet.csv", &mut sheet)?;
-    let k = files::read(&rt, b"listing.csv", &mut printed)?;
-    let minutes = report::recover(&rt, b"", &sheet[..n], &printed[..k], &mut table)?;
-    if 0 < minutes {
-        report::judge(&rt, &sheet[..n], &table[..minutes])?;
+    let n = files::read(&rt, "sheet.csv", &mut sheet)?;
+    let k = files::read(&rt, "listing.csv", &mut printed)?;
+    match report::recover(&rt, "", &sheet[..n], &printed[..k], &mut table)? {
+        Some(minutes) => report::judge(&rt, &sheet[..n], &table[..minutes]),
+        None => Ok(()),
     }
-    Ok(())
 }

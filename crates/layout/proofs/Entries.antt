@@ -15,7 +15,7 @@ use Rattle.line.specs.Tests.{Tests}
 use Rattle.line.specs.Sections.{heading_of_lem, tests_of, with_line}
 use Rattle.line.specs.declared.Section.{Section}
 use Rattle.sheet.specs.Reading.{Progress, Go, read_line, read_entries_lem}
-use Rattle.sheet.proofs.ReadLine.{read_line-on, went}
+use Rattle.sheet.proofs.ReadLine.{go-same, read_line-on, went}
 use Rattle.layout.specs.Layout.{lines}
 
 -- a line of this kind, with so many more of the section behind it, is that of an x: the network holds the xs that have
@@ -88,13 +88,12 @@ module _ {sheet : List ℕ} {s : Section} {X : Type 0} {first : X → List ℕ} 
       → (Δ : Network) (end number : ℕ) → read_entries_lem sheet s m Γ at k ≡ Go Δ end number
       → Read sheet (Held 0) text xs m at Δ end
   entries-read zero Γ xs at k h few Δ end number g =
-      let same-network : Γ ≡ Δ = cc in
-      let same_place : at ≡ end = cc in
+      let same = go-same Γ Δ at end k number g in
       record {
         items = [];
         count = refl;
-        written = ap (λ (i : ℕ). drop i sheet) same_place;
-        held = rw (append-nil xs, ← same-network) h;
+        written = ap (λ (i : ℕ). drop i sheet) same.1;
+        held = rw (append-nil xs, ← same.0) h;
       }
   entries-read (suc m) Γ xs at k h few Δ end number g =
       let p = went sheet at k (tests_of sheet s m Γ) (next m Γ at k) Δ end number g in

@@ -13,6 +13,7 @@ use Rattle.network.specs.Limits as L
 use Rattle.network.specs.declared.Network.{Network}
 use Rattle.line.specs.declared.Section.{Section}
 use Rattle.line.specs.declared.Section.TheVariants.{Reactions}
+use Rattle.sheet.proofs.ReadLine.{go-same}
 use Rattle.sheet.specs.Reading.{Go, read_section_lem, follows, read_optional_lem}
 use Rattle.layout.specs.Contents.{Signal, Rule, Reaction}
 use Rattle.layout.specs.Layout.{reactions_text}
@@ -53,14 +54,13 @@ reactions-read sheet {h} {ns} {xs} {rs} Γ at k few held Δ end m e = by_bytes (
           ended = λ n. some-not-none r.items n;
         }
     by_bytes false f e =
-        let same-network : Γ ≡ Δ = cc in
-        let same_place : at ≡ end = cc in
+        let same = go-same Γ Δ at end k m e in
         record {
           items = none;
           few = omega arith;
-          written = ap (λ (i : ℕ). drop i sheet) same_place;
-          held = rw same-network at held;
-          ended = λ n. rw same_place at f;
+          written = ap (λ (i : ℕ). drop i sheet) same.1;
+          held = rw same.0 at held;
+          ended = λ n. rw same.1 at f;
         }
 
 -- a section that may be absent is, where nothing is left, and where something stands it is read

@@ -11,6 +11,7 @@ use Rattle.prelude.proofs.Tests.{clash}
 use Rattle.network.specs.Limits as L
 use Rattle.network.specs.declared.Network.{Network}
 use Rattle.line.specs.declared.Section.TheVariants.{Cases}
+use Rattle.sheet.proofs.ReadLine.{go-same}
 use Rattle.sheet.specs.Reading.{Go, read_section_lem, follows, read_optional_lem}
 use Rattle.layout.specs.Contents.{Signal, Rule, Reaction, Case, Contents, listed_cases}
 use Rattle.layout.specs.Labelled.{Labelled}
@@ -68,14 +69,13 @@ module _ (sheet : List ℕ) {h : ℕ} {ns : List (List ℕ)} {xs : List Signal} 
             labelled = r.held.due;
           }
       by_bytes false f e =
-          let same-network : Γ ≡ Δ = cc in
-          let same_place : at ≡ end = cc in
+          let same = go-same Γ Δ at end k m e in
           record {
             items = none;
             follow = λ n. refl;
             few_cases = omega arith;
-            written = ap (λ (i : ℕ). drop i sheet) same_place;
-            held_cases = rw same-network at held;
+            written = ap (λ (i : ℕ). drop i sheet) same.1;
+            held_cases = rw same.0 at held;
             labelled = unlabelled (contents_with h ns xs rs o) refl;
           }
 

@@ -12,7 +12,7 @@ use Rattle.line.specs.Tests.{second_number}
 use Rattle.line.specs.Sections.{heading_of_lem, horizon_heading}
 use Rattle.line.specs.declared.Section.TheVariants.{Events, Signals, Rules, Reactions, Cases}
 use Rattle.sheet.specs.Reading.{longest, Go, read_horizon_lem, read_section_lem, read_optional_lem, read_end, progress}
-use Rattle.sheet.proofs.ReadLine.{Came, came}
+use Rattle.sheet.proofs.ReadLine.{go-same, Came, came}
 use Rattle.sheet.proofs.Whole.{to_events, to_signals, to_rules, to_reactions, to_cases, to_end, within-length}
 use Rattle.layout.specs.Contents.{Signal}
 use Rattle.layout.specs.Layout.{Layout, signal_line, rule_line, reactions_text, cases_text}
@@ -61,14 +61,12 @@ module _ (sheet : List ℕ) where
       at
       k e in
       let h = second_number c.fs in
-      let then = c.then in
-      let same-network : empty h ≡ Γ = cc in
-      let same_place : after_line sheet 0 ≡ at = cc in
+      let same = go-same (empty h) Γ (after_line sheet 0) at 2 k c.then in
       record {
         horizon = h;
         high = c.high;
-        written = c.text ∙ ap (λ (i : ℕ). horizon_text h ++ drop i sheet) same_place;
-        held = rw same-network at (empty_stands sheet h);
+        written = c.text ∙ ap (λ (i : ℕ). horizon_text h ++ drop i sheet) same.1;
+        held = rw same.0 at (empty_stands sheet h);
       }
 
   -- from one section to the next, and at last all six

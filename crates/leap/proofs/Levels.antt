@@ -20,7 +20,7 @@ use Rattle.rounds.specs.Cap.{cap}
 use Rattle.rounds.specs.Rounds.{held}
 use Rattle.rounds.proofs.Effects.{step_rises, length-held}
 use Rattle.moves.specs.Moves.{Between}
-use Rattle.moves.specs.Levels.{NextLevel}
+use Rattle.moves.specs.Levels.{Highest, NextLevel}
 use Rattle.leap.specs.Levels.{Faster, Slower, Level}
 use Rattle.leap.proofs.Strategies.{held_at}
 
@@ -75,19 +75,18 @@ pub record Lower (Γ : Network) (d : List ℕ) (l : ℕ) (P : ℕ → Type 0) : 
 pub lower-start : {Γ : Network} {d : List ℕ} {P : ℕ → Type 0} → Lower Γ d 0 P
 lower-start = record { at = λ s u hs hu h. absurd (omega arith) }
 
-module _ {Γ : Network} (few : Γ.events ≤ 16) {d : List ℕ} {l r : ℕ} {P : ℕ → Type 0} (D : Lower Γ d l P)
-    (H : Level Γ d l P)
-    (N : NextLevel d l (scenarios Γ * 16) r) where
+module _ {Γ : Network} (few : Γ.events ≤ 16) {d : List ℕ} {l : ℕ} {P : ℕ → Type 0} (D : Lower Γ d l P)
+    (H : Level Γ d l P) where
   up_to : (s u : ℕ) → s < scenarios Γ → u < Γ.events → get_or d (s * 16 + u) 0 ≤ l → P (s * Γ.events + u)
   up_to s u hs hu h = elim
       (eq_or_ne (get_or d (s * 16 + u) 0) l) [ inl q ↦ H.at s u hs hu q | inr q ↦ D.at s u hs hu (omega arith) ]
 
-  pub lower-next : (r ≡ 0 → ⊥) → Lower Γ d r P
-  lower-next n = record {
+  pub lower-next : {r : ℕ} → NextLevel d l (scenarios Γ * 16) r → Lower Γ d r P
+  lower-next N = record {
     at = λ s u hs hu h.
-        elim (N.between n (s * 16 + u) (omega arith)) [ inl q ↦ up_to s u hs hu q | inr q ↦ absurd (omega arith) ];
+        elim (N.between (s * 16 + u) (omega arith)) [ inl q ↦ up_to s u hs hu q | inr q ↦ absurd (omega arith) ];
   }
 
-  pub each_level : r ≡ 0 → (c : ℕ) → c < Γ.events * scenarios Γ → P c
-  each_level z c b =
-      by-cell Γ.events (scenarios Γ) P (λ s u hs hu. up_to s u hs hu (N.none z (s * 16 + u) (omega arith))) c b
+  pub each_level : Highest d l (scenarios Γ * 16) → (c : ℕ) → c < Γ.events * scenarios Γ → P c
+  each_level N c b =
+      by-cell Γ.events (scenarios Γ) P (λ s u hs hu. up_to s u hs hu (N.none (s * 16 + u) (omega arith))) c b

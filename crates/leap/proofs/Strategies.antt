@@ -14,8 +14,6 @@ use Rattle.fixpoint.specs.Run.{within}
 use Rattle.fixpoint.specs.Straight.{moved}
 use Rattle.fixpoint.proofs.Moved.{length_moved, moved_at}
 use Rattle.network.specs.Build.{scenarios, cells}
-use Rattle.network.specs.Happens.{happens}
-use Rattle.network.specs.declared.Label.{Label}
 use Rattle.network.specs.declared.Network.{Network}
 use Rattle.rows.specs.Rows.{Times}
 use Rattle.rows.proofs.Gapless.{length-gapless, gapless-at}
@@ -26,24 +24,14 @@ use Rattle.moves.specs.Moves.{part_of, Placed}
 use Rattle.moves.specs.Levels.{Some, NextLevel}
 
 -- what is few at each row and column is few at each cell
-cell-few :
-    {n c : ℕ} {ls : List Label} {e : List ℕ}
-    → Times n ls c e
-    → c ≤ 16
-    → (i : ℕ)
-    → i < c * 16
-    → get_or e i 0 ≤ 10080
-cell-few {c = c} E h i l =
-    let w = cell_of 16 c i (omega arith) in
+cell-few : {Γ : Network} {e : List ℕ} → Times Γ e → (i : ℕ) → i < scenarios Γ * 16 → get_or e i 0 ≤ 10080
+cell-few {Γ} E i l =
+    let w = cell_of 16 (scenarios Γ) i (omega arith) in
     rw w.place (E.few w.row w.column w.row_lt w.column_lt)
 
--- the next level is higher, and is the rise of a cell
-pub level_up : {n c l r : ℕ} {ls : List Label} {d : List ℕ} → Times n ls c d → c ≤ 16 → NextLevel d l (c * 16) r
-    → (r ≡ 0 → ⊥)
-    → (l < r) × (r ≤ 10080)
-level_up D h N n =
-    let w = N.found n in
-    (N.more n, omega (arith, w.2, cell-few D h w.0 w.1))
+-- the next level is the rise of a cell
+pub level_few : {Γ : Network} {l r : ℕ} {d : List ℕ} → Times Γ d → NextLevel d l (scenarios Γ * 16) r → r ≤ 10080
+level_few D N = let w = N.found in omega (arith, w.2, cell-few D w.0 w.1)
 
 module _ (Γ : Network) (few : Γ.events ≤ 16) where
   pub held_at : (t : List ℕ) (s u : ℕ) → s < scenarios Γ → u < Γ.events
@@ -69,7 +57,7 @@ module _ (Γ : Network) (few : Γ.events ≤ 16) where
       by-cell Γ.events (scenarios Γ) (λ i. get_or (held Γ d) i 0 ≤ l)
       (λ s u hs hu. rw (held_at d s u hs hu) (h (s * 16 + u) (omega arith))) i b
 
-  pub held-few : (d : List ℕ) → Times Γ.events Γ.labels (scenarios Γ) d → (i : ℕ) → i < Γ.events * scenarios Γ
+  pub held-few : (d : List ℕ) → Times Γ d → (i : ℕ) → i < Γ.events * scenarios Γ
       → get_or (held Γ d) i 0 ≤ 10080
   held-few d D i b =
       by-cell Γ.events (scenarios Γ) (λ i. get_or (held Γ d) i 0 ≤ 10080)
@@ -96,9 +84,8 @@ module _ (Γ : Network) (few : Γ.events ≤ 16) where
       ∙ rw (held_at t s u hs hu, held_at d s u hs hu)))
 
   -- and is within the limits
-  pub placed-within : {t d o : List ℕ} {lo hi j : ℕ} → Times Γ.events Γ.labels (scenarios Γ) o
+  pub placed-within : {t d o : List ℕ} {lo hi j : ℕ} → Times Γ o
       → Placed t d lo hi j Γ.horizon (scenarios Γ * 16) o → within (cap Γ) (held Γ o) ≡ true
-  unfolding happens
   placed-within {o = o} T P = within_cap Γ (held Γ o) (λ s u hs hu.
       let inside : s * 16 + u < scenarios Γ * 16 = omega arith in
       let here = held_at o s u hs hu in
@@ -111,7 +98,7 @@ module _ (Γ : Network) (few : Γ.events ≤ 16) where
       })
 
   -- where some rise of the table is not 0, some rise of the strategy is not
-  pub some-cell : {d : List ℕ} → Times Γ.events Γ.labels (scenarios Γ) d → Some d (scenarios Γ * 16)
+  pub some-cell : {d : List ℕ} → Times Γ d → Some d (scenarios Γ * 16)
       → (c : ℕ) × (c < Γ.events * scenarios Γ) × (0 < get_or (held Γ d) c 0)
   some-cell {d} D S =
       let w = cell_of 16 (scenarios Γ) S.cell (omega (arith, S.inside)) in

@@ -4,18 +4,16 @@ use Rattle.fixpoint.specs.Near.{iterate}
 use Rattle.fixpoint.specs.Straight as S
 use Rattle.network.specs.Build.{scenarios}
 use Rattle.network.specs.declared.Network.{Network}
-use Rattle.rows.specs.declared.Frame.{Frame}
 use Rattle.rounds.specs.Propagate.{propagate}
 use Rattle.rounds.specs.Rounds.{held}
 use Rattle.moves.specs.Moves.{Between}
 use Rattle.leap.specs.Tables.{Far}
 
 -- p rounds from t so moved on take each cell of rise l at least `least` and at most `most` on
-pub record AtLevel (frame : Frame) (counts lists : List ℕ) (p j : ℕ) (t d : List ℕ)
-    (l lo hi least most : ℕ) : Type 0 where
+pub record AtLevel (Γ : Network) (p j : ℕ) (t d : List ℕ) (l lo hi least most : ℕ) : Type 0 where
   pub table : List ℕ
-  pub far : Far frame counts lists p j t d lo hi table
-  pub between : Between t d l least most table (frame.scenarios * 16)
+  pub far : Far Γ p j t d lo hi table
+  pub between : Between t d l least most table (scenarios Γ * 16)
 
 -- at a cell of the strategy that t holds, p rounds for the step
 abbrev pub Faster : Network → ℕ → ℕ → List ℕ → List ℕ → ℕ → Type 0

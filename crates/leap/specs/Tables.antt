@@ -1,27 +1,24 @@
--- Where rounds from a table lead, for every network that was compiled so.
+-- Where rounds from a table lead.
 use Rattle.std.specs.Prelude.{◌≡◌, true, List, ℕ, get_or}
 use Rattle.fixpoint.specs.Near.{iterate}
 use Rattle.fixpoint.specs.Run.{within}
 use Rattle.fixpoint.specs.Straight.{moved}
 use Rattle.fixpoint.specs.Leads.{Leads}
 use Rattle.network.specs.declared.Network.{Network}
-use Rattle.rows.specs.declared.Frame.{Frame}
-use Rattle.rows.specs.Rows.{FrameTimes}
+use Rattle.rows.specs.Rows.{Times}
 use Rattle.rounds.specs.Propagate.{propagate}
 use Rattle.rounds.specs.Cap.{cap}
-use Rattle.rounds.specs.Compiled.{Compiled}
 use Rattle.rounds.specs.Rounds.{held}
 use Rattle.moves.specs.Moves.{part_of}
 
-module _ (frame : Frame) (counts lists : List ℕ) where
+module _ (Γ : Network) where
   -- p rounds lead from t to u, and rounds may go on from u
   pub record Advanced (p : ℕ) (t u : List ℕ) : Type 0 where
-    pub times : FrameTimes frame u
-    pub led : (Γ : Network) → Compiled Γ frame counts lists → Leads (propagate Γ) (cap Γ) p (held Γ t) (held Γ u)
+    pub times : Times Γ u
+    pub led : Leads (propagate Γ) (cap Γ) p (held Γ t) (held Γ u)
 
   -- p rounds make o of t moved on j times by the part of d between lo and hi, within the limits
   pub record Far (p j : ℕ) (t d : List ℕ) (lo hi : ℕ) (o : List ℕ) : Type 0 where
-    pub times : FrameTimes frame o
-    pub made : (Γ : Network) → Compiled Γ frame counts lists
-        → held Γ o ≡ iterate p (propagate Γ) (moved (held Γ t) j (λ i. part_of lo hi (get_or (held Γ d) i 0)))
-    pub inside : (Γ : Network) → Compiled Γ frame counts lists → within (cap Γ) (held Γ o) ≡ true
+    pub times : Times Γ o
+    pub made : held Γ o ≡ iterate p (propagate Γ) (moved (held Γ t) j (λ i. part_of lo hi (get_or (held Γ d) i 0)))
+    pub inside : within (cap Γ) (held Γ o) ≡ true

@@ -1,169 +1,110 @@
 // The end of a run that passes a limit, seen from its fastest times: the others need no period, only bounds.
-ghost use Rattle.std.specs.Prelude.{◌≡◌, ◌+◌, ◌*◌, ◌≤◌, ◌<◌, length};
+ghost use Rattle.std.specs.Prelude.{◌≡◌, ◌+◌, ◌*◌, ◌≤◌, ◌<◌, length, IfSome};
 ghost use Rattle.network.specs.Limits as L;
-ghost use Rattle.rows.specs.Rows.{FrameTimes};
-ghost use Rattle.rounds.specs.Compiled.{Usable};
+ghost use Rattle.rows.specs.Rows.{Times};
 ghost use Rattle.leap.specs.Passing.{Closing, Passing};
 
-use crate::test;
+use crate::test::{self, Guess};
+use moves::Part;
 use network::Network;
-use rounds::Effect;
-use rows::Frame;
+use rounds::{Compiled, Effect};
+use rows::Table;
 
-// In which round from `low` on a limit is passed, if none is passed in the rounds before it from `high`; 0 if that is
-// not seen.
-fn closing(
-    low: &mut [u16; Network::CELLS],
-    high: &mut [u16; Network::CELLS],
-    most: u32,
-    frame: Frame,
-    counts: &[usize; Network::CASES],
-    lists: &[u16; bounds::LIST],
-) -> u32
-    requires { Usable frame counts.now lists.now × FrameTimes frame low.old
-        × FrameTimes frame high.old }
-    ensures { (result ≤ most) × (length low.new ≡ L.cells) × (length high.new ≡ L.cells)
-        × (0 < result → Closing frame counts.now lists.now low.old
-        high.old result) }
+// In which round from `low` on a limit is passed, if none is passed in the rounds before it from `high`.
+fn closing(compiled: &Compiled, low: &Table, high: &Table, most: u32) -> Option<u32>
+    requires { Times compiled.now.frame.network low.now × Times compiled.now.frame.network high.now }
+    ensures { IfSome result
+        (λ q. (0 < q) × (q ≤ most) × Closing compiled.now.frame.network low.now high.now q) }
 {
-    let cells = frame.scenarios * Network::EVENTS;
-    let mut b: [u16; Network::CELLS] = [0; Network::CELLS];
-    let mut q: u32 = 0;
-    while q < most {
-        q += 1;
-        match rounds::round(low, &mut b, frame, counts, lists) {
-            Effect::Passes => return q,
-            Effect::Rests => return 0,
+    let cells = compiled.frame.cells();
+    let mut below = *low;
+    let mut above = *high;
+    let mut b = [0; Network::CELLS];
+    for q in 0..most {
+        match compiled.round(&below, &mut b) {
+            Effect::Passes => return Some(q + 1),
+            Effect::Rests => return None,
             Effect::Rises => {}
         }
-        moves::copy(&b, low, cells);
-        match rounds::round(high, &mut b, frame, counts, lists) {
-            Effect::Passes => return 0,
-            Effect::Rests => return 0,
+        moves::copy(&b[..cells], &mut below);
+        match compiled.round(&above, &mut b) {
+            Effect::Passes => return None,
+            Effect::Rests => return None,
             Effect::Rises => {}
         }
-        moves::copy(&b, high, cells);
+        moves::copy(&b[..cells], &mut above);
     }
-    0
+    None
 }
 
-fn total(j: u32, p: u32, q: u32) -> u32
-    requires { (j ≤ L.horizon) × (p ≤ 65535) × (q ≤ 65535) }
-    ensures { result ≡ j * p + (p + q) }
+// After how many rounds a limit is passed, if p rounds are seen to add at least e and at most the guess's d to its
+// table, and j times again, and the rounds from the two far tables to pass a limit in the same round; and if that is
+// within those left.
+fn passes_after(upper: &Guess<'_>, e: &Table, left: u32) -> Option<u32>
+    requires { Times upper.now.compiled.now.frame.network e.now }
+    ensures { IfSome result
+        (λ r. (r ≤ left) × Passing upper.now.compiled.now.frame.network r upper.now.t.now) }
 {
-    j * p + (p + q)
-}
-
-// After how many rounds from a on a limit is passed, if p rounds are seen to add at least e and at most d to a, and j
-// times again, and the rounds from the two far tables to pass a limit in the same round; 0 if that is not seen, or
-// more than are left.
-fn passes_after(
-    a: &[u16; Network::CELLS],
-    e: &[u16; Network::CELLS],
-    d: &[u16; Network::CELLS],
-    j: u32,
-    p: u32,
-    left: u32,
-    frame: Frame,
-    counts: &[usize; Network::CASES],
-    lists: &[u16; bounds::LIST],
-) -> u32
-    requires { Usable frame counts.now lists.now × FrameTimes frame a.now
-        × FrameTimes frame e.now × FrameTimes frame d.now
-        × (j ≤ L.horizon)
-        × (p ≤ 65535) }
-    ensures { (result ≤ left) ×
-        (0 < result → Passing frame counts.now lists.now result a.now) }
-{
-    let mut high: [u16; Network::CELLS] = [0; Network::CELLS];
-    if !test::far(
-        a,
-        d,
-        0,
-        Network::HORIZON,
-        j,
-        p,
-        frame,
-        counts,
-        lists,
-        &mut high,
-    ) {
-        return 0;
+    let high = upper.far(Part::above(0))?;
+    let x = test::advance(upper.compiled, upper.t, upper.p)?;
+    if !upper.at_most(&x, &high) {
+        return None;
     }
-    let mut x = *a;
-    if !test::advance(&mut x, p, frame, counts, lists) {
-        return 0;
+    let lower = Guess {
+        compiled: upper.compiled,
+        t: upper.t,
+        d: e,
+        j: upper.j,
+        p: upper.p,
+    };
+    let low = lower.far(Part::above(0))?;
+    if !lower.at_least(&low) {
+        return None;
     }
-    if !test::at_most(a, d, &x, &high, j, p, frame, counts, lists) {
-        return 0;
-    }
-    let mut low: [u16; Network::CELLS] = [0; Network::CELLS];
-    if !test::far(
-        a,
-        e,
-        0,
-        Network::HORIZON,
-        j,
-        p,
-        frame,
-        counts,
-        lists,
-        &mut low,
-    ) {
-        return 0;
-    }
-    if !test::at_least(a, e, &low, j, p, frame, counts, lists) {
-        return 0;
-    }
-    let q = closing(&mut low, &mut high, p, frame, counts, lists);
-    if q == 0 {
-        return 0;
-    }
-    let r = total(j, p, q);
+    let q = closing(upper.compiled, &low, &high, upper.p)?;
+    let r = upper.rounds() + (upper.p + q);
     if left < r {
-        return 0;
+        return None;
     }
-    r
+    Some(r)
 }
 
-// The same, where p rounds are guessed (0: none are) to raise the fastest times of a as they rose since another table
-// was theirs, and the others less.
-pub fn finish(
-    a: &[u16; Network::CELLS],
-    since: &[u16; Network::CELLS],
-    p: u32,
-    left: u32,
-    frame: Frame,
-    counts: &[usize; Network::CASES],
-    lists: &[u16; bounds::LIST],
-) -> u32
-    requires { Usable frame counts.now lists.now × FrameTimes frame a.now }
-    ensures { (result ≤ left) ×
-        (0 < result → Passing frame counts.now lists.now result a.now) }
+// The same, where p rounds are guessed to raise the fastest times of a as they rose since another table was theirs, and
+// the others less.
+pub fn finish(compiled: &Compiled, a: &Table, since: &Table, p: u32, left: u32) -> Option<u32>
+    requires { Times compiled.now.frame.network a.now }
+    ensures { IfSome result (λ r. (r ≤ left) × Passing compiled.now.frame.network r a.now) }
 {
-    if p == 0 {
-        return 0;
-    }
     // a longer period is not worth its test
     if 65535 < p {
-        return 0;
+        return None;
     }
-    let cells = frame.scenarios * Network::EVENTS;
-    let mut d: [u16; Network::CELLS] = [0; Network::CELLS];
-    moves::rise(since, a, &mut d, cells);
-    let top = guess::highest_below(&d, 65535, cells);
-    let m = guess::margin(guess::highest_below(&d, top, cells));
+    let cells = compiled.frame.cells();
+    let d = moves::rise(&since[..cells], &a[..cells]);
+    let top = guess::highest_below(&d[..cells], 65535);
+    let m = guess::margin(guess::highest_below(&d[..cells], top));
     if top <= m {
-        return 0;
+        return None;
     }
-    let mut upper: [u16; Network::CELLS] = [0; Network::CELLS];
-    moves::clip(&d, top, m, &mut upper, cells);
-    let mut lower: [u16; Network::CELLS] = [0; Network::CELLS];
-    moves::clip(&d, top, 0, &mut lower, cells);
-    let j = guess::most(a, &lower, frame.horizon, p, left, cells);
+    let upper = moves::clip(&d[..cells], top, m);
+    let lower = moves::clip(&d[..cells], top, 0);
+    let j = guess::most(
+        &a[..cells],
+        &lower[..cells],
+        compiled.frame.network.horizon,
+        p,
+        left,
+    );
     // fewer moves are not worth their test
     if j < 8 {
-        return 0;
+        return None;
     }
-    passes_after(a, &lower, &upper, j, p, left, frame, counts, lists)
+    let guess = Guess {
+        compiled,
+        t: a,
+        d: &upper,
+        j,
+        p,
+    };
+    passes_after(&guess, &lower, left)
 }

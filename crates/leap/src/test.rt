@@ -1,231 +1,197 @@
 // Whether p rounds add the rises d to a table, and j times again, or at most d, or at least d: by rounds from tables
-// far on. Each test says true only where it is so; where it says false nothing is known. 200,000,000 is over every
-// time j moves on.
-ghost use Rattle.std.specs.Prelude.{◌≡◌, true, ◌+◌, ◌*◌, ◌≤◌, ◌<◌, length};
+// far on. Each test says true only where it is so; where it says false nothing is known.
+ghost use Rattle.std.specs.Prelude.{◌≡◌, true, ◌+◌, ◌*◌, ◌≤◌, ◌<◌, length, IfSome, MatchOption};
 ghost use Rattle.fixpoint.specs.Near.{iterate};
 ghost use Rattle.fixpoint.specs.Straight.{AtMost, AtLeast};
 ghost use Rattle.network.specs.Limits as L;
-ghost use Rattle.network.specs.declared.Network.{Network};
-ghost use Rattle.rows.specs.Rows.{FrameTimes};
+ghost use Rattle.network.specs.Build as N;
+ghost use Rattle.rows.specs.Rows.{Times};
 ghost use Rattle.rounds.specs.Propagate.{propagate};
-ghost use Rattle.rounds.specs.Compiled.{Compiled, Usable};
 ghost use Rattle.rounds.specs.Rounds.{held};
+ghost use Rattle.moves.specs.Moves.{Placed, Between};
+ghost use Rattle.moves.specs.Levels.{Highest, NextLevel};
 ghost use Rattle.leap.specs.Tables.{Advanced, Far};
 ghost use Rattle.leap.specs.Levels.{AtLevel, Level, Faster, Slower};
 
+use moves::{Part, Span};
 use network::Network;
-use rounds::Effect;
-use rows::Frame;
+use rounds::{Compiled, Effect};
+use rows::Table;
 
-// p rounds from a on, each of which raises within the limits.
-pub fn advance(
-    a: &mut [u16; Network::CELLS],
-    p: u32,
-    frame: Frame,
-    counts: &[usize; Network::CASES],
-    lists: &[u16; bounds::LIST],
-) -> bool
-    requires { Usable frame counts.now lists.now × FrameTimes frame a.old }
-    ensures { (length a.new ≡ L.cells)
-        × (result ≡ true → Advanced frame counts.now lists.now p a.old a.new) }
+// p rounds from a table on, if each of them raises within the limits.
+pub fn advance(compiled: &Compiled, from: &Table, p: u32) -> Option<Table>
+    requires { Times compiled.now.frame.network from.now }
+    ensures { IfSome result (λ u. Advanced compiled.now.frame.network p from.now u) }
 {
-    let cells = frame.scenarios * Network::EVENTS;
-    let mut b: [u16; Network::CELLS] = [0; Network::CELLS];
-    let mut i: u32 = 0;
-    while i < p {
-        match rounds::round(a, &mut b, frame, counts, lists) {
-            Effect::Passes => return false,
-            Effect::Rests => return false,
-            Effect::Rises => {}
+    let cells = compiled.frame.cells();
+    let mut a = *from;
+    let mut b = [0; Network::CELLS];
+    for _ in 0..p {
+        match compiled.round(&a, &mut b) {
+            Effect::Passes | Effect::Rests => return None,
+            Effect::Rises => moves::copy(&b[..cells], &mut a),
         }
-        moves::copy(&b, a, cells);
-        i += 1;
     }
-    true
+    Some(a)
 }
 
-// o becomes what p rounds make of t moved on j times by the part of d between lo and hi; whether each of them raises
-// within the limits.
-pub fn far(
-    t: &[u16; Network::CELLS],
-    d: &[u16; Network::CELLS],
-    lo: u16,
-    hi: u16,
-    j: u32,
-    p: u32,
-    frame: Frame,
-    counts: &[usize; Network::CASES],
-    lists: &[u16; bounds::LIST],
-    o: &mut [u16; Network::CELLS],
-) -> bool
-    requires { Usable frame counts.now lists.now × FrameTimes frame t.now
-        × FrameTimes frame d.now × (hi ≤ L.horizon) × (j ≤ L.horizon)
-        × (length o.old ≡ L.cells) }
-    ensures { (length o.new ≡ L.cells) ×
-        (result ≡ true → Far frame counts.now lists.now p j
-        t.now d.now lo hi o.new) }
-{
-    let cells = frame.scenarios * Network::EVENTS;
-    if !moves::place(t, d, lo, hi, j, frame.horizon, cells, o) {
-        return false;
-    }
-    advance(o, p, frame, counts, lists)
+// The guess that p rounds add the rises d to the table t, and j times again.
+#[derive(Clone, Copy)]
+pub struct Guess<'a> {
+    pub compiled: &'a Compiled<'a>,
+    pub t: &'a Table,
+    pub d: &'a Table,
+    pub j: u32,
+    pub p: u32,
+    pub ghost times: { Times compiled.now.frame.network t.now × Times compiled.now.frame.network d.now },
+    pub ghost small: { (j ≤ L.horizon) × (p ≤ 65535) },
 }
 
-// Whether a cell of rise l goes at least `low` and at most `high` in p rounds from the table so moved on.
-fn at_level(
-    t: &[u16; Network::CELLS],
-    d: &[u16; Network::CELLS],
-    l: u16,
-    lo: u16,
-    hi: u16,
-    low: u32,
-    high: u32,
-    j: u32,
-    p: u32,
-    frame: Frame,
-    counts: &[usize; Network::CASES],
-    lists: &[u16; bounds::LIST],
-) -> bool
-    requires { Usable frame counts.now lists.now × FrameTimes frame t.now
-        × FrameTimes frame d.now × (hi ≤ L.horizon) × (j ≤ L.horizon)
-        × (low ≤ 200000000) × (high ≤ 200000000) }
-    ensures { result ≡ true → AtLevel frame counts.now lists.now p j t.now
-        d.now l
-        lo hi low high }
-{
-    let mut o: [u16; Network::CELLS] = [0; Network::CELLS];
-    if !far(t, d, lo, hi, j, p, frame, counts, lists, &mut o) {
-        return false;
+impl Guess<'_> {
+    // How many rounds all moves take.
+    pub fn rounds(&self) -> u32
+        ensures { result ≡ self.now.j * self.now.p }
+    {
+        self.j * self.p
     }
-    moves::between(t, d, l, low, high, &o, frame.scenarios * Network::EVENTS)
-}
 
-// Whether cells that are faster than l, j leads ahead, do not raise a cell of rise l by more than l. At the lowest
-// level the table so moved on is t moved on by d, of which p rounds make o.
-fn faster_hold(
-    t: &[u16; Network::CELLS],
-    d: &[u16; Network::CELLS],
-    l: u16,
-    o: &[u16; Network::CELLS],
-    j: u32,
-    p: u32,
-    frame: Frame,
-    counts: &[usize; Network::CASES],
-    lists: &[u16; bounds::LIST],
-) -> bool
-    requires { Usable frame counts.now lists.now × FrameTimes frame t.now
-        × FrameTimes frame d.now × (j ≤ L.horizon) × (l ≤ L.horizon)
-        × Far frame counts.now lists.now p j t.now d.now 0 L.horizon o.now }
-    ensures { result ≡ true → (Γ : Network) → Compiled Γ frame counts.now lists.now
-        → Level Γ d.now l (Faster Γ p j t.now d.now) }
-{
-    if l == 0 {
-        return moves::between(t, d, 0, 0, 0, o, frame.scenarios * Network::EVENTS);
+    // t moved on by the part of d, if it stays within the limits.
+    pub fn place(&self, part: Part) -> Option<Table>
+        ensures { IfSome result
+            (λ o. Times self.now.compiled.now.frame.network o
+            × Placed self.now.t.now self.now.d.now part.lo part.hi self.now.j
+            self.now.compiled.now.frame.network.horizon
+            (N.scenarios self.now.compiled.now.frame.network * L.events) o) }
+    {
+        let cells = self.compiled.frame.cells();
+        let horizon = self.compiled.frame.network.horizon;
+        let (t, d) = (self.t, self.d);
+        part.place(&t[..cells], &d[..cells], self.j, horizon)
     }
-    at_level(
-        t,
-        d,
-        l,
-        l,
-        Network::HORIZON,
-        0,
-        l as u32,
-        j,
-        p,
-        frame,
-        counts,
-        lists,
-    )
-}
 
-// Whether p rounds add at most d to t, and j times again, level by level. At the highest level no cell is faster, and
-// p rounds make x of t.
-pub fn at_most(
-    t: &[u16; Network::CELLS],
-    d: &[u16; Network::CELLS],
-    x: &[u16; Network::CELLS],
-    o: &[u16; Network::CELLS],
-    j: u32,
-    p: u32,
-    frame: Frame,
-    counts: &[usize; Network::CASES],
-    lists: &[u16; bounds::LIST],
-) -> bool
-    requires { Usable frame counts.now lists.now × FrameTimes frame t.now
-        × FrameTimes frame d.now × (j ≤ L.horizon)
-        × Advanced frame counts.now lists.now p t.now x.now
-        × Far frame counts.now lists.now p j t.now d.now 0 L.horizon o.now }
-    ensures { result ≡ true → (Γ : Network) → Compiled Γ frame counts.now lists.now
-        → AtMost (iterate p (propagate Γ)) (held Γ t.now) (held Γ d.now) j }
-{
-    let cells = frame.scenarios * Network::EVENTS;
-    let mut l: u16 = 0;
-    loop {
-        let next = moves::next_level(d, l, cells);
-        if next == 0 {
-            return moves::between(t, d, l, 0, l as u32, x, cells);
-        }
-        if !faster_hold(t, d, l, o, j, p, frame, counts, lists) {
+    // What p rounds make of the table so moved on, if each of them raises within the limits.
+    pub fn far(&self, part: Part) -> Option<Table>
+        ensures { IfSome result
+            (λ o. Far self.now.compiled.now.frame.network self.now.p self.now.j self.now.t.now self.now.d.now
+            part.lo part.hi o) }
+    {
+        let moved = self.place(part)?;
+        advance(self.compiled, &moved, self.p)
+    }
+
+    // Whether each cell of rise l goes as far as the span says from t to o.
+    fn between(&self, o: &Table, l: u16, span: Span) -> bool
+        ensures { result ≡ true → Between self.now.t.now self.now.d.now l span.least span.most o.now
+            (N.scenarios self.now.compiled.now.frame.network * L.events) }
+    {
+        let cells = self.compiled.frame.cells();
+        let (t, d) = (self.t, self.d);
+        span.between(&t[..cells], &o[..cells], &d[..cells], l)
+    }
+
+    // The least level of d above l.
+    fn next_level(&self, l: u16) -> Option<u16>
+        ensures { MatchOption result
+            (Highest self.now.d.now l (N.scenarios self.now.compiled.now.frame.network * L.events))
+            (λ r. NextLevel self.now.d.now l (N.scenarios self.now.compiled.now.frame.network * L.events) r) }
+    {
+        let cells = self.compiled.frame.cells();
+        let d = self.d;
+        moves::next_level(&d[..cells], l)
+    }
+
+    // Whether each cell of rise l goes as far as the span says in p rounds from the table so moved on.
+    fn at_level(&self, l: u16, part: Part, span: Span) -> bool
+        ensures { result ≡ true → AtLevel self.now.compiled.now.frame.network self.now.p self.now.j self.now.t.now
+            self.now.d.now l part.lo part.hi span.least span.most }
+    {
+        let Some(o) = self.far(part) else {
             return false;
-        }
-        l = next;
+        };
+        self.between(&o, l, span)
     }
-}
 
-// Whether cells that are slower than l, j lags behind, are not what raises a cell of rise l: it still goes l further
-// than j moves. At the lowest level there is nothing to raise.
-fn slower_hold(
-    t: &[u16; Network::CELLS],
-    d: &[u16; Network::CELLS],
-    l: u16,
-    j: u32,
-    p: u32,
-    frame: Frame,
-    counts: &[usize; Network::CASES],
-    lists: &[u16; bounds::LIST],
-) -> bool
-    requires { Usable frame counts.now lists.now × FrameTimes frame t.now
-        × FrameTimes frame d.now × (j ≤ L.horizon) × (l ≤ L.horizon) }
-    ensures { result ≡ true → (Γ : Network) → Compiled Γ frame counts.now lists.now
-        → Level Γ d.now l (Slower Γ p j t.now d.now) }
-{
-    if l == 0 {
-        return true;
+    // Whether cells that are faster than l, j leads ahead, do not raise a cell of rise l by more than l. At the lowest
+    // level the table so moved on is t moved on by d, of which p rounds make o.
+    fn faster_hold(&self, l: u16, o: &Table) -> bool
+        requires { (l ≤ L.horizon)
+            × Far self.now.compiled.now.frame.network self.now.p self.now.j self.now.t.now self.now.d.now
+            0 L.horizon o.now }
+        ensures { result ≡ true → Level self.now.compiled.now.frame.network self.now.d.now l
+            (Faster self.now.compiled.now.frame.network self.now.p self.now.j self.now.t.now self.now.d.now) }
+    {
+        let span = Span {
+            least: 0,
+            most: u32::from(l),
+        };
+        if l == 0 {
+            return self.between(o, 0, span);
+        }
+        self.at_level(l, Part::above(l), span)
     }
-    let low = moves::reached(l, l, j);
-    at_level(t, d, l, 0, l, low, 200000000, j, p, frame, counts, lists)
-}
 
-// Whether p rounds add at least d to t, and j times again, level by level. At the highest level the table so moved on
-// is t moved on by d, of which p rounds make o.
-pub fn at_least(
-    t: &[u16; Network::CELLS],
-    d: &[u16; Network::CELLS],
-    o: &[u16; Network::CELLS],
-    j: u32,
-    p: u32,
-    frame: Frame,
-    counts: &[usize; Network::CASES],
-    lists: &[u16; bounds::LIST],
-) -> bool
-    requires { Usable frame counts.now lists.now × FrameTimes frame t.now
-        × FrameTimes frame d.now × (j ≤ L.horizon)
-        × Far frame counts.now lists.now p j t.now d.now 0 L.horizon o.now }
-    ensures { result ≡ true → (Γ : Network) → Compiled Γ frame counts.now lists.now
-        → AtLeast (iterate p (propagate Γ)) (held Γ t.now) (held Γ d.now) j }
-{
-    let cells = frame.scenarios * Network::EVENTS;
-    let mut l: u16 = 0;
-    loop {
-        let next = moves::next_level(d, l, cells);
-        if next == 0 {
-            let last = moves::reached(l, l, j);
-            return moves::between(t, d, l, last, 200000000, o, cells);
+    // Whether p rounds add at most d to t, and j times again, level by level. At the highest level no cell is faster,
+    // and p rounds make x of t.
+    pub fn at_most(&self, x: &Table, o: &Table) -> bool
+        requires { Advanced self.now.compiled.now.frame.network self.now.p self.now.t.now x.now
+            × Far self.now.compiled.now.frame.network self.now.p self.now.j self.now.t.now self.now.d.now
+            0 L.horizon o.now }
+        ensures { result ≡ true → AtMost (iterate self.now.p (propagate self.now.compiled.now.frame.network))
+            (held self.now.compiled.now.frame.network self.now.t.now)
+            (held self.now.compiled.now.frame.network self.now.d.now) self.now.j }
+    {
+        let mut l = 0;
+        while let Some(next) = self.next_level(l) {
+            if !self.faster_hold(l, o) {
+                return false;
+            }
+            l = next;
         }
-        if !slower_hold(t, d, l, j, p, frame, counts, lists) {
-            return false;
+        let span = Span {
+            least: 0,
+            most: u32::from(l),
+        };
+        self.between(x, l, span)
+    }
+
+    // Whether cells that are slower than l, j lags behind, are not what raises a cell of rise l: it still goes l
+    // further than j moves. At the lowest level there is nothing to raise.
+    fn slower_hold(&self, l: u16) -> bool
+        requires { l ≤ L.horizon }
+        ensures { result ≡ true → Level self.now.compiled.now.frame.network self.now.d.now l
+            (Slower self.now.compiled.now.frame.network self.now.p self.now.j self.now.t.now self.now.d.now) }
+    {
+        if l == 0 {
+            return true;
         }
-        l = next;
+        let span = Span {
+            least: moves::reached(l, l, self.j),
+            most: u32::MAX,
+        };
+        self.at_level(l, Part::up_to(l), span)
+    }
+
+    // Whether p rounds add at least d to t, and j times again, level by level. At the highest level the table so moved
+    // on is t moved on by d, of which p rounds make o.
+    pub fn at_least(&self, o: &Table) -> bool
+        requires { Far self.now.compiled.now.frame.network self.now.p self.now.j self.now.t.now self.now.d.now
+            0 L.horizon o.now }
+        ensures { result ≡ true → AtLeast (iterate self.now.p (propagate self.now.compiled.now.frame.network))
+            (held self.now.compiled.now.frame.network self.now.t.now)
+            (held self.now.compiled.now.frame.network self.now.d.now) self.now.j }
+    {
+        let mut l = 0;
+        while let Some(next) = self.next_level(l) {
+            if !self.slower_hold(l) {
+                return false;
+            }
+            l = next;
+        }
+        let last = moves::reached(l, l, self.j);
+        let span = Span {
+            least: last,
+            most: u32::MAX,
+        };
+        self.between(o, l, span)
     }
 }

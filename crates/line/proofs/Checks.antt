@@ -1,5 +1,5 @@
 -- Laws of tests in checking order. Assumes nothing.
-use mathlib.Core.Path.{◌≡◌, refl, ◌∙◌, ap}
+use mathlib.Core.Path.{◌≡◌, refl}
 use mathlib.Core.Bool.{Bool, true, false}
 use mathlib.Core.Option.{none, some}
 use mathlib.Core.List.{List, [], ◌∷◌, ◌++◌}
@@ -44,11 +44,3 @@ module _ {A : Type 0} where
   holds-behind [] us e = e
   holds-behind ((true, a) ∷ ts) us e = holds-behind ts us e
   holds-behind ((false, a) ∷ ts) us e = some-not-none a e
-
-  -- three tests by their values
-  pub three_same : (a b c d e f : Bool) (x y z : A) → a ≡ d → b ≡ e → c ≡ f
-      → first_failing_lem ((a, x) ∷ (b, y) ∷ (c, z) ∷ []) ≡ first_failing_lem ((d, x) ∷ (e, y) ∷ (f, z) ∷ [])
-  three_same a b c d e f x y z p q r =
-      ap (λ (t : Bool). first_failing_lem ((t, x) ∷ (b, y) ∷ (c, z) ∷ [])) p
-      ∙ ap (λ (t : Bool). first_failing_lem ((d, x) ∷ (t, y) ∷ (c, z) ∷ [])) q
-      ∙ ap (λ (t : Bool). first_failing_lem ((d, x) ∷ (e, y) ∷ (t, z) ∷ [])) r

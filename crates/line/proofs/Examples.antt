@@ -17,12 +17,28 @@ use Rattle.network.specs.declared.Network.{Network}
 use Rattle.line.specs.Tests.{section_tests, event_tests, signal_tests, ends_tests, rule_tests, letter_tests}
 use Rattle.line.specs.Tests.{reaction_tests, placed_tests, label_tests}
 use Rattle.line.specs.Sections.{heading_of_lem, heading_tests}
-use Rattle.line.specs.Answers.{parts_of}
 use Rattle.line.specs.declared.Section.TheVariants.{Events, Cases}
 
 -- two events by their names, of which the second gives the signal p
 abbrev names : List ℕ
 names = ascii "startdoor"
+
+-- a network by its parts
+abbrev parts_of : ℕ → List ℕ → List ℕ → ℕ → List ℕ → List ℕ → List ℕ → List Bool → Network
+parts_of n starts lengths k letters observations reactions labelled = record {
+  horizon = 0;
+  events = n;
+  starts = starts;
+  lengths = lengths;
+  signals = k;
+  letters = letters;
+  observations = observations;
+  reactions = reactions;
+  rules = 0;
+  constraints = [];
+  labels = [];
+  labelled = labelled;
+}
 
 abbrev before : Network
 before = parts_of 2 (0 ∷ 5 ∷ []) (5 ∷ 4 ∷ []) 1 (ascii "p") (1 ∷ []) (0 ∷ []) (false ∷ false ∷ [])

@@ -4,7 +4,10 @@ use mathlib.Core.Path.{◌≡◌}
 use mathlib.Core.Logic.{◌↔◌}
 use mathlib.Core.Bool.{Bool, true, false, ◌||◌, not}
 use mathlib.Core.Option.{none, some}
+use mathlib.Core.List.{List}
 use Prim.Native.Nat.{ℕ, ◌≤◌, ◌<◌}
+use lib.ListN.{length, get_or, take}
+use Rattle.std.proofs.lemmas.List.{get_or-take, length-take}
 use native.Mathlib.Omega.{arith}
 use borrow.Author.Tests.{eqb-true}
 use lib.Dec.{eqb}
@@ -31,6 +34,13 @@ small : (Γ : Network) (ℓ : Label) → Γ.signals ≤ L.signals → Lettered �
 small Γ ℓ few w =
     let fit = scenarios-fit Γ.signals few in
     record { positive = omega (arith, fit, w.positive); negative = omega (arith, fit, w.negative) }
+
+-- what a loop over the first n of a list tries at i is its element i
+pub tried : {A : Type 0} (n : ℕ) (xs : List A) (i : ℕ) (d : A) → i < length (take n xs)
+    → (i < n) × (get_or (take n xs) i d ≡ get_or xs i d)
+tried n xs i d h =
+    let inside : i < n = omega (arith, length-take n xs) in
+    (inside, get_or-take n xs i d inside)
 
 pub small_of : (Γ : Network) (ℓ : Label) → Read Γ → Lettered Γ ℓ → FewLetters ℓ
 small_of Γ ℓ R w = small Γ ℓ R.signals w

@@ -1,36 +1,75 @@
--- Laws of a line's refusal, test by test, as the readers of a line try them: a section's heading, an event and a
--- signal. Assumes nothing.
-use mathlib.Core.Path.{◌≡◌, refl, sym}
-use mathlib.Core.Bool.{Bool, true, false, ◌&&◌, ◌||◌, not, and-false}
+-- Laws of a line's refusal, test by test, as the readers of a line try them: what an answer says, a section's heading,
+-- an event and a signal. Assumes nothing.
+use mathlib.Core.Path.{◌≡◌, refl, sym, ◌∙◌, ap}
+use mathlib.Core.Bool.{Bool, true, false, ◌&&◌, and-false}
 use mathlib.Core.Option.{Option, none, some}
-use mathlib.Core.List.{List, [], ◌∷◌}
+use mathlib.Core.List.{List}
 use Prim.Native.Nat.{ℕ}
 use borrow.Author.Tests.{eq-eqb, ne_eqb}
-use lib.ListN.{length, get_or}
+use lib.ListN.{length}
+use Rattle.std.specs.Prelude.{Result, Ok, Err, IsErrAnd, is_some, ok_or}
+use Rattle.std.specs.Prelude as P
+use Rattle.prelude.specs.Options.{option_of}
+use Rattle.prelude.proofs.Options.{is_some-option_of, option_of-none}
 use Rattle.prelude.specs.Search.{answers}
 use Rattle.prelude.specs.Checks.{first_failing_lem}
 use Rattle.prelude.specs.Bytes.{same}
+use Rattle.prelude.proofs.Tests.{zero-is-one}
 use Rattle.text.specs.Lines.{field}
 use Rattle.refusal.specs.declared.Cause.{Cause}
 use Rattle.refusal.specs.declared.Cause.TheVariants as C
 use Rattle.network.specs.declared.Network.{Network}
-use Rattle.prelude.proofs.Tests.{zero-is-one}
 use Rattle.names.specs.Names.{is_name_lem, is_one_letter_lem}
-use Rattle.names.specs.Defined.{place_of}
-use Rattle.names.specs.Found.{found_of}
-use Rattle.line.specs.Tests.{count_tests, section_tests, is_observation, event_of, event_tests, signal_tests}
-use Rattle.line.specs.Answers.{gives_found_lem, check_of}
-use Rattle.line.specs.declared.Check.TheVariants as K
-use Rattle.line.proofs.Checks.{three_same}
+use Rattle.names.specs.Defined.{gives_signal_lem}
+use Rattle.line.specs.Tests.{count_tests, letters_tests, section_tests, event_of, signal_of, event_tests, signal_tests}
+use Rattle.line.specs.Answers.{answer, entry_by}
+use Rattle.line.specs.declared.Section.{Section}
+use Rattle.line.specs.declared.entry.Entry.{Entry}
 
--- what a check says of its tests
-pub check-refused : (o : Option Cause) (c : Cause) → check_of o ≡ K.Refused c → o ≡ some c
-check-refused none c e = zero-is-one cc
-check-refused (some d) c e = cc
+-- an answer is the cause of a refusal, or what is read where none was found
+module _ {A : Type 0} (o : Option Cause) (x : A) where
+  pub answer-err : (c : Cause) → answer o x ≡ Err c → o ≡ some c
+  answer-err c e = by-cause o e
+    where
+      by-cause : (o : Option Cause) → answer o x ≡ Err c → o ≡ some c
+      by-cause none e = zero-is-one cc
+      by-cause (some d) e = cc
 
-pub check-passed : (o : Option Cause) → check_of o ≡ K.Passed → o ≡ none
-check-passed none e = refl
-check-passed (some d) e = zero-is-one cc
+  pub answer-ok : (y : A) → answer o x ≡ Ok y → (o ≡ none) × (x ≡ y)
+  answer-ok y e = by-cause o e
+    where
+      by-cause : (o : Option Cause) → answer o x ≡ Ok y → (o ≡ none) × (x ≡ y)
+      by-cause none e = (refl, cc)
+      by-cause (some d) e = zero-is-one cc
+
+-- what the exit of a `?` returns; and behind `ok_or`, that nothing was found
+pub exits : {A E : Type 0} (r : Result A E) (d : E) → IsErrAnd r (λ e. e ≡ d) → r ≡ Err d
+exits (Ok x) d h = absurd h
+exits (Err e) d h = ap Err h
+
+pub exits-none : {A T : Type 0} (r : Result A Cause) (d c : Cause) (o : P.Option T) → IsErrAnd r (λ e. e ≡ d)
+    → ◌≡◌ {A = Result T Cause} (Err d) (ok_or o c) → (o ≡ P.None) × (r ≡ Err c)
+exits-none r d c P.None h e = let same : d ≡ c = cc in (refl, exits r d h ∙ ap Err same)
+exits-none r d c (P.Some x) h e = zero-is-one cc
+
+pub exits_without : {A T : Type 0} (r : Result A Cause) (d c : Cause) (o : Option T) → IsErrAnd r (λ e. e ≡ d)
+    → ◌≡◌ {A = Result T Cause} (Err d) (ok_or (option_of o) c) → (o ≡ none) × (r ≡ Err c)
+exits_without r d c o h e = let w = exits-none r d c (option_of o) h e in (option_of-none o w.0, w.1)
+
+-- whether anything was found
+pub found-is : {T : Type 0} (o : Option T) (r : P.Option T) (b v : Bool) → r ≡ option_of o → b ≡ is_some r → b ≡ v
+    → answers o ≡ v
+found-is o r b v e f g = sym (is_some-option_of o) ∙ ap is_some (sym e) ∙ sym f ∙ g
+
+-- an answer of the same line
+pub moved : {x : Result Entry Cause} (l m : List ℕ) (s : Section) (sheet : List ℕ) (Γ : Network) → l ≡ m
+    → x ≡ entry_by l s sheet Γ → x ≡ entry_by m s sheet Γ
+moved l m s sheet Γ e h = h ∙ ap (λ (k : List ℕ). entry_by k s sheet Γ) e
+
+-- the letters of the same label
+pub moved-letters : (Γ : Network) (f g : List ℕ) {o : Option Cause} → f ≡ g → first_failing_lem (letters_tests Γ f) ≡ o
+    → first_failing_lem (letters_tests Γ g) ≡ o
+moved-letters Γ f g e h = ap (λ (l : List ℕ). first_failing_lem (letters_tests Γ l)) (sym e) ∙ h
 
 -- a section's line
 module _ (word : List ℕ) (lo hi : ℕ) (fs : List (List ℕ)) where
@@ -47,49 +86,59 @@ module _ (word : List ℕ) (lo hi : ℕ) (fs : List (List ℕ)) where
   unfolding section_tests
   word-passes n e = rw (eq-eqb (length fs) 2 n, e)
 
--- an event that was looked for gives a signal where the search for it says so
-pub gives_found : (k : ℕ) (observations : List ℕ) (sheet : List ℕ) (Γ : Network) (o : Option ℕ) → Γ.signals ≡ k
-    → Γ.observations ≡ observations → gives_found_lem k observations (found_of o) ≡ is_observation Γ o
-gives_found k observations sheet Γ none a b = refl
-gives_found k observations sheet Γ (some u) a b = rw (a, b)
-
 module _ (sheet : List ℕ) (Γ : Network) (fs : List (List ℕ)) where
   -- an event
   pub event-count : (length fs ≡ 1 → ⊥) → first_failing_lem (event_tests sheet Γ fs) ≡ some C.WrongFields
   unfolding event_tests
   event-count n = rw (ne_eqb (length fs) 1 n)
 
-  pub event_ill : length fs ≡ 1 → is_name_lem (field 0 fs) ≡ false → first_failing_lem (event_tests sheet Γ fs)
-      ≡ some C.IllFormedName
-  unfolding event_tests
-  event_ill n e = rw (eq-eqb (length fs) 1 n, e)
+  module _ (n : length fs ≡ 1) where
+    pub event_ill : is_name_lem (field 0 fs) ≡ false → first_failing_lem (event_tests sheet Γ fs)
+        ≡ some C.IllFormedName
+    unfolding event_tests
+    event_ill e = rw (eq-eqb (length fs) 1 n, e)
 
-  pub event-twice : length fs ≡ 1 → is_name_lem (field 0 fs) ≡ true → answers (event_of sheet Γ (field 0 fs)) ≡ true
-      → first_failing_lem (event_tests sheet Γ fs) ≡ some C.Duplicate
-  unfolding event_tests
-  event-twice n e d = rw (eq-eqb (length fs) 1 n, e, d)
+    module _ (e : is_name_lem (field 0 fs) ≡ true) where
+      pub event-twice : answers (event_of sheet Γ (field 0 fs)) ≡ true
+          → first_failing_lem (event_tests sheet Γ fs) ≡ some C.Duplicate
+      unfolding event_tests
+      event-twice d = rw (eq-eqb (length fs) 1 n, e, d)
 
-  pub event-passes : length fs ≡ 1 → is_name_lem (field 0 fs) ≡ true → answers (event_of sheet Γ (field 0 fs)) ≡ false
-      → first_failing_lem (event_tests sheet Γ fs) ≡ none
-  unfolding event_tests
-  event-passes n e d = rw (eq-eqb (length fs) 1 n, e, d)
+      pub event-passes : answers (event_of sheet Γ (field 0 fs)) ≡ false
+          → first_failing_lem (event_tests sheet Γ fs) ≡ none
+      unfolding event_tests
+      event-passes d = rw (eq-eqb (length fs) 1 n, e, d)
 
   -- a signal
   pub signal-count : (length fs ≡ 2 → ⊥) → first_failing_lem (signal_tests sheet Γ fs) ≡ some C.WrongFields
   unfolding signal_tests
   signal-count n = rw (ne_eqb (length fs) 2 n)
 
-  pub signal-tests : {named fresh defined : Bool} → length fs ≡ 2 → named ≡ is_one_letter_lem (field 0 fs)
-      && is_name_lem (field 1 fs)
-      → fresh ≡ not (answers (place_of Γ.signals Γ.letters (get_or (field 0 fs) 0 0)) || is_observation Γ
-      (event_of sheet Γ (field 1 fs)))
-      → defined ≡ answers (event_of sheet Γ (field 1 fs))
-      → first_failing_lem (signal_tests sheet Γ fs)
-      ≡ first_failing_lem ((named, C.IllFormedName) ∷ (fresh, C.Duplicate) ∷ (defined, C.Undefined) ∷ [])
-  unfolding signal_tests
-  signal-tests {named} {fresh} {defined} n a b d =
-      rw (eq-eqb (length fs) 2 n)
-      (sym (three_same named fresh defined (is_one_letter_lem (field 0 fs) && is_name_lem (field 1 fs))
-      (not (answers (place_of Γ.signals Γ.letters (get_or (field 0 fs) 0 0))
-      || is_observation Γ (event_of sheet Γ (field 1 fs))))
-      (answers (event_of sheet Γ (field 1 fs))) C.IllFormedName C.Duplicate C.Undefined a b d))
+  module _ (n : length fs ≡ 2) where
+    pub signal_ill : is_one_letter_lem (field 0 fs) && is_name_lem (field 1 fs) ≡ false
+        → first_failing_lem (signal_tests sheet Γ fs) ≡ some C.IllFormedName
+    unfolding signal_tests
+    signal_ill e = rw (eq-eqb (length fs) 2 n, e)
+
+    module _ (e : is_one_letter_lem (field 0 fs) && is_name_lem (field 1 fs) ≡ true) where
+      pub signal-twice : answers (signal_of Γ (field 0 fs)) ≡ true
+          → first_failing_lem (signal_tests sheet Γ fs) ≡ some C.Duplicate
+      unfolding signal_tests
+      signal-twice d = rw (eq-eqb (length fs) 2 n, e, d)
+
+      module _ (f : answers (signal_of Γ (field 0 fs)) ≡ false) where
+        pub signal-unknown : event_of sheet Γ (field 1 fs) ≡ none
+            → first_failing_lem (signal_tests sheet Γ fs) ≡ some C.Undefined
+        unfolding signal_tests
+        signal-unknown d = rw (eq-eqb (length fs) 2 n, e, f, d)
+
+        module _ (u : ℕ) (known : event_of sheet Γ (field 1 fs) ≡ some u) where
+          pub signal-given : gives_signal_lem Γ.signals Γ.observations u ≡ true
+              → first_failing_lem (signal_tests sheet Γ fs) ≡ some C.Duplicate
+          unfolding signal_tests
+          signal-given g = rw (eq-eqb (length fs) 2 n, e, f, known, g)
+
+          pub signal-passes : gives_signal_lem Γ.signals Γ.observations u ≡ false
+              → first_failing_lem (signal_tests sheet Γ fs) ≡ none
+          unfolding signal_tests
+          signal-passes g = rw (eq-eqb (length fs) 2 n, e, f, known, g)

@@ -27,6 +27,10 @@ line_tests rest ts = (is_in line_feed rest, C.MissingLine) ∷ ts (fields (up_to
 abbrev pub count_tests : ℕ → ℕ → List ℕ → Tests
 count_tests lo hi f = (is_number f, C.IllFormedNumber) ∷ (in_range lo hi f, C.OutOfRange) ∷ []
 
+-- a limit with its sign
+abbrev pub limit_tests : List ℕ → Tests
+limit_tests f = (is_number f, C.IllFormedNumber) ∷ (leb (magnitude f) L.horizon, C.OutOfRange) ∷ []
+
 -- a word and its count
 unfoldable pub section_tests : List ℕ → ℕ → ℕ → List (List ℕ) → Tests
 section_tests word lo hi fs =
@@ -123,11 +127,16 @@ module _ (sheet : List ℕ) (Γ : Network) where
   unfoldable pub rule_tests : List (List ℕ) → Tests
   rule_tests fs =
       (eqb (length fs) 5 && answers (kind_of (field 0 fs)), C.WrongFields)
-      ∷ (is_number (field 3 fs), C.IllFormedNumber)
-      ∷ (leb (magnitude (field 3 fs)) L.horizon, C.OutOfRange)
-      ∷ ends_tests (field 1 fs) (field 2 fs) (field 4 fs)
+      ∷ (limit_tests (field 3 fs) ++ ends_tests (field 1 fs) (field 2 fs) (field 4 fs))
 
 module _ (Γ : Network) where
+  -- the letters of a label
+  abbrev pub letters_tests : List ℕ → Tests
+  letters_tests label =
+      (all_defined_lem Γ.signals Γ.letters (letters_of (label_of label)), C.Undefined)
+      ∷ (distinct (letters_of (label_of label)), C.RepeatedLetter)
+      ∷ []
+
   -- the letter of a reaction
   unfoldable pub letter_tests : List ℕ → Tests
   letter_tests f =

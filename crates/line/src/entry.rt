@@ -1,15 +1,18 @@
 // A line of each section behind its heading: by its fields, and at the start of what remains of the sheet.
-ghost use Rattle.std.specs.Prelude.{◌≡◌, List, [], ℕ, ◌≤◌};
-ghost use Rattle.network.specs.Limits as L;
-ghost use Rattle.names.specs.Found.{NamesIn};
-ghost use Rattle.line.specs.Answers.{parts_of, ends_answer, letter_answer, placed_answer, entry_by, entry_at};
+ghost use Rattle.std.specs.Prelude.{◌≡◌, ◌&&◌};
+ghost use Rattle.names.specs.Names.{is_name_lem, is_one_letter_lem, is_label_lem, label_of};
+ghost use Rattle.names.specs.Defined.{mask_of};
+ghost use Rattle.line.specs.Tests.{letters_tests};
+ghost use Rattle.line.specs.Answers.{passing, entry_by, entry_at};
 ghost use Rattle.line.specs.declared.Section.TheVariants.{Events, Signals, Rules, Reactions, Cases};
 
-use super::{Check, HeadingLine, KindField, Limit, Section, Test};
+use super::Section;
 use crate::field;
-use names::{label, lookup, token};
-use network::{Constraint, Kind, Label, Network};
+use names::lookup::Defined;
+use names::{label, token};
+use network::{Constraint, Label, Network};
 use refusal::Cause;
+use text::split::Fields;
 
 // What a line of a section adds to the network.
 #[derive(Clone, Copy)]
@@ -21,375 +24,181 @@ pub enum Entry {
     Label { event: usize, label: Label },
 }
 
-// A line behind a section's heading: why it is refused, or what it holds, and how long it is without its line feed.
+// What a line behind a section's heading holds, and how long it is without its line feed.
 #[derive(Clone, Copy)]
-pub enum EntryLine {
-    Refused(Cause),
-    Holds { entry: Entry, length: usize },
+pub struct Line {
+    pub entry: Entry,
+    pub length: usize,
 }
 
 // An event's name.
-fn event_fields<'a>(
-    sheet: &[u8],
-    line: &[u8],
-    n: usize,
-    starts: &'a [usize; Network::EVENTS],
-    lengths: &'a [usize; Network::EVENTS],
-) -> EntryLine
-    requires { NamesIn sheet.now n starts.now lengths.now }
-    ensures { result ≡ entry_by line.now Events sheet.now
-        (parts_of n starts.now lengths.now 0 [] [] [] []) }
+fn event_fields(line: &[u8], defined: &Defined) -> Result<Entry, Cause>
+    ensures { result ≡ entry_by line.now Events defined.now.sheet.now defined.now.network.now }
 {
-    let cuts = text::cut(line);
-    if cuts.count != 1 {
-        return EntryLine::Refused(Cause::WrongFields);
-    }
-    let name = text::field(line, cuts, 0);
+    let Some(fields) = Fields::<1>::of(line) else {
+        return Err(Cause::WrongFields);
+    };
+    let name = fields.at(0);
     if !token::is_name(name) {
-        return EntryLine::Refused(Cause::IllFormedName);
+        return Err(Cause::IllFormedName);
     }
-    if lookup::is_found(lookup::event_named(sheet, n, starts, lengths, name)) {
-        return EntryLine::Refused(Cause::Duplicate);
+    if defined.event_named(name).is_some() {
+        return Err(Cause::Duplicate);
     }
-    EntryLine::Holds {
-        entry: Entry::Event,
-        length: line.len(),
-    }
+    Ok(Entry::Event)
 }
 
-// `letter,event`.
-fn signal_fields<'a>(
-    sheet: &[u8],
-    line: &[u8],
-    n: usize,
-    starts: &'a [usize; Network::EVENTS],
-    lengths: &'a [usize; Network::EVENTS],
-    k: usize,
-    letters: &'a [u8; Network::SIGNALS],
-    observations: &'a [usize; Network::SIGNALS],
-) -> EntryLine
-    requires { NamesIn sheet.now n starts.now lengths.now × (k ≤ L.signals) }
-    ensures { result ≡ entry_by line.now Signals sheet.now
-        (parts_of n starts.now lengths.now k letters.now observations.now []
-        []) }
+// The two fields of a signal are well formed.
+fn is_signal(letter: &[u8], event: &[u8]) -> bool
+    ensures { result ≡ is_one_letter_lem letter.now && is_name_lem event.now }
 {
-    let cuts = text::cut(line);
-    if cuts.count != 2 {
-        return EntryLine::Refused(Cause::WrongFields);
-    }
-    let f = text::field(line, cuts, 0);
-    let name = text::field(line, cuts, 1);
-    let letter = token::first(f);
-    let event = lookup::event_named(sheet, n, starts, lengths, name);
-    let named = Test {
-        passes: field::is_signal(f, name),
-        cause: Cause::IllFormedName,
-    };
-    let fresh = Test {
-        passes: field::is_fresh(k, letters, observations, letter, event),
-        cause: Cause::Duplicate,
-    };
-    let defined = Test {
-        passes: lookup::is_found(event),
-        cause: Cause::Undefined,
-    };
-    let check = field::first_failing(named, fresh, defined);
-    match check {
-        Check::Refused(cause) => EntryLine::Refused(cause),
-        Check::Passed => EntryLine::Holds {
-            entry: Entry::Signal {
-                letter,
-                observation: lookup::place_or(event),
-            },
-            length: line.len(),
-        },
-    }
+    token::is_one_letter(letter) && token::is_name(event)
 }
 
-// The ends and the label of a rule, and the rule.
-fn rule_ends<'a>(
-    sheet: &[u8],
-    from: &[u8],
-    to: &[u8],
-    label: &[u8],
-    n: usize,
-    starts: &'a [usize; Network::EVENTS],
-    lengths: &'a [usize; Network::EVENTS],
-    k: usize,
-    letters: &'a [u8; Network::SIGNALS],
-    kind: Kind,
-    bound: i32,
-    length: usize,
-) -> EntryLine
-    requires { NamesIn sheet.now n starts.now lengths.now × (k ≤ L.signals) }
-    ensures { result ≡ ends_answer sheet.now (parts_of n starts.now lengths.now k
-        letters.now [] [] []) from.now to.now label.now kind bound length }
+// `letter,event`. An event that is not defined gives no signal, so that what it gives is asked once it is found.
+fn signal_fields(line: &[u8], defined: &Defined) -> Result<Entry, Cause>
+    ensures { result ≡ entry_by line.now Signals defined.now.sheet.now defined.now.network.now }
 {
-    let t = token::literals_of(label);
-    let a = lookup::event_named(sheet, n, starts, lengths, from);
-    let b = lookup::event_named(sheet, n, starts, lengths, to);
-    let formed = Test {
-        passes: field::is_rule(from, to, label),
-        cause: Cause::IllFormedName,
+    let Some(fields) = Fields::<2>::of(line) else {
+        return Err(Cause::WrongFields);
     };
-    let known = Test {
-        passes: field::are_defined(a, b, t, k, letters),
-        cause: Cause::Undefined,
-    };
-    let unlike = Test {
-        passes: label::is_distinct(t),
-        cause: Cause::RepeatedLetter,
-    };
-    let check = field::first_failing(formed, known, unlike);
-    match check {
-        Check::Refused(cause) => EntryLine::Refused(cause),
-        Check::Passed => EntryLine::Holds {
-            entry: Entry::Rule(Constraint {
-                kind,
-                from: lookup::place_or(a),
-                to: lookup::place_or(b),
-                bound,
-                label: label::mask_of(k, letters, t),
-            }),
-            length,
-        },
+    let field = fields.at(0);
+    let event = fields.at(1);
+    if !is_signal(field, event) {
+        return Err(Cause::IllFormedName);
     }
+    let letter = token::first(field);
+    if defined.place_of(letter).is_some() {
+        return Err(Cause::Duplicate);
+    }
+    let observation = defined.event_named(event).ok_or(Cause::Undefined)?;
+    if defined.gives_signal(observation) {
+        return Err(Cause::Duplicate);
+    }
+    Ok(Entry::Signal {
+        letter,
+        observation,
+    })
+}
+
+// The label that a field says: its letters are defined, and none stands twice.
+fn label_in(field: &[u8], defined: &Defined) -> Result<Label, Cause>
+    ensures { result ≡ passing (letters_tests defined.now.network.now field.now)
+        (mask_of defined.now.network.now.signals defined.now.network.now.letters (label_of field.now)) }
+{
+    let literals = token::literals_of(field);
+    if !label::all_defined(literals, defined) {
+        return Err(Cause::Undefined);
+    }
+    if !label::is_distinct(literals) {
+        return Err(Cause::RepeatedLetter);
+    }
+    Ok(label::mask_of(literals, defined))
+}
+
+// The ends and the label of a rule are well formed.
+fn is_rule(from: &[u8], to: &[u8], label: &[u8]) -> bool
+    ensures { result ≡ is_name_lem from.now && (is_name_lem to.now && is_label_lem label.now) }
+{
+    token::is_name(from) && token::is_name(to) && token::is_label(label)
 }
 
 // `kind,from,to,limit,label`.
-fn rule_fields<'a>(
-    sheet: &[u8],
-    line: &[u8],
-    n: usize,
-    starts: &'a [usize; Network::EVENTS],
-    lengths: &'a [usize; Network::EVENTS],
-    k: usize,
-    letters: &'a [u8; Network::SIGNALS],
-) -> EntryLine
-    requires { NamesIn sheet.now n starts.now lengths.now × (k ≤ L.signals) }
-    ensures { result ≡ entry_by line.now Rules sheet.now
-        (parts_of n starts.now lengths.now k letters.now [] [] []) }
+fn rule_fields(line: &[u8], defined: &Defined) -> Result<Entry, Cause>
+    ensures { result ≡ entry_by line.now Rules defined.now.sheet.now defined.now.network.now }
 {
-    let cuts = text::cut(line);
-    if cuts.count != 5 {
-        return EntryLine::Refused(Cause::WrongFields);
-    }
-    let found = field::kind_of(text::field(line, cuts, 0));
-    let KindField::Is(kind) = found else {
-        return EntryLine::Refused(Cause::WrongFields);
+    let Some(fields) = Fields::<5>::of(line) else {
+        return Err(Cause::WrongFields);
     };
-    let limit = field::limit_of(text::field(line, cuts, 3));
-    match limit {
-        Limit::IllFormed => EntryLine::Refused(Cause::IllFormedNumber),
-        Limit::Beyond => EntryLine::Refused(Cause::OutOfRange),
-        Limit::Minutes(bound) => rule_ends(
-            sheet,
-            text::field(line, cuts, 1),
-            text::field(line, cuts, 2),
-            text::field(line, cuts, 4),
-            n,
-            starts,
-            lengths,
-            k,
-            letters,
-            kind,
-            bound,
-            line.len(),
-        ),
+    let kind = field::kind_of(fields.at(0)).ok_or(Cause::WrongFields)?;
+    let bound = field::limit_of(fields.at(3))?;
+    let first = fields.at(1);
+    let second = fields.at(2);
+    let field = fields.at(4);
+    if !is_rule(first, second, field) {
+        return Err(Cause::IllFormedName);
     }
+    let from = defined.event_named(first).ok_or(Cause::Undefined)?;
+    let to = defined.event_named(second).ok_or(Cause::Undefined)?;
+    let label = label_in(field, defined)?;
+    Ok(Entry::Rule(Constraint {
+        kind,
+        from,
+        to,
+        bound,
+        label,
+    }))
 }
 
-// The letter of a reaction, and the reaction.
-fn reaction_letter<'a>(
-    f: &[u8],
-    k: usize,
-    letters: &'a [u8; Network::SIGNALS],
-    reactions: &'a [u16; Network::SIGNALS],
-    minutes: u16,
-    length: usize,
-) -> EntryLine
-    requires { k ≤ L.signals }
-    ensures { result ≡ letter_answer (parts_of 0 [] [] k letters.now [] reactions.now [])
-        f.now minutes length }
+// `letter,minutes`. A signal that is not defined has no line, so that its line is asked for once it is found.
+fn reaction_fields(line: &[u8], defined: &Defined) -> Result<Entry, Cause>
+    ensures { result ≡ entry_by line.now Reactions defined.now.sheet.now defined.now.network.now }
 {
-    let signal = lookup::place_of(k, letters, token::first(f));
-    let named = Test {
-        passes: token::is_one_letter(f),
-        cause: Cause::IllFormedName,
+    let Some(fields) = Fields::<2>::of(line) else {
+        return Err(Cause::WrongFields);
     };
-    let fresh = Test {
-        passes: field::is_unsaid(reactions, signal),
-        cause: Cause::Duplicate,
-    };
-    let defined = Test {
-        passes: lookup::is_found(signal),
-        cause: Cause::Undefined,
-    };
-    let check = field::first_failing(named, fresh, defined);
-    match check {
-        Check::Refused(cause) => EntryLine::Refused(cause),
-        Check::Passed => EntryLine::Holds {
-            entry: Entry::Reaction {
-                signal: lookup::place_or(signal),
-                minutes,
-            },
-            length,
-        },
+    let minutes = field::count_of(fields.at(1), Network::FASTEST, Network::SLOWEST)?;
+    let letter = fields.at(0);
+    if !token::is_one_letter(letter) {
+        return Err(Cause::IllFormedName);
     }
+    let signal = defined
+        .place_of(token::first(letter))
+        .ok_or(Cause::Undefined)?;
+    if defined.network.reactions[signal] != 0 {
+        return Err(Cause::Duplicate);
+    }
+    Ok(Entry::Reaction { signal, minutes })
 }
 
-// `letter,minutes`.
-fn reaction_fields<'a>(
-    line: &[u8],
-    k: usize,
-    letters: &'a [u8; Network::SIGNALS],
-    reactions: &'a [u16; Network::SIGNALS],
-) -> EntryLine
-    requires { k ≤ L.signals }
-    ensures { (sheet : List ℕ) → result ≡ entry_by line.now Reactions sheet
-        (parts_of 0 [] [] k letters.now [] reactions.now []) }
+// An event's name and its label are well formed.
+fn is_placed(name: &[u8], label: &[u8]) -> bool
+    ensures { result ≡ is_name_lem name.now && is_label_lem label.now }
 {
-    let cuts = text::cut(line);
-    if cuts.count != 2 {
-        return EntryLine::Refused(Cause::WrongFields);
-    }
-    let read = field::count_of(
-        text::field(line, cuts, 1),
-        Network::FASTEST as u32,
-        Network::SLOWEST as u32,
-        line.len(),
-    );
-    match read {
-        HeadingLine::Refused(cause) => EntryLine::Refused(cause),
-        HeadingLine::Count { count, length } => reaction_letter(
-            text::field(line, cuts, 0),
-            k,
-            letters,
-            reactions,
-            count as u16,
-            length,
-        ),
-    }
+    token::is_name(name) && token::is_label(label)
 }
 
-// An event by its name, with its label.
-fn label_entry<'a>(
-    sheet: &[u8],
-    name: &[u8],
-    label: &[u8],
-    n: usize,
-    starts: &'a [usize; Network::EVENTS],
-    lengths: &'a [usize; Network::EVENTS],
-    k: usize,
-    letters: &'a [u8; Network::SIGNALS],
-    labelled: &'a [bool; Network::EVENTS],
-    length: usize,
-) -> EntryLine
-    requires { NamesIn sheet.now n starts.now lengths.now × (k ≤ L.signals) }
-    ensures { result ≡ placed_answer sheet.now (parts_of n starts.now lengths.now k
-        letters.now [] [] labelled.now) name.now label.now length }
+// `event,label`. An event that is not defined has no line, so that its line is asked for once it is found.
+fn label_fields(line: &[u8], defined: &Defined) -> Result<Entry, Cause>
+    ensures { result ≡ entry_by line.now Cases defined.now.sheet.now defined.now.network.now }
 {
-    if !field::is_placed(name, label) {
-        return EntryLine::Refused(Cause::IllFormedName);
+    let Some(fields) = Fields::<2>::of(line) else {
+        return Err(Cause::WrongFields);
+    };
+    let name = fields.at(0);
+    let field = fields.at(1);
+    if !is_placed(name, field) {
+        return Err(Cause::IllFormedName);
     }
-    let t = token::literals_of(label);
-    let event = lookup::event_named(sheet, n, starts, lengths, name);
-    let fresh = Test {
-        passes: field::is_unlabelled(labelled, event),
-        cause: Cause::Duplicate,
-    };
-    let known = Test {
-        passes: field::is_defined(event, t, k, letters),
-        cause: Cause::Undefined,
-    };
-    let unlike = Test {
-        passes: label::is_distinct(t),
-        cause: Cause::RepeatedLetter,
-    };
-    let check = field::first_failing(fresh, known, unlike);
-    match check {
-        Check::Refused(cause) => EntryLine::Refused(cause),
-        Check::Passed => EntryLine::Holds {
-            entry: Entry::Label {
-                event: lookup::place_or(event),
-                label: label::mask_of(k, letters, t),
-            },
-            length,
-        },
+    let event = defined.event_named(name).ok_or(Cause::Undefined)?;
+    if defined.network.labelled[event] {
+        return Err(Cause::Duplicate);
     }
+    let label = label_in(field, defined)?;
+    Ok(Entry::Label { event, label })
 }
 
-// `event,label`.
-fn label_fields<'a>(
-    sheet: &[u8],
-    line: &[u8],
-    n: usize,
-    starts: &'a [usize; Network::EVENTS],
-    lengths: &'a [usize; Network::EVENTS],
-    k: usize,
-    letters: &'a [u8; Network::SIGNALS],
-    labelled: &'a [bool; Network::EVENTS],
-) -> EntryLine
-    requires { NamesIn sheet.now n starts.now lengths.now × (k ≤ L.signals) }
-    ensures { result ≡ entry_by line.now Cases sheet.now
-        (parts_of n starts.now lengths.now k letters.now [] [] labelled.now) }
+// A line of a section, by its fields.
+fn fields_of(section: Section, line: &[u8], defined: &Defined) -> Result<Entry, Cause>
+    ensures { result ≡ entry_by line.now section defined.now.sheet.now defined.now.network.now }
 {
-    let cuts = text::cut(line);
-    if cuts.count != 2 {
-        return EntryLine::Refused(Cause::WrongFields);
-    }
-    label_entry(
-        sheet,
-        text::field(line, cuts, 0),
-        text::field(line, cuts, 1),
-        n,
-        starts,
-        lengths,
-        k,
-        letters,
-        labelled,
-        line.len(),
-    )
-}
-
-// A line of a section.
-pub fn entry_at<'a>(
-    section: Section,
-    sheet: &[u8],
-    rest: &[u8],
-    n: usize,
-    starts: &'a [usize; Network::EVENTS],
-    lengths: &'a [usize; Network::EVENTS],
-    k: usize,
-    letters: &'a [u8; Network::SIGNALS],
-    observations: &'a [usize; Network::SIGNALS],
-    reactions: &'a [u16; Network::SIGNALS],
-    labelled: &'a [bool; Network::EVENTS],
-) -> EntryLine
-    requires { NamesIn sheet.now n starts.now lengths.now × (k ≤ L.signals) }
-    ensures { result ≡ entry_at rest.now section sheet.now
-        (parts_of n starts.now lengths.now k letters.now observations.now
-        reactions.now labelled.now) }
-{
-    let e = text::until(rest, b'\n');
-    if e == rest.len() {
-        return EntryLine::Refused(Cause::MissingLine);
-    }
-    let line = &rest[..e];
     match section {
-        Section::Events => event_fields(sheet, line, n, starts, lengths),
-        Section::Signals => signal_fields(
-            sheet,
-            line,
-            n,
-            starts,
-            lengths,
-            k,
-            letters,
-            observations,
-        ),
-        Section::Rules => rule_fields(sheet, line, n, starts, lengths, k, letters),
-        Section::Reactions => reaction_fields(line, k, letters, reactions),
-        Section::Cases => label_fields(sheet, line, n, starts, lengths, k, letters, labelled),
+        Section::Events => event_fields(line, defined),
+        Section::Signals => signal_fields(line, defined),
+        Section::Rules => rule_fields(line, defined),
+        Section::Reactions => reaction_fields(line, defined),
+        Section::Cases => label_fields(line, defined),
     }
+}
+
+// The line of a section that begins here.
+pub fn entry_at(section: Section, rest: &[u8], defined: &Defined) -> Result<Line, Cause>
+    ensures { result ≡ entry_at rest.now section defined.now.sheet.now defined.now.network.now }
+{
+    let line = field::line_of(rest)?;
+    let entry = fields_of(section, line, defined)?;
+    Ok(Line {
+        entry,
+        length: line.len(),
+    })
 }

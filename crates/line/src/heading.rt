@@ -4,47 +4,55 @@ ghost use Rattle.network.specs.Limits as L;
 ghost use Rattle.line.specs.Sections.{heading_of_lem};
 ghost use Rattle.line.specs.Answers.{section_by, section_at, heading_at};
 
-use super::{HeadingLine, Section};
+use super::Section;
 use crate::field;
 use network::Network;
 use refusal::Cause;
+use text::split::Fields;
 
-// A section's line: its word, and its count from lo to hi.
-fn section_fields(line: &[u8], word: &[u8], lo: u32, hi: u32) -> HeadingLine
+// What such a line says: its count, and how long it is without its line feed.
+#[derive(Clone, Copy)]
+pub struct CountLine {
+    pub count: u16,
+    pub length: usize,
+}
+
+// The count of a section, from lo to hi, on a line with its word.
+fn section_fields(line: &[u8], word: &[u8], lo: u16, hi: u16) -> Result<u16, Cause>
     requires { hi ≤ L.horizon }
     ensures { result ≡ section_by line.now word.now lo hi }
 {
-    let cuts = text::cut(line);
-    if cuts.count != 2 {
-        return HeadingLine::Refused(Cause::WrongFields);
+    let Some(fields) = Fields::<2>::of(line) else {
+        return Err(Cause::WrongFields);
+    };
+    if fields.at(0) != word {
+        return Err(Cause::WrongFields);
     }
-    if !text::equal(text::field(line, cuts, 0), word) {
-        return HeadingLine::Refused(Cause::WrongFields);
-    }
-    field::count_of(text::field(line, cuts, 1), lo, hi, line.len())
+    field::count_of(fields.at(1), lo, hi)
 }
 
-pub fn section_line(rest: &[u8], word: &[u8], lo: u32, hi: u32) -> HeadingLine
+pub fn section_line(rest: &[u8], word: &[u8], lo: u16, hi: u16) -> Result<CountLine, Cause>
     requires { hi ≤ L.horizon }
     ensures { result ≡ section_at rest.now word.now lo hi }
 {
-    let e = text::until(rest, b'\n');
-    if e == rest.len() {
-        return HeadingLine::Refused(Cause::MissingLine);
-    }
-    section_fields(&rest[..e], word, lo, hi)
+    let line = field::line_of(rest)?;
+    let count = section_fields(line, word, lo, hi)?;
+    Ok(CountLine {
+        count,
+        length: line.len(),
+    })
 }
 
 // The line that a section begins with, on a sheet of n events.
-pub fn heading_of(section: Section, n: usize, rest: &[u8]) -> HeadingLine
+pub fn heading_of(section: Section, n: usize, rest: &[u8]) -> Result<CountLine, Cause>
     requires { n ≤ L.events }
     ensures { result ≡ heading_at rest.now (heading_of_lem n section) }
 {
     match section {
-        Section::Events => section_line(rest, b"events", 1, Network::EVENTS as u32),
-        Section::Signals => section_line(rest, b"signals", 0, Network::SIGNALS as u32),
-        Section::Rules => section_line(rest, b"rules", 0, Network::RULES as u32),
-        Section::Reactions => section_line(rest, b"reactions", 0, Network::SIGNALS as u32),
-        Section::Cases => section_line(rest, b"cases", 0, n as u32),
+        Section::Events => section_line(rest, b"events", 1, Network::EVENTS as u16),
+        Section::Signals => section_line(rest, b"signals", 0, Network::SIGNALS as u16),
+        Section::Rules => section_line(rest, b"rules", 0, Network::RULES as u16),
+        Section::Reactions => section_line(rest, b"reactions", 0, Network::SIGNALS as u16),
+        Section::Cases => section_line(rest, b"cases", 0, n as u16),
     }
 }

@@ -2,18 +2,15 @@
 use mathlib.Core.List.{List}
 use Prim.Native.Nat.{ℕ}
 use native.Mathlib.Omega.{arith}
-use Rattle.network.specs.Build.{scenarios}
 use Rattle.network.specs.declared.Network.{Network}
 use Rattle.listing.specs.Listing.{header, listing}
-use Rattle.listing.specs.Line.{line_of}
+use Rattle.listing.specs.Line.{lines_of}
 use Rattle.listing.specs.Most.{most_header, most_lines, most_listing}
-use Rattle.page.specs.Joined.{join_from}
-use Rattle.page.specs.Appended.{Appended}
-use Rattle.page.proofs.Append.{append_then}
+use Rattle.page.specs.Pushed.{Pushed}
+use Rattle.page.proofs.Pushed.{pushed_then}
 
-pub listing_appended : (sheet : List ℕ) (Γ : Network) (σ : List ℕ) {b m a : List ℕ} {r e : ℕ}
-    → Appended most_header b 0 (header sheet Γ) m r
-    → Appended most_lines m r (join_from 0 (scenarios Γ) (line_of Γ.signals Γ.events σ)) a e
-    → Appended most_listing b 0 (listing sheet Γ σ) a e
+pub listing_pushed : (sheet : List ℕ) (Γ : Network) (σ : List ℕ) {b m a : List ℕ}
+    → Pushed most_header b (header sheet Γ) m → Pushed most_lines m (lines_of Γ σ) a
+    → Pushed most_listing b (listing sheet Γ σ) a
 unfolding listing
-listing_appended sheet Γ σ f g = append_then f g (omega arith)
+listing_pushed sheet Γ σ f g = pushed_then f g (omega arith)

@@ -1,3 +1,3 @@
--- What the loops over tables keep, cell by cell.
+-- Tables that rounds may go from; what is found of slices of tables.
 pub mod Moves
-pub mod Levels
+pub mod Fronts

@@ -7,9 +7,12 @@ pub record Some (d : List ℕ) (cells : ℕ) : Type 0 where
   pub inside : cell < cells
   pub up : 0 < get_or d cell 0
 
--- r is the least level above l; where none is, r is 0
+-- no level is above l
+pub record Highest (d : List ℕ) (l cells : ℕ) : Type 0 where
+  pub none : (i : ℕ) → i < cells → get_or d i 0 ≤ l
+
+-- r is the least level above l
 pub record NextLevel (d : List ℕ) (l cells r : ℕ) : Type 0 where
-  pub none : r ≡ 0 → (i : ℕ) → i < cells → get_or d i 0 ≤ l
-  pub more : (r ≡ 0 → ⊥) → l < r
-  pub between : (r ≡ 0 → ⊥) → (i : ℕ) → i < cells → (get_or d i 0 ≤ l) ⊎ (r ≤ get_or d i 0)
-  pub found : (r ≡ 0 → ⊥) → (i : ℕ) × (i < cells) × (get_or d i 0 ≡ r)
+  pub more : l < r
+  pub between : (i : ℕ) → i < cells → (get_or d i 0 ≤ l) ⊎ (r ≤ get_or d i 0)
+  pub found : (i : ℕ) × (i < cells) × (get_or d i 0 ≡ r)

@@ -1,64 +1,37 @@
 // Tables moved on: each time by j times a part of its rise. Rises stand in tables like times, and a level is one of
-// their values. Nothing here knows of rounds. A test that says true promises what it tested; one that says false
-// promises nothing.
+// their values; a slice has the times or rises of the cells that count. Nothing here knows of rounds. A test that says
+// true promises what it tested; one that says false promises nothing.
 #![tactic(auto)]
 
-ghost use Rattle.std.specs.Prelude.{◌≡◌, true, ◌+◌, ◌-◌, ◌*◌, ◌%◌, ◌≤◌, ◌<◌, min, length, get_or};
+ghost use Rattle.std.specs.Prelude.{◌≡◌, true, ◌+◌, ◌-◌, ◌*◌, ◌%◌, ◌≤◌, ◌<◌, length, get_or, replicate};
+ghost use Rattle.std.specs.Prelude.{MatchOption, IfSome};
 ghost use Rattle.network.specs.Limits as L;
 ghost use Rattle.rows.specs.Rows.{Wrote};
 ghost use Rattle.moves.specs.Moves.{part_of, Placed, Between, Clipped};
-ghost use Rattle.moves.specs.Levels.{NextLevel};
+ghost use Rattle.moves.specs.Levels.{Highest, NextLevel};
 
 use network::Network;
-
-fn above(b: u16, a: u16) -> u16
-    ensures { result ≡ b - a }
-{
-    if a < b {
-        return b - a;
-    }
-    0
-}
+use rows::Table;
 
 // How far each time of x is above t's.
-pub fn rise(
-    t: &[u16; Network::CELLS],
-    x: &[u16; Network::CELLS],
-    d: &mut [u16; Network::CELLS],
-    cells: usize,
-)
-    requires { (cells ≤ L.cells) × (length d.old ≡ L.cells) }
-    ensures { Wrote d.old d.new 0 cells
+pub fn rise(t: &[u16], x: &[u16]) -> Table
+    requires { (length t.now ≤ L.cells) × (length x.now ≡ length t.now) }
+    ensures { Wrote (replicate L.cells 0) result 0 (length t.now)
         (λ i. get_or x.now i 0 - get_or t.now i 0) }
 {
-    let mut i: usize = 0;
-    while i < cells {
-        d[i] = above(x[i], t[i]);
-        i += 1;
+    let mut d = [0; Network::CELLS];
+    for i in 0..t.len() {
+        d[i] = x[i].saturating_sub(t[i]);
     }
+    d
 }
 
-// The first cells of b into a.
-pub fn copy(b: &[u16; Network::CELLS], a: &mut [u16; Network::CELLS], cells: usize)
-    requires { (cells ≤ L.cells) × (length a.old ≡ L.cells) }
-    ensures { Wrote a.old a.new 0 cells (λ i. get_or b.now i 0) }
+// The times of b into the first cells of a.
+pub fn copy(b: &[u16], a: &mut Table)
+    requires { length b.now ≤ L.cells }
+    ensures { Wrote a.old a.new 0 (length b.now) (λ i. get_or b.now i 0) }
 {
-    let mut i: usize = 0;
-    while i < cells {
-        a[i] = b[i];
-        i += 1;
-    }
-}
-
-// What of the rise d is above lo, and at most hi of that.
-fn part(d: u16, lo: u16, hi: u16) -> u16
-    ensures { result ≡ part_of lo hi d }
-{
-    let more = above(d, lo);
-    if hi < more {
-        return hi;
-    }
-    more
+    a[..b.len()].copy_from_slice(b);
 }
 
 // The time t moved on j times by e.
@@ -66,145 +39,118 @@ pub fn reached(t: u16, e: u16, j: u32) -> u32
     requires { (e ≤ L.horizon) × (j ≤ L.horizon) }
     ensures { result ≡ t + j * e }
 {
-    t as u32 + j * e as u32
+    u32::from(t) + j * u32::from(e)
 }
 
-// Whether the cell i may have the time v: event 0 stays at 0.
-fn fits(v: u32, i: usize, horizon: u16) -> bool
-    ensures { result ≡ true → (v ≤ horizon) × (i % L.events ≡ 0 → v ≡ 0) }
-{
-    if (horizon as u32) < v {
-        return false;
-    }
-    if i % Network::EVENTS == 0 {
-        return v == 0;
-    }
-    true
-}
-
-// t moved on j times by the part of its rises d between lo and hi; whether it is within the limits.
-pub fn place(
-    t: &[u16; Network::CELLS],
-    d: &[u16; Network::CELLS],
+// What of a rise is above lo, and at most hi of that.
+#[derive(Clone, Copy)]
+pub struct Part {
     lo: u16,
     hi: u16,
-    j: u32,
-    horizon: u16,
-    cells: usize,
-    o: &mut [u16; Network::CELLS],
-) -> bool
-    requires { (cells ≤ L.cells) × (length o.old ≡ L.cells) × (j ≤ L.horizon) × (hi ≤ L.horizon) }
-    ensures { (length o.new ≡ L.cells)
-        × (result ≡ true → Placed t.now d.now lo hi j horizon cells o.new) }
-{
-    let mut i: usize = 0;
-    while i < cells {
-        let e = part(d[i], lo, hi);
-        let v = reached(t[i], e, j);
-        if !fits(v, i, horizon) {
-            return false;
+    pub ghost small: { hi ≤ L.horizon },
+}
+
+impl Part {
+    pub fn above(l: u16) -> Self
+        ensures { (result.lo ≡ l) × (result.hi ≡ L.horizon) }
+    {
+        Part {
+            lo: l,
+            hi: Network::HORIZON,
         }
-        o[i] = v as u16;
-        i += 1;
     }
-    true
-}
 
-// The lesser of a and r, of those that are more than l; r is more, or 0.
-fn nearer(a: u16, l: u16, r: u16) -> u16
-    ensures { (a ≤ l → result ≡ r) × (l < a → r ≡ 0 → result ≡ a) × (l < a → 0 < r → result ≡ min a r) }
-{
-    if a <= l {
-        return r;
+    pub fn up_to(l: u16) -> Self
+        requires { l ≤ L.horizon }
+        ensures { (result.lo ≡ 0) × (result.hi ≡ l) }
+    {
+        Part { lo: 0, hi: l }
     }
-    if r == 0 {
-        return a;
-    }
-    if r < a {
-        return r;
-    }
-    a
-}
 
-// The least level above l, or 0.
-pub fn next_level(d: &[u16; Network::CELLS], l: u16, cells: usize) -> u16
-    requires { cells ≤ L.cells }
-    ensures { NextLevel d.now l cells result }
-{
-    let mut r: u16 = 0;
-    let mut i: usize = 0;
-    while i < cells {
-        r = nearer(d[i], l, r);
-        i += 1;
-    }
-    r
-}
-
-// Whether the time o is at least `low` and at most `high` after t, if the rise d is l.
-fn is_between(t: u16, d: u16, l: u16, low: u32, high: u32, o: u16) -> bool
-    requires { (low ≤ 200000000) × (high ≤ 200000000) }
-    ensures { result ≡ true → d ≡ l → (t + low ≤ o) × (o ≤ t + high) }
-{
-    if d != l {
-        return true;
-    }
-    if (o as u32) < t as u32 + low {
-        return false;
-    }
-    if t as u32 + high < o as u32 {
-        return false;
-    }
-    true
-}
-
-// Whether each time whose rise is l has gone at least `low` and at most `high` from t to o.
-pub fn between(
-    t: &[u16; Network::CELLS],
-    d: &[u16; Network::CELLS],
-    l: u16,
-    low: u32,
-    high: u32,
-    o: &[u16; Network::CELLS],
-    cells: usize,
-) -> bool
-    requires { (cells ≤ L.cells) × (low ≤ 200000000) × (high ≤ 200000000) }
-    ensures { result ≡ true → Between t.now d.now l low high o.now cells }
-{
-    let mut i: usize = 0;
-    while i < cells {
-        if !is_between(t[i], d[i], l, low, high, o[i]) {
-            return false;
+    // Where j moves take the time t of cell i, whose rise is d, if that is within the limits.
+    fn moved(&self, i: usize, t: u16, d: u16, j: u32, horizon: u16) -> Option<u16>
+        requires { j ≤ L.horizon }
+        ensures { IfSome result
+            (λ v. (v ≡ t + j * part_of self.now.lo self.now.hi d) × (v ≤ horizon)
+            × (i % L.events ≡ 0 → v ≡ 0)) }
+    {
+        let v = reached(t, d.saturating_sub(self.lo).min(self.hi), j);
+        // event 0 stays at 0
+        if v <= u32::from(horizon) && (i % Network::EVENTS != 0 || v == 0) {
+            // at most the horizon
+            return Some(v as u16);
         }
-        i += 1;
+        None
     }
-    true
+
+    // The times t moved on j times by these parts of their rises d, if they stay within the limits.
+    pub fn place(&self, t: &[u16], d: &[u16], j: u32, horizon: u16) -> Option<Table>
+        requires { (length t.now ≤ L.cells) × (length d.now ≡ length t.now) × (j ≤ L.horizon) }
+        ensures { IfSome result
+            (λ o. (length o ≡ L.cells)
+            × Placed t.now d.now self.now.lo self.now.hi j horizon (length t.now) o) }
+    {
+        let mut o = [0; Network::CELLS];
+        for i in 0..t.len() {
+            o[i] = self.moved(i, t[i], d[i], j, horizon)?;
+        }
+        Some(o)
+    }
+}
+
+// The least level above l.
+pub fn next_level(d: &[u16], l: u16) -> Option<u16>
+    ensures { MatchOption result (Highest d.now l (length d.now))
+        (λ r. NextLevel d.now l (length d.now) r) }
+{
+    let mut next = None;
+    for rise in d {
+        if l < *rise && next.is_none_or(|least| *rise < least) {
+            next = Some(*rise);
+        }
+    }
+    next
+}
+
+// At least so many minutes and at most so many.
+#[derive(Clone, Copy)]
+pub struct Span {
+    pub least: u32,
+    pub most: u32,
+}
+
+impl Span {
+    // Whether the time o is so far after t.
+    fn is_between(&self, t: u16, o: u16) -> bool
+        ensures { result ≡ true → (t + self.now.least ≤ o) × (o ≤ t + self.now.most) }
+    {
+        match o.checked_sub(t) {
+            Some(gone) => self.least <= u32::from(gone) && u32::from(gone) <= self.most,
+            None => false,
+        }
+    }
+
+    // Whether each time whose rise is l has gone so far from t to o.
+    pub fn between(&self, t: &[u16], o: &[u16], d: &[u16], l: u16) -> bool
+        requires { (length o.now ≡ length t.now) × (length d.now ≡ length t.now) }
+        ensures { result ≡ true → Between t.now d.now l self.now.least self.now.most o.now (length t.now) }
+    {
+        t.iter()
+            .zip(o)
+            .zip(d)
+            .all(|((t, o), d)| *d != l || self.is_between(*t, *o))
+    }
 }
 
 // The highest rise stays, none stays none, and any other becomes m: bounds that are guessed, so no more is promised
 // than that rounds may go from what they are.
-fn clip_one(d: u16, top: u16, m: u16) -> u16
-    requires { m ≤ L.horizon }
-    ensures { (d ≤ L.horizon → result ≤ L.horizon) × (d ≡ 0 → result ≡ 0) }
+pub fn clip(d: &[u16], top: u16, m: u16) -> Table
+    requires { (length d.now ≤ L.cells) × (m ≤ L.horizon) }
+    ensures { Clipped d.now (length d.now) result }
 {
-    if d == 0 || d == top {
-        return d;
+    let mut o = [0; Network::CELLS];
+    for i in 0..d.len() {
+        o[i] = if d[i] == 0 || d[i] == top { d[i] } else { m };
     }
-    m
-}
-
-pub fn clip(
-    d: &[u16; Network::CELLS],
-    top: u16,
-    m: u16,
-    o: &mut [u16; Network::CELLS],
-    cells: usize,
-)
-    requires { (cells ≤ L.cells) × (length o.old ≡ L.cells) × (m ≤ L.horizon) }
-    ensures { Clipped d.now cells o.new }
-{
-    let mut i: usize = 0;
-    while i < cells {
-        o[i] = clip_one(d[i], top, m);
-        i += 1;
-    }
+    o
 }

@@ -1,21 +1,20 @@
 -- Laws of names, letters and labels, byte by byte: a scan of f that has come to i is about `drop i f`. Assumes nothing.
 use mathlib.Core.Path.{◌≡◌, refl, sym, ◌∙◌, ap}
 use mathlib.Core.Logic.{inl, inr}
-use mathlib.Core.Bool.{Bool, true, false, ◌&&◌, ◌||◌, not, cond, beq, and-true, and-false}
+use mathlib.Core.Bool.{Bool, true, false, ◌||◌, not, cond, beq, and-false}
 use mathlib.Core.List.{List, [], ◌∷◌}
 use Prim.Native.Nat.{ℕ, suc, ◌+◌, ◌≤◌, ◌<◌}
 use native.Mathlib.Omega.{arith}
 use borrow.Author.Tests.{leb-true, le-leb, lt-leb, eq-eqb, ne_eqb}
 use lib.Dec.{eqb, leb}
 use lib.ListN.{length, get_or, drop}
-use Rattle.prelude.specs.Search.{answers}
-use Rattle.prelude.specs.Bytes.{every, is_in, distinct}
+use Rattle.std.specs.List.{list_all}
+use Rattle.prelude.specs.Bytes.{is_in, distinct}
 use Rattle.prelude.proofs.Tests.{and-true as and_parts, clash, lt_or_ge, eq_or_ne}
-use Rattle.text.specs.Number.{is_digit}
-use Rattle.text.proofs.Lines.{drop_here, drop-end}
-use Rattle.names.specs.Names.{is_letter_lem, is_name_lem, are_literals_lem, literals, letters_of}
-use Rattle.names.specs.Defined.{place_of, all_defined_lem, weight, weights}
-use Rattle.names.specs.Scan.{may_follow_lem, added_by_lem}
+use Rattle.text.proofs.Lines.{drop_here}
+use Rattle.names.specs.Names.{is_letter_lem, is_name_lem, literals, letters_of}
+use Rattle.names.specs.Defined.{all_defined_lem, weight, weights}
+use Rattle.names.specs.Scan.{is_met_lem, added_by_lem}
 
 -- letters
 pub letter-bounds : (b : ℕ) → is_letter_lem b ≡ true → (97 ≤ b) × (b ≤ 122)
@@ -27,16 +26,7 @@ letter-low b h = rw (lt-leb 97 b h)
 pub letter-from : (b : ℕ) → 97 ≤ b → is_letter_lem b ≡ leb b 122
 letter-from b h = rw (le-leb 97 b h)
 
-pub digit_low : (b : ℕ) → b < 48 → is_digit b ≡ false
-digit_low b h = rw (lt-leb 48 b h)
-
-pub digit-from : (b : ℕ) → 48 ≤ b → is_digit b ≡ leb b 57
-digit-from b h = rw (le-leb 48 b h)
-
 -- names
-abbrev pub is_later_lem : ℕ → Bool
-is_later_lem b = is_letter_lem b || is_digit b
-
 pub name-empty : (f : List ℕ) → length f ≡ 0 → is_name_lem f ≡ false
 name-empty [] h = refl
 name-empty (b ∷ s) h = absurd (omega arith)
@@ -47,54 +37,6 @@ name_long (b ∷ s) h = rw (lt-leb (suc (length s)) 8 h, and-false, and-false)
 
 pub name-short : (f : List ℕ) → is_name_lem f ≡ true → length f ≤ 8
 name-short f e = elim (lt_or_ge 8 (length f)) [ inl h ↦ clash (is_name_lem f) e (name_long f h) | inr h ↦ h ]
-
-pub name-first : (f : List ℕ) → is_letter_lem (get_or f 0 0) ≡ false → is_name_lem f ≡ false
-name-first [] h = refl
-name-first (b ∷ s) h = rw h
-
-pub name-rest : (f : List ℕ) → (length f ≡ 0 → ⊥) → length f ≤ 8 → is_letter_lem (get_or f 0 0) ≡ true
-    → is_name_lem f ≡ every is_later_lem (drop 1 f)
-name-rest [] h g e = absurd (h refl)
-name-rest (b ∷ s) h g e = rw (e, le-leb (suc (length s)) 8 g, and-true)
-
-module _ (t : ℕ → Bool) (f : List ℕ) (i : ℕ) where
-  pub every-on : i < length f → t (get_or f i 0) ≡ true → every t (drop i f) ≡ every t (drop (i + 1) f)
-  every-on h e = rw (drop_here f i h, e)
-
-  pub every-stop : i < length f → t (get_or f i 0) ≡ false → every t (drop i f) ≡ false
-  every-stop h e = rw (drop_here f i h, e)
-
-  pub every-end : length f ≤ i → every t (drop i f) ≡ true
-  every-end h = rw (drop-end f i h)
-
--- labels
-literals_cons : (t bang : Bool) (b : ℕ) (s : List ℕ)
-    → elim t [ true ↦ not bang && are_literals_lem true s | false ↦ is_letter_lem b && are_literals_lem false s ]
-    ≡ cond t (not bang) (is_letter_lem b) && are_literals_lem t s
-literals_cons true bang b s = refl
-literals_cons false bang b s = refl
-
-module _ (bang : Bool) (f : List ℕ) (i : ℕ) where
-  pub literals_turn : i < length f
-      → are_literals_lem bang (drop i f) ≡ may_follow_lem bang (get_or f i 0) && are_literals_lem
-      (eqb (get_or f i 0) 33) (drop (i + 1) f)
-  literals_turn h = ap (are_literals_lem bang) (drop_here f i h)
-      ∙ literals_cons (eqb (get_or f i 0) 33) bang (get_or f i 0) (drop (i + 1) f)
-
-  pub literals-on : i < length f → may_follow_lem bang (get_or f i 0) ≡ true
-      → are_literals_lem bang (drop i f) ≡ are_literals_lem (eqb (get_or f i 0) 33) (drop (i + 1) f)
-  literals-on h e = literals_turn h ∙ rw e
-
-  pub literals-stop : i < length f → may_follow_lem bang (get_or f i 0) ≡ false → are_literals_lem bang (drop i f)
-      ≡ false
-  literals-stop h e = literals_turn h ∙ rw e
-
-  pub literals_end : length f ≤ i → are_literals_lem bang (drop i f) ≡ not bang
-  literals_end h = rw (drop-end f i h)
-
-pub get_d_empty : (f : List ℕ) (i : ℕ) → length f ≡ 0 → get_or f i 0 ≡ 0
-get_d_empty [] i h = refl
-get_d_empty (b ∷ s) i h = absurd (omega arith)
 
 -- the letters of a label: a bang is none
 letters_bang : (s : List ℕ) (a b : Bool) → letters_of (literals a s) ≡ letters_of (literals b s)
@@ -132,9 +74,6 @@ module _ (t : List ℕ) (i : ℕ) where
       → letters_in (drop i t) ≡ get_or t i 0 ∷ letters_in (drop (i + 1) t)
   letters-at h n = ap letters_in (drop_here t i h) ∙ letters_cons (get_or t i 0) (drop (i + 1) t) n
 
-  pub letters-end : length t ≤ i → letters_in (drop i t) ≡ []
-  letters-end h = rw (drop-end t i h)
-
 -- a letter stands among the letters where it stands in the label
 pub is_in-letters : (b : ℕ) (s : List ℕ) → (b ≡ 33 → ⊥) → is_in b (letters_in s) ≡ is_in b s
 is_in-letters b [] n = refl
@@ -144,18 +83,18 @@ is_in-letters b (x ∷ s) n =
       | inr e ↦ ap (is_in b) (letters_cons x s e) ∙ ap (λ (t : Bool). eqb b x || t) (is_in-letters b s n)
     ]
 
-module _ (k : ℕ) (letters t : List ℕ) (i : ℕ) where
-  pub defined_skip : i < length t → get_or t i 0 ≡ 33
-      → all_defined_lem k letters (letters_in (drop i t)) ≡ all_defined_lem k letters (letters_in (drop (i + 1) t))
-  defined_skip h e = ap (all_defined_lem k letters) (letters_bang_at t i h e)
-
-  pub defined-on : i < length t → (get_or t i 0 ≡ 33 → ⊥) → answers (place_of k letters (get_or t i 0)) ≡ true
-      → all_defined_lem k letters (letters_in (drop i t)) ≡ all_defined_lem k letters (letters_in (drop (i + 1) t))
-  defined-on h n e = ap (all_defined_lem k letters) (letters-at t i h n) ∙ rw e
-
-  pub defined-stop : i < length t → (get_or t i 0 ≡ 33 → ⊥) → answers (place_of k letters (get_or t i 0)) ≡ false
-      → all_defined_lem k letters (letters_in (drop i t)) ≡ false
-  defined-stop h n e = ap (all_defined_lem k letters) (letters-at t i h n) ∙ rw e
+-- letters are defined where each byte is a bang or is defined
+module _ (k : ℕ) (letters : List ℕ) where
+  pub all_defined-all : (t : List ℕ) → all_defined_lem k letters (letters_in t) ≡ list_all (is_met_lem k letters) t
+  all_defined-all [] = refl
+  all_defined-all (b ∷ s) =
+      elim (eq_or_ne b 33) [
+        | inl e ↦
+            ap (all_defined_lem k letters) (letters_skip b s e) ∙ all_defined-all s ∙ sym (rw (eq-eqb b 33 e))
+        | inr n ↦
+            ap (all_defined_lem k letters) (letters_cons b s n)
+            ∙ rw (ne_eqb b 33 n, all_defined-all s)
+      ]
 
 module _ (t : List ℕ) (i : ℕ) where
   pub distinct-on : i < length t → (get_or t i 0 ≡ 33 → ⊥) → is_in (get_or t i 0) (drop (i + 1) t) ≡ false
@@ -186,9 +125,6 @@ module _ (k : ℕ) (letters : List ℕ) (v bang : Bool) (t : List ℕ) (i : ℕ)
       (drop (i + 1) t))
   weights-at h = ap (λ (s : List ℕ). weights k letters v (literals bang s)) (drop_here t i h)
       ∙ weights_cons k letters v bang (get_or t i 0) (drop (i + 1) t)
-
-  pub weights-end : length t ≤ i → weights k letters v (literals bang (drop i t)) ≡ 0
-  weights-end h = rw (drop-end t i h)
 
 -- a literal has truth v where v is not whether a bang stands before it
 pub same_not : (v bang : Bool) → beq v (not bang) ≡ not (beq v bang)

@@ -1,28 +1,30 @@
 // Labels as sums of weights. A label is given by its literals: no byte for a dash.
-ghost use Rattle.std.specs.Prelude.{◌≡◌, true, false, ◌≤◌, ◌<◌, ◌^◌};
+ghost use Rattle.std.specs.Prelude.{◌≡◌, true, false, ◌<◌, ◌^◌};
 ghost use Rattle.prelude.specs.Bytes.{distinct};
 ghost use Rattle.network.specs.Limits as L;
 ghost use Rattle.names.specs.Names.{literals, letters_of};
 ghost use Rattle.names.specs.Defined.{all_defined_lem, weight, weights, mask_of};
-ghost use Rattle.names.specs.Scan.{added_by_lem};
+ghost use Rattle.names.specs.Scan.{is_met_lem, added_by_lem};
 
-use super::Found;
-use crate::lookup;
-use network::{Label, Network};
+use crate::lookup::Defined;
+use network::Label;
 
-// Whether each letter is one of the first k.
-pub fn all_defined(t: &[u8], k: usize, letters: &[u8; Network::SIGNALS]) -> bool
-    requires { k ≤ L.signals }
-    ensures { result ≡ all_defined_lem k letters.now (letters_of (literals false t.now)) }
+// Whether a byte of a label is a bang, or a letter that is defined.
+fn is_met(b: u8, defined: &Defined) -> bool
+    ensures { result ≡ is_met_lem defined.now.network.now.signals defined.now.network.now.letters b }
 {
-    let mut i = 0;
-    while i < t.len() {
-        let b = t[i];
-        i += 1;
-        if b != b'!' {
-            if !lookup::is_defined(k, letters, b) {
-                return false;
-            }
+    b == b'!' || defined.place_of(b).is_some()
+}
+
+// Whether each letter is defined. (A loop: of `all`, whose closure holds a struct of references, the proof didn't
+// close.)
+pub fn all_defined(t: &[u8], defined: &Defined) -> bool
+    ensures { result ≡ all_defined_lem defined.now.network.now.signals defined.now.network.now.letters
+        (letters_of (literals false t.now)) }
+{
+    for &b in t {
+        if !is_met(b, defined) {
+            return false;
         }
     }
     true
@@ -32,15 +34,10 @@ pub fn all_defined(t: &[u8], k: usize, letters: &[u8; Network::SIGNALS]) -> bool
 pub fn is_distinct(t: &[u8]) -> bool
     ensures { result ≡ distinct (letters_of (literals false t.now)) }
 {
-    let mut i = 0;
-    while i < t.len() {
+    for i in 0..t.len() {
         let b = t[i];
-        i += 1;
-        if b != b'!' {
-            let rest = &t[i..];
-            if text::until(rest, b) < rest.len() {
-                return false;
-            }
+        if b != b'!' && t[i + 1..].contains(&b) {
+            return false;
         }
     }
     true
@@ -51,65 +48,54 @@ fn power(p: usize) -> u8
     requires { p < L.signals }
     ensures { result ≡ 2 ^ p }
 {
-    match p {
-        0 => 1,
-        1 => 2,
-        2 => 4,
-        _ => 8,
+    1 << p
+}
+
+// The weight of a letter, or 0 where it is not defined.
+fn weight_of(defined: &Defined, letter: u8) -> u8
+    ensures { result ≡ weight defined.now.network.now.signals defined.now.network.now.letters letter }
+{
+    match defined.place_of(letter) {
+        Some(p) => power(p),
+        None => 0,
     }
 }
 
-// The weight of the letter b, or 0 where it is not defined.
-fn weight_of(k: usize, letters: &[u8; Network::SIGNALS], b: u8) -> u8
-    requires { k ≤ L.signals }
-    ensures { result ≡ weight k letters.now b }
+// What one byte of a label adds to the sum of the letters with this truth.
+fn added_by(defined: &Defined, truth: bool, bang: bool, b: u8) -> u8
+    ensures { result ≡ added_by_lem defined.now.network.now.signals defined.now.network.now.letters truth bang b }
 {
-    let place = lookup::place_of(k, letters, b);
-    match place {
-        Found::At(p) => power(p),
-        Found::Nothing => 0,
-    }
-}
-
-// What one byte of a label adds to the sum of the letters with truth v.
-fn added_by(k: usize, letters: &[u8; Network::SIGNALS], v: bool, bang: bool, b: u8) -> u8
-    requires { k ≤ L.signals }
-    ensures { result ≡ added_by_lem k letters.now v bang b }
-{
-    if b == b'!' {
+    if b == b'!' || truth == bang {
         return 0;
     }
-    if v == bang {
-        return 0;
-    }
-    weight_of(k, letters, b)
+    weight_of(defined, b)
 }
 
-// The sum of the weights of the letters with truth v.
-fn weights_of(k: usize, letters: &[u8; Network::SIGNALS], v: bool, t: &[u8]) -> u8
-    requires { (k ≤ L.signals) × (weights k letters.now v (literals false t.now) < 2 ^ k) }
-    ensures { result ≡ weights k letters.now v (literals false t.now) }
+// The sum of the weights of the letters with this truth.
+fn weights_of(t: &[u8], defined: &Defined, truth: bool) -> u8
+    requires { weights defined.now.network.now.signals defined.now.network.now.letters truth (literals false t.now)
+        < 2 ^ defined.now.network.now.signals }
+    ensures { result ≡ weights defined.now.network.now.signals defined.now.network.now.letters truth
+        (literals false t.now) }
 {
     let mut sum: u8 = 0;
     let mut bang = false;
-    let mut i = 0;
-    while i < t.len() {
-        let b = t[i];
-        sum += added_by(k, letters, v, bang, b);
+    for &b in t {
+        sum += added_by(defined, truth, bang, b);
         bang = b == b'!';
-        i += 1;
     }
     sum
 }
 
 // A label whose letters are defined and distinct.
-pub fn mask_of(k: usize, letters: &[u8; Network::SIGNALS], t: &[u8]) -> Label
-    requires { (k ≤ L.signals) × (all_defined_lem k letters.now (letters_of (literals false t.now)) ≡ true) ×
-        (distinct (letters_of (literals false t.now)) ≡ true) }
-    ensures { result ≡ mask_of k letters.now (literals false t.now) }
+pub fn mask_of(t: &[u8], defined: &Defined) -> Label
+    requires { (all_defined_lem defined.now.network.now.signals defined.now.network.now.letters
+        (letters_of (literals false t.now)) ≡ true) × (distinct (letters_of (literals false t.now)) ≡ true) }
+    ensures { result ≡ mask_of defined.now.network.now.signals defined.now.network.now.letters (literals false
+        t.now) }
 {
     Label {
-        positive: weights_of(k, letters, true, t),
-        negative: weights_of(k, letters, false, t),
+        positive: weights_of(t, defined, true),
+        negative: weights_of(t, defined, false),
     }
 }

@@ -4,10 +4,3 @@
 pub mod label;
 pub mod lookup;
 pub mod token;
-
-// The place of what was looked for.
-#[derive(Clone, Copy)]
-pub enum Found {
-    At(usize),
-    Nothing,
-}

@@ -1,90 +1,71 @@
 // What has been defined so far: events by their names, signals by their letters.
-ghost use Rattle.std.specs.Prelude.{◌≡◌, ◌≤◌};
-ghost use Rattle.prelude.specs.Search.{answers};
-ghost use Rattle.network.specs.Limits as L;
-ghost use Rattle.names.specs.Defined.{event_named, place_of, gives_signal_lem};
-ghost use Rattle.names.specs.Found.{NamesIn, found_of, is_found_lem, place_or_lem};
+ghost use Rattle.std.specs.Prelude.{◌≡◌, ◌≤◌, ◌<◌, length, take, drop, get_or};
+ghost use Rattle.prelude.specs.Options.{option_of};
+ghost use Rattle.names.specs.Found.{NamesIn};
 
-use super::Found;
 use network::Network;
 
-// The first of the n events with the name f.
-pub fn event_named<'a>(
-    sheet: &[u8],
-    n: usize,
-    starts: &'a [usize; Network::EVENTS],
-    lengths: &'a [usize; Network::EVENTS],
-    f: &[u8],
-) -> Found
-    requires { NamesIn sheet.now n starts.now lengths.now }
-    ensures { result ≡ found_of (event_named sheet.now n starts.now lengths.now
-        f.now) }
-{
-    let mut u = 0;
-    while u < n {
-        let start = starts[u];
-        let end = start + lengths[u];
-        if text::equal(&sheet[start..end], f) {
-            return Found::At(u);
+// A sheet and the network of those of its lines that are read, whose events are named by parts of the sheet.
+#[derive(Clone, Copy)]
+pub struct Defined<'a> {
+    pub sheet: &'a [u8],
+    pub network: &'a Network,
+    pub ghost names: { NamesIn sheet.now network.now },
+}
+
+impl<'a> Defined<'a> {
+    ghost use Rattle.names.specs.Defined.{event_named, place_of, gives_signal_lem};
+
+    // The name of event u.
+    fn name(&self, u: usize) -> &'a [u8]
+        requires { u < self.now.network.now.events }
+        ensures { result.now ≡ take (get_or self.now.network.now.lengths u 0)
+            (drop (get_or self.now.network.now.starts u 0) self.now.sheet.now) }
+    {
+        let start = self.network.starts[u];
+        let end = start + self.network.lengths[u];
+        &self.sheet[start..end]
+    }
+
+    // The first event with the name f.
+    pub fn event_named(&self, f: &[u8]) -> Option<usize>
+        ensures { result ≡ option_of (event_named self.now.sheet.now self.now.network.now.events
+            self.now.network.now.starts self.now.network.now.lengths f.now) }
+    {
+        for u in 0..self.network.events {
+            if self.name(u) == f {
+                return Some(u);
+            }
         }
-        u += 1;
+        None
     }
-    Found::Nothing
-}
 
-// The place of b among the first k letters.
-pub fn place_of(k: usize, letters: &[u8; Network::SIGNALS], b: u8) -> Found
-    requires { k ≤ L.signals }
-    ensures { result ≡ found_of (place_of k letters.now b) }
-{
-    let mut p = 0;
-    while p < k {
-        if letters[p] == b {
-            return Found::At(p);
-        }
-        p += 1;
+    // The letters of the signals, and the events that give them.
+    fn letters(&self) -> &'a [u8]
+        ensures { (result.now ≡ take self.now.network.now.signals self.now.network.now.letters)
+            × (self.now.network.now.signals ≤ length self.now.network.now.letters) }
+    {
+        &self.network.letters[..self.network.signals]
     }
-    Found::Nothing
-}
 
-// Whether anything was found, and where, or 0.
-pub fn is_found(found: Found) -> bool
-    ensures { result ≡ is_found_lem found }
-{
-    match found {
-        Found::At(_) => true,
-        Found::Nothing => false,
+    fn observations(&self) -> &'a [usize]
+        ensures { (result.now ≡ take self.now.network.now.signals self.now.network.now.observations)
+            × (self.now.network.now.signals ≤ length self.now.network.now.observations) }
+    {
+        &self.network.observations[..self.network.signals]
     }
-}
 
-pub fn place_or(found: Found) -> usize
-    ensures { result ≡ place_or_lem found }
-{
-    match found {
-        Found::At(u) => u,
-        Found::Nothing => 0,
+    // The place of a signal by its letter.
+    pub fn place_of(&self, letter: u8) -> Option<usize>
+        ensures { result ≡ option_of (place_of self.now.network.now.signals self.now.network.now.letters letter) }
+    {
+        text::find(self.letters(), letter)
     }
-}
 
-// Whether b is one of the first k letters.
-pub fn is_defined(k: usize, letters: &[u8; Network::SIGNALS], b: u8) -> bool
-    requires { k ≤ L.signals }
-    ensures { result ≡ answers (place_of k letters.now b) }
-{
-    is_found(place_of(k, letters, b))
-}
-
-// Whether one of the k signals is given by event u.
-pub fn gives_signal(k: usize, observations: &[usize; Network::SIGNALS], u: usize) -> bool
-    requires { k ≤ L.signals }
-    ensures { result ≡ gives_signal_lem k observations.now u }
-{
-    let mut p = 0;
-    while p < k {
-        if observations[p] == u {
-            return true;
-        }
-        p += 1;
+    // Whether one of the signals is given by event u.
+    pub fn gives_signal(&self, u: usize) -> bool
+        ensures { result ≡ gives_signal_lem self.now.network.now.signals self.now.network.now.observations u }
+    {
+        self.observations().contains(&u)
     }
-    false
 }

@@ -11,5 +11,6 @@ pub mod Solution
 pub mod Least
 pub mod Complete
 pub mod WellFormed
+pub mod Once
 pub mod Joint
 pub mod Biased

@@ -11,10 +11,12 @@ ghost use Rattle.network.specs.WellFormed.{InLimits};
 ghost use Rattle.network.specs.Biased as B;
 ghost use Rattle.network.specs.Joint.{join, joint_of};
 
+pub mod accepted;
+pub mod formed;
 pub mod times;
 
 // What a rule says of the difference between its two times.
-#[derive(Clone, Copy)]
+#[derive(Clone, Copy, PartialEq, Eq)]
 pub enum Kind {
     // At most the limit.
     Max,
@@ -25,20 +27,49 @@ pub enum Kind {
 }
 
 // A label: the sum of the weights of its true letters, and that of its false ones.
-#[derive(Clone, Copy)]
+#[derive(Clone, Copy, PartialEq, Eq)]
 pub struct Label {
     pub positive: u8,
     pub negative: u8,
 }
 
+impl Label {
+    // The label `-`, which asks for nothing.
+    pub const DASH: Self = Self {
+        positive: 0,
+        negative: 0,
+    };
+
+    // The letters of both labels.
+    fn join(self, other: Self) -> Self
+        ensures { result ≡ join self other }
+    {
+        Self {
+            positive: self.positive | other.positive,
+            negative: self.negative | other.negative,
+        }
+    }
+}
+
 // A labelled constraint.
-#[derive(Clone, Copy)]
+#[derive(Clone, Copy, PartialEq, Eq)]
 pub struct Constraint {
     pub kind: Kind,
     pub from: usize,
     pub to: usize,
     pub bound: i32,
     pub label: Label,
+}
+
+impl Constraint {
+    // What stands where no constraint does.
+    const NONE: Self = Self {
+        kind: Kind::Max,
+        from: 0,
+        to: 0,
+        bound: 0,
+        label: Label::DASH,
+    };
 }
 
 // Event u is named by the part of the sheet from starts[u] on, of lengths[u] bytes; event 0 is the origin.
@@ -62,7 +93,7 @@ pub struct Network {
 }
 
 // The most of each that a network holds, the range of reactions, and what a cell without its event holds.
-#[derive(Clone, Copy)]
+#[derive(Clone, Copy, PartialEq, Eq)]
 pub struct Limits {
     pub horizon: u16,
     pub events: usize,
@@ -119,17 +150,6 @@ impl Network {
     pub fn empty(horizon: u16) -> Self
         ensures { result ≡ empty horizon }
     {
-        let label = Label {
-            positive: 0,
-            negative: 0,
-        };
-        let c = Constraint {
-            kind: Kind::Max,
-            from: 0,
-            to: 0,
-            bound: 0,
-            label: label,
-        };
         Network {
             horizon,
             events: 0,
@@ -140,8 +160,8 @@ impl Network {
             observations: [0; Self::SIGNALS],
             reactions: [0; Self::SIGNALS],
             rules: 0,
-            constraints: [c; Self::RULES],
-            labels: [label; Self::EVENTS],
+            constraints: [Constraint::NONE; Self::RULES],
+            labels: [Label::DASH; Self::EVENTS],
             labelled: [false; Self::EVENTS],
         }
     }
@@ -152,12 +172,9 @@ pub fn satisfies(s: usize, label: Label) -> bool
     requires { (s < L.cases) × (label.positive < L.cases) × (label.negative < L.cases) }
     ensures { result ≡ S.satisfies s label }
 {
-    let positive = label.positive as usize;
-    let negative = label.negative as usize;
-    if s & positive != positive {
-        return false;
-    }
-    s & negative == 0
+    let positive = usize::from(label.positive);
+    let negative = usize::from(label.negative);
+    s & positive == positive && s & negative == 0
 }
 
 // Whether the letter of p stands in the label, with either sign.
@@ -165,25 +182,15 @@ pub fn mentions(label: Label, p: usize) -> bool
     requires { (label.positive < L.cases) × (label.negative < L.cases) × (p < L.signals) }
     ensures { result ≡ E.mentions label p }
 {
-    let letters = label.positive as usize | label.negative as usize;
+    let letters = usize::from(label.positive | label.negative);
     (letters >> p) & 1 == 1
-}
-
-// The letters of both labels.
-fn join(a: Label, b: Label) -> Label
-    ensures { result ≡ join a b }
-{
-    Label {
-        positive: a.positive | b.positive,
-        negative: a.negative | b.negative,
-    }
 }
 
 // The label under which a constraint counts: its own and those of its two events.
 pub fn joint(own: Label, from: Label, to: Label) -> Label
     ensures { result ≡ joint_of own from to }
 {
-    join(own, join(from, to))
+    own.join(from.join(to))
 }
 
 // How many scenarios so many propositions have.
@@ -207,12 +214,12 @@ pub fn biased(bound: i32) -> u16
     requires { InLimits bound }
     ensures { result ≡ B.biased bound }
 {
-    (bound + Network::HORIZON as i32) as u16
+    (bound + i32::from(Network::HORIZON)) as u16
 }
 
 // The limit that, so biased, is v.
 pub fn unbiased(v: u16) -> i32
     ensures { result ≡ B.unbiased v }
 {
-    v as i32 - Network::HORIZON as i32
+    i32::from(v) - i32::from(Network::HORIZON)
 }

@@ -13,13 +13,11 @@ pub fn time_of(table: &[u16], events: usize, s: usize, u: usize) -> u16
 }
 
 // The reaction of a proposition, by what its line states; 0 where it has none.
+#[tactic(auto, unfolding(crate::specs::Strategy::reaction_of_lem))]
 pub fn reaction_of(stated: u16) -> u16
     ensures { result ≡ reaction_of_lem stated }
 {
-    if stated < Network::FASTEST {
-        return Network::FASTEST;
-    }
-    stated
+    stated.max(Network::FASTEST)
 }
 
 // From when on a proposition is known in s, by its observation event and the reaction that its line states.
@@ -27,5 +25,5 @@ pub fn known_after(table: &[u16], events: usize, s: usize, observation: usize, s
     requires { s * events + observation < length table.now }
     ensures { result ≡ known_after_lem events table.now s observation (reaction_of_lem stated) }
 {
-    time_of(table, events, s, observation) as u32 + reaction_of(stated) as u32
+    u32::from(time_of(table, events, s, observation)) + u32::from(reaction_of(stated))
 }

@@ -1,111 +1,131 @@
 -- What the calls that write leave in lent memory: laws of all of them, and of those that write text, by what the writer
 -- did. Assumes nothing.
-use mathlib.Core.Path.{◌≡◌, refl, sym, ◌∙◌}
+use mathlib.Core.Path.{◌≡◌, refl, ◌∙◌}
 use mathlib.Core.Logic.{inl, inr}
 use mathlib.Core.Bool.{Bool, true, false}
 use mathlib.Core.List.{List, [], ◌∷◌}
 use Prim.Native.Nat.{ℕ}
 use lib.ListN.{length}
-use Rattle.page.specs.Filled.{is_room, filled_of, buffer_after, FilledIs}
-use Rattle.page.specs.declared.Filled as PD
-use Rattle.page.specs.declared.Filled.TheVariants as PW
+use Rattle.std.specs.Prelude.{Option, Some, None, Result, Ok, Err, ok_or}
+use Rattle.prelude.proofs.Tests.{either, zero-is-one}
+use Rattle.page.specs.HandedOut.{is_room, count_of, memory_after, HandedOut}
 use Rattle.refusal.specs.declared.Cause.TheVariants.{BufferTooShort, TooManyRows}
 use Rattle.refusal.specs.declared.Refusal.{Refusal}
+use Rattle.network.specs.declared.Constraint.{Constraint}
 use Rattle.network.specs.declared.Network.{Network}
 use Rattle.sheet.specs.Reading.{read}
-use Rattle.sheet.specs.declared.Outcome.TheVariants.{Accepted, Refused}
-use Rattle.sheet.specs.declared.Reading.{Reading}
 use Rattle.listing.specs.Listing.{listing}
 use Rattle.tighten.specs.Tightest.{remaining_of}
+use Rattle.tighten.specs.Fitting.{fitting}
 use Rattle.canonical.specs.House.{house_text}
+use Rattle.calls.specs.Values.{OrRefusal}
 use Rattle.calls.specs.Call.{without_line_lem, Left, Leaves, Tests}
 use Rattle.calls.specs.Lent.{in_place_lem}
 use Rattle.calls.specs.Calls.{enough, writing, refusing, listed, fit}
 use Rattle.calls.specs.Calls.{house_tests, housed}
 use Rattle.calls.specs.Bench.{packed_left}
-use Rattle.calls.specs.declared.Written.{Written}
-use Rattle.calls.specs.declared.Written.TheVariants as W
 use Rattle.calls.proofs.Call.{call-refused, call_fails, call_works}
-use Rattle.opening.specs.Prologue.{handed_in_lem, handed_out_lem}
+use Rattle.opening.specs.Prologue.{handed_in_lem}
 use Rattle.opening.proofs.Prologue.{handed-refused, handed_fails, handed_works}
 
+-- the answer of a part of a call, with its refusal as the call's
+abbrev pub refused_by : {E : Type 0} → (E → Refusal) → Result ℕ E → OrRefusal ℕ
+refused_by of (Ok n) = Ok n
+refused_by of (Err e) = Err (of e)
+
 -- what was promised of one definition is promised of an equal one
-pub leaves_as : {l k : Left Written} {r : Written} {m : List ℕ} → l ≡ k → Leaves l r m → Leaves k r m
+pub leaves_as : {l k : Left (OrRefusal ℕ)} {r : OrRefusal ℕ} {m : List ℕ} → l ≡ k → Leaves l r m → Leaves k r m
 leaves_as e h = rw (← e) h
 
-pub packed_as : {l k : Left Written} {r : ℕ} {m : List ℕ} → l ≡ k → Leaves (packed_left l) r m
+pub packed_as : {l k : Left (OrRefusal ℕ)} {r : ℕ} {m : List ℕ} → l ≡ k → Leaves (packed_left l) r m
     → Leaves (packed_left k) r m
 packed_as e h = rw (← e) h
 
--- and so of an equal answer
-pub answered_as : {l : Left Written} {r r' : Written} {m : List ℕ} → Leaves l r m → r ≡ r' → Leaves l r' m
-answered_as h e = record { answer = sym e ∙ h.answer; memory = h.memory }
-
 -- a refusal leaves the memory as it was
-pub kept : {l : Left Written} (m : List ℕ) (r : Refusal) → refusing (in_place_lem m) r ≡ l → Leaves l (W.Refused r) m
+pub kept : {l : Left (OrRefusal ℕ)} (m : List ℕ) (r : Refusal) → refusing (in_place_lem m) r ≡ l → Leaves l (Err r) m
 kept m r e = leaves_as e (record { answer = refl; memory = refl })
 
+-- how a writer answers that has no room
+abbrev pub or_short : Option ℕ → OrRefusal ℕ
+or_short w = ok_or w (without_line_lem BufferTooShort)
+
 -- a writer wrote the text, or had no room for it
-pub written-by : {l : Left Written} (text m x : List ℕ) (w : PD.Filled) → FilledIs text m x w
+pub written-by : {l : Left (OrRefusal ℕ)} (text m x : List ℕ) (w : Option ℕ) → HandedOut text m x w
     → (is_room text m ≡ true → writing (in_place_lem m) text ≡ l)
     → (is_room text m ≡ false → refusing (in_place_lem m) (without_line_lem BufferTooShort) ≡ l)
-    → Leaves l (handed_out_lem w) x
-unfolding filled_of buffer_after
+    → Leaves l (or_short w) x
+unfolding count_of memory_after
 written-by {l} text m x w is wrote short = by-room (is_room text m) refl
   where
-    by-room : (b : Bool) → is_room text m ≡ b → Leaves l (handed_out_lem w) x
+    by-room : (b : Bool) → is_room text m ≡ b → Leaves l (or_short w) x
     by-room true r =
-        let done : w ≡ PW.Bytes (length text) = is.answer ∙ rw r in
-        leaves_as (wrote r) (rw done (record { answer = refl; memory = is.buffer ∙ rw r }))
+        let done : w ≡ Some (length text) = is.answer ∙ rw r in
+        leaves_as (wrote r) (rw done (record { answer = refl; memory = is.memory ∙ rw r }))
     by-room false r =
-        let done : w ≡ PW.TooShort = is.answer ∙ rw r in
-        leaves_as (short r) (rw done (record { answer = refl; memory = is.buffer ∙ rw r }))
+        let done : w ≡ None = is.answer ∙ rw r in
+        leaves_as (short r) (rw done (record { answer = refl; memory = is.memory ∙ rw r }))
 
 -- the listing of a table that is handed in
-module _ (sheet t m : List ℕ) (g : Reading) (e : g ≡ handed_in_lem sheet (length t)) where
+module _ (sheet t m : List ℕ) where
   abbrev text : Network → List ℕ
   text Γ = listing sheet Γ t
 
   abbrev rest : Network → Tests
   rest Γ = enough (in_place_lem m) (length (text Γ)) ∷ []
 
-  pub listing-refused : (r : Refusal) → g.outcome ≡ Refused r → Leaves (listed sheet t m) (W.Refused r) m
+  pub listing-refused : (r : Refusal) → handed_in_lem sheet (length t) ≡ Err r → Leaves (listed sheet t m) (Err r) m
   listing-refused r p =
-      kept m r (handed-refused sheet t g e (refusing (in_place_lem m)) rest (λ Γ. writing (in_place_lem m) (text Γ)) r
-      p)
+      kept m r
+      (handed-refused sheet t (refusing (in_place_lem m)) rest (λ Γ. writing (in_place_lem m) (text Γ)) r p)
 
-  pub listing-written : g.outcome ≡ Accepted → (x : List ℕ) (w : PD.Filled) → FilledIs (text g.network) m x w
-      → Leaves (listed sheet t m) (handed_out_lem w) x
-  listing-written a x w is =
-      written-by (text g.network) m x w is
+  pub listing-written : (Γ : Network) → handed_in_lem sheet (length t) ≡ Ok Γ → (x : List ℕ) (w : Option ℕ)
+      → HandedOut (text Γ) m x w → Leaves (listed sheet t m) (or_short w) x
+  listing-written Γ q x w is =
+      written-by (text Γ) m x w is
       (λ room.
-      handed_works sheet t g e (refusing (in_place_lem m)) rest (λ Γ. writing (in_place_lem m) (text Γ)) a (room, tt))
+      handed_works sheet t (refusing (in_place_lem m)) rest (λ Δ. writing (in_place_lem m) (text Δ)) Γ q (room, tt))
       (λ short.
-      handed_fails sheet t g e (refusing (in_place_lem m)) rest (λ Γ. writing (in_place_lem m) (text Γ)) a _
+      handed_fails sheet t (refusing (in_place_lem m)) rest (λ Δ. writing (in_place_lem m) (text Δ)) Γ q _
       (inl (short, refl)))
 
+-- whether the rows that remain fit
+fits : (rows : List Constraint) → (fitting rows ≡ None → fit rows ≡ false)
+    × ((rs : List Constraint) → Some rs ≡ fitting rows → fit rows ≡ true)
+fits rows =
+    elim (either (fit rows)) [
+      | inl h ↦ (
+        λ e. zero-is-one (let z : ◌≡◌ {A = Option (List Constraint)} (Some rows) None = rw h at e in cc),
+        λ rs e. h,
+      )
+      | inr h ↦ (
+        λ e. h,
+        λ rs e. zero-is-one (let z : ◌≡◌ {A = Option (List Constraint)} (Some rs) None = rw h at e in cc),
+      )
+    ]
+
 -- the house form
-module _ (sheet m : List ℕ) (g : Reading) (e : g ≡ read sheet) where
-  abbrev form : Network → Left Written
+module _ (sheet m : List ℕ) where
+  abbrev form : Network → Left (OrRefusal ℕ)
   form Γ = writing (in_place_lem m) (house_text sheet Γ)
 
-  pub house_refused : (r : Refusal) → g.outcome ≡ Refused r → Leaves (housed sheet m) (W.Refused r) m
+  pub house_refused : (r : Refusal) → read sheet ≡ Err r → Leaves (housed sheet m) (Err r) m
   house_refused r p =
-      kept m r (call-refused (refusing (in_place_lem m)) sheet (house_tests sheet (in_place_lem m)) form g e r p)
+      kept m r (call-refused (refusing (in_place_lem m)) sheet (house_tests sheet (in_place_lem m)) form r p)
 
-  module _ (a : g.outcome ≡ Accepted) where
-    pub house-many : fit (remaining_of g.network) ≡ false
-        → Leaves (housed sheet m) (W.Refused (without_line_lem TooManyRows)) m
+  module _ (Γ : Network) (a : read sheet ≡ Ok Γ) where
+    pub house-many : fitting (remaining_of Γ) ≡ None → Leaves (housed sheet m) (Err (without_line_lem TooManyRows)) m
     house-many h =
         kept m _
-        (call_fails (refusing (in_place_lem m)) sheet (house_tests sheet (in_place_lem m)) form g e a _ (inl (h, refl)))
+        (call_fails (refusing (in_place_lem m)) sheet (house_tests sheet (in_place_lem m)) form Γ a _
+        (inl ((fits (remaining_of Γ)).0 h, refl)))
 
-    pub house-written : fit (remaining_of g.network) ≡ true → (x : List ℕ) (w : PD.Filled)
-        → FilledIs (house_text sheet g.network) m x w → Leaves (housed sheet m) (handed_out_lem w) x
-    house-written h x w is =
-        written-by (house_text sheet g.network) m x w is
-        (λ room. call_works (refusing (in_place_lem m)) sheet (house_tests sheet (in_place_lem m)) form g e a
-        (h, (room, tt)))
+    pub house-written : (rs : List Constraint) → Some rs ≡ fitting (remaining_of Γ) → (x : List ℕ) (w : Option ℕ)
+        → HandedOut (house_text sheet Γ) m x w → Leaves (housed sheet m) (or_short w) x
+    house-written rs h x w is =
+        let few = (fits (remaining_of Γ)).1 rs h in
+        written-by (house_text sheet Γ) m x w is
+        (λ room. call_works (refusing (in_place_lem m)) sheet (house_tests sheet (in_place_lem m)) form Γ a
+        (few, (room, tt)))
         (λ short.
-        call_fails (refusing (in_place_lem m)) sheet (house_tests sheet (in_place_lem m)) form g e a _
-        (inr (h, inl (short, refl))))
+        call_fails (refusing (in_place_lem m)) sheet (house_tests sheet (in_place_lem m)) form Γ a _
+        (inr (few, inl (short, refl))))

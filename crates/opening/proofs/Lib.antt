@@ -1,5 +1,5 @@
--- What the refusal before a call's own work tells; what the calls that write leave in lent memory; and tables that come
--- as bytes.
+-- What the sheet of a call that is handed a table tells; what the calls that write leave in lent memory; and tables
+-- that come as bytes.
 pub mod Prologue
 pub mod Leaves
 pub mod SolverLeaves

@@ -16,20 +16,18 @@ use Rattle.refusal.specs.declared.Cause.TheVariants.{BufferTooShort, Inconsisten
 use Rattle.refusal.specs.declared.Refusal.{Refusal}
 use Rattle.network.specs.Build.{cells}
 use Rattle.network.specs.declared.Network.{Network}
-use Rattle.sheet.specs.Reading.{read}
-use Rattle.sheet.specs.declared.Outcome.TheVariants.{Accepted}
+use Rattle.sheet.specs.Reading.{network_of, Accepts}
 use Rattle.sheet.proofs.WellFormed.{accepted_well_formed}
 use Rattle.solver.specs.Solve.{solve, found}
 use Rattle.solver.proofs.Least.{solve-least}
 use Rattle.listing.specs.Listing.{header}
 use Rattle.readback.proofs.RoundTrip.{length-recovered}
-use Rattle.calls.specs.Values.{done}
+use Rattle.calls.specs.Values.{OrRefusal, done}
 use Rattle.calls.specs.Call.{without_line_lem, Tests, call, Left, Leaves}
 use Rattle.calls.specs.Lent.{Lent, in_place_lem, in_pairs}
 use Rattle.calls.specs.Calls.{writing, refusing, rests}
 use Rattle.calls.specs.Recover.{recovery_tests, recovered_in}
 use Rattle.calls.specs.Bench.{packed_count_lem, packed_left}
-use Rattle.calls.specs.declared.Written.{Written}
 use Rattle.calls.proofs.Call.{Ends, faulty, failed, worked, ends, call-refused, call_fails, call_works}
 use Rattle.calls.proofs.Handed.{cells-few}
 use Rattle.calls.proofs.Solving.{rests-true}
@@ -39,8 +37,8 @@ use Rattle.opening.specs.Packed.{HasRoom, packed_table_lem}
 pub record Fills (sheet : List ℕ) : Type 0 where
   pub tests : Bool → Network → Tests
   pub text : Network → List ℕ
-  pub sized : (read sheet).outcome ≡ Accepted → (roomy : Bool) → Hold (tests roomy (read sheet).network)
-      → (length (text (read sheet).network) ≡ cells (read sheet).network) × (roomy ≡ true)
+  pub sized : Accepts sheet → (roomy : Bool) → Hold (tests roomy (network_of sheet))
+      → (length (text (network_of sheet)) ≡ cells (network_of sheet)) × (roomy ≡ true)
 
 abbrev pub solver_fills : (sheet : List ℕ) → Fills sheet
 solver_fills sheet = record {
@@ -48,7 +46,7 @@ solver_fills sheet = record {
       [];
   text = λ Γ. found Γ;
   sized = λ a roomy h.
-      let Γ = (read sheet).network in
+      let Γ = (network_of sheet) in
       ((solve-least Γ (accepted_well_formed sheet a).0 ((rests-true (solve Γ).end).0 h.1.0)).solves.sized, h.0);
 }
 
@@ -58,7 +56,7 @@ reader_fills sheet bytes = record {
       recovery_tests (header sheet Γ) Γ.signals Γ.events bytes (roomy, without_line_lem BufferTooShort);
   text = recovered_in sheet bytes;
   sized = λ a roomy h.
-      let Γ = (read sheet).network in
+      let Γ = (network_of sheet) in
       (length-recovered (header sheet Γ) Γ.signals Γ.events bytes, h.1.1.0);
 }
 
@@ -72,18 +70,18 @@ module _ (sheet : List ℕ) (fills : Fills sheet) (b z : List ℕ) (size : lengt
   lent_sized = length-take-le k z (omega arith)
 
   abbrev net : Network
-  net = (read sheet).network
+  net = (network_of sheet)
 
   abbrev tests : Lent → Network → Tests
   tests l Γ = fills.tests (leb (cells Γ) l.room) Γ
 
-  abbrev work : Lent → Network → Left Written
+  abbrev work : Lent → Network → Left (OrRefusal ℕ)
   work l Γ = writing l (fills.text Γ)
 
-  abbrev into : Lent → Left Written
+  abbrev into : Lent → Left (OrRefusal ℕ)
   into l = call (refusing l) sheet (tests l) (work l)
 
-  same-room : (read sheet).outcome ≡ Accepted → leb (cells net) (length m) ≡ leb (cells net) (length b / 2)
+  same-room : Accepts sheet → leb (cells net) (length m) ≡ leb (cells net) (length b / 2)
   same-room a =
       let few = cells-few (accepted_well_formed sheet a).0 in
       elim (lt_or_ge (length b / 2) (cells net)) [
@@ -91,7 +89,7 @@ module _ (sheet : List ℕ) (fills : Fills sheet) (b z : List ℕ) (size : lengt
         | inr l ↦ le-leb (cells net) (length m) (omega (arith, lent_sized)) ∙ sym (le-leb (cells net) (length b / 2) l)
       ]
 
-  same_tests : (read sheet).outcome ≡ Accepted → tests (in_place_lem m) net ≡ tests (in_pairs b) net
+  same_tests : Accepts sheet → tests (in_place_lem m) net ≡ tests (in_pairs b) net
   same_tests a = ap (λ (roomy : Bool). fills.tests roomy net) (same-room a)
 
   -- how the two end
@@ -108,39 +106,39 @@ module _ (sheet : List ℕ) (fills : Fills sheet) (b z : List ℕ) (size : lengt
       by_end : Ends (refusing (in_place_lem m)) sheet (tests (in_place_lem m)) (work (in_place_lem m)) → Both
       by_end (faulty r p e) =
           both_refused r e
-          (call-refused (refusing (in_pairs b)) sheet (tests (in_pairs b)) (work (in_pairs b)) (read sheet) refl r p)
+          (call-refused (refusing (in_pairs b)) sheet (tests (in_pairs b)) (work (in_pairs b)) r p)
       by_end (failed a r f e) =
           both_refused r e
-          (call_fails (refusing (in_pairs b)) sheet (tests (in_pairs b)) (work (in_pairs b)) (read sheet) refl a r
+          (call_fails (refusing (in_pairs b)) sheet (tests (in_pairs b)) (work (in_pairs b)) (network_of sheet) a r
           (subst (λ (ts : Tests). FirstFails ts r) (same_tests a) f))
       by_end (worked a h e) =
           let h' : Hold (tests (in_pairs b) net) = subst (λ (ts : Tests). Hold ts) (same_tests a) h in
           let s = fills.sized a (leb (cells net) (length b / 2)) h' in
           both_wrote (fills.text net) (omega (arith, s.0, leb-true (cells net) (length b / 2) s.1))
           (omega (arith, s.0, cells-few (accepted_well_formed sheet a).0)) e
-          (call_works (refusing (in_pairs b)) sheet (tests (in_pairs b)) (work (in_pairs b)) (read sheet) refl a h')
+          (call_works (refusing (in_pairs b)) sheet (tests (in_pairs b)) (work (in_pairs b)) (network_of sheet) a h')
 
   -- what was written into the minutes goes out as pairs; behind the minutes stands the rest of the array
-  module _ {w : Written} {x : List ℕ} (left : Leaves (into (in_place_lem m)) w x) where
+  module _ {w : OrRefusal ℕ} {x : List ℕ} (left : Leaves (into (in_place_lem m)) w x) where
     abbrev array : List ℕ
     array = x ++ drop k z
 
-    answer-is : {l : Left Written} → l ≡ into (in_place_lem m) → w ≡ l.answer
-    answer-is e = left.answer ∙ ap (λ (y : Left Written). y.answer) (sym e)
+    answer-is : {l : Left (OrRefusal ℕ)} → l ≡ into (in_place_lem m) → w ≡ l.answer
+    answer-is e = left.answer ∙ ap (λ (y : Left (OrRefusal ℕ)). y.answer) (sym e)
 
     -- the minutes that were written
     front : (σ : List ℕ) → writing (in_place_lem m) σ ≡ into (in_place_lem m) → take (length σ) array ≡ σ
     front σ e =
-        let whole : x ≡ σ ++ drop (length σ) m = left.memory ∙ ap (λ (y : Left Written). y.memory) (sym e) in
+        let whole : x ≡ σ ++ drop (length σ) m = left.memory ∙ ap (λ (y : Left (OrRefusal ℕ)). y.memory) (sym e) in
         rw (whole, append_assoc) (take_at σ (drop (length σ) m ++ drop k z) (length σ) refl)
 
     pairs_sized : length array ≡ 256
     pairs_sized = omega (arith, size, lent, lent_sized, length-append x (drop k z), length-drop k z, kept_size both)
       where
         kept_size : Both → length x ≡ length m
-        kept_size (both_refused r e e') = ap length (left.memory ∙ ap (λ (y : Left Written). y.memory) (sym e))
+        kept_size (both_refused r e e') = ap length (left.memory ∙ ap (λ (y : Left (OrRefusal ℕ)). y.memory) (sym e))
         kept_size (both_wrote σ room few e e') =
-            ap length (left.memory ∙ ap (λ (y : Left Written). y.memory) (sym e))
+            ap length (left.memory ∙ ap (λ (y : Left (OrRefusal ℕ)). y.memory) (sym e))
             ∙ omega (arith, lent_sized, length-append σ (drop (length σ) m), length-drop (length σ) m)
 
     pairs_room : HasRoom w array b
@@ -157,17 +155,17 @@ module _ (sheet : List ℕ) (fills : Fills sheet) (b z : List ℕ) (size : lengt
       where
         by_both : Both → packed_table_lem w array b ≡ packed_left (into (in_pairs b))
         by_both (both_refused r e e') =
-            ap (λ (y : Written). packed_table_lem y array b) (answer-is e) ∙ ap packed_left e'
+            ap (λ (y : OrRefusal ℕ). packed_table_lem y array b) (answer-is e) ∙ ap packed_left e'
         by_both (both_wrote σ room few e e') =
-            ap (λ (y : Written). packed_table_lem y array b) (answer-is e)
+            ap (λ (y : OrRefusal ℕ). packed_table_lem y array b) (answer-is e)
             ∙ ap (λ (t : List ℕ). record { answer = packed_count_lem (done (length σ)); memory = (in_pairs b).after t })
             (front σ e)
             ∙ ap packed_left e'
 
-  pub record Goes (w : Written) (x : List ℕ) : Type 0 where
+  pub record Goes (w : OrRefusal ℕ) (x : List ℕ) : Type 0 where
     pub sized : length (x ++ drop k z) ≡ 256
     pub room : HasRoom w (x ++ drop k z) b
     pub packed : packed_table_lem w (x ++ drop k z) b ≡ packed_left (into (in_pairs b))
 
-  pub pairs_go : {w : Written} {x : List ℕ} → Leaves (into (in_place_lem m)) w x → Goes w x
+  pub pairs_go : {w : OrRefusal ℕ} {x : List ℕ} → Leaves (into (in_place_lem m)) w x → Goes w x
   pairs_go left = record { sized = pairs_sized left; room = pairs_room left; packed = pairs_packed left }

@@ -1,29 +1,27 @@
 -- From what the checker and the player answer to what the call that plays a table does. Assumes nothing.
 use mathlib.Core.Path.{◌≡◌, refl, sym, ◌∙◌, ap}
 use mathlib.Core.Logic.{inl, inr}
-use mathlib.Core.Bool.{true}
+use mathlib.Core.Bool.{true, false}
 use mathlib.Core.List.{List, [], ◌∷◌}
 use Prim.Native.Nat.{ℕ}
 use lib.ListN.{length}
+use Rattle.std.specs.Prelude.{Result, Ok, Err}
 use Rattle.refusal.specs.declared.Cause.TheVariants as C
 use Rattle.refusal.specs.declared.Refusal.{Refusal}
 use Rattle.network.specs.declared.Network.{Network}
-use Rattle.sheet.specs.declared.Outcome.TheVariants.{Accepted, Refused}
-use Rattle.sheet.specs.declared.Reading.{Reading}
 use Rattle.checker.specs.Verdict.{verdict}
-use Rattle.checker.specs.declared.Breach.{Breach}
-use Rattle.checker.specs.declared.Verdict.TheVariants.{Pass, Breach as Breached}
+use Rattle.checker.specs.declared.Verdict.TheVariants.{Pass}
 use Rattle.dispatch.specs.Said.{due_on}
-use Rattle.dispatch.specs.declared.Dispatched.{Dispatched}
-use Rattle.dispatch.specs.declared.Dispatched.TheVariants as P
+use Rattle.dispatch.specs.declared.Unheard.{Unheard}
+use Rattle.dispatch.specs.declared.Unheard.TheVariants as P
+use Rattle.calls.specs.Values.{OrRefusal}
 use Rattle.calls.specs.Call.{without_line_lem, Tests}
 use Rattle.calls.specs.Play.{named, ever_heard, events_of, is_pass, events_due_on_lem}
-use Rattle.calls.specs.declared.Due.{Due}
-use Rattle.calls.specs.declared.Due.TheVariants as D
-use Rattle.opening.specs.Prologue.{handed_in_lem, answer_to_lem}
+use Rattle.opening.specs.Prologue.{handed_in_lem, of_unheard}
 use Rattle.opening.proofs.Prologue.{handed-refused, handed_fails, handed_works}
+use Rattle.opening.proofs.Leaves.{refused_by}
 
-module _ (sheet t : List ℕ) (m x : ℕ) (g : Reading) (e : g ≡ handed_in_lem sheet (length t)) where
+module _ (sheet t : List ℕ) (m x : ℕ) where
   abbrev rest : Network → Tests
   rest Γ =
       (is_pass (verdict Γ t), without_line_lem C.TableFails)
@@ -31,33 +29,30 @@ module _ (sheet t : List ℕ) (m x : ℕ) (g : Reading) (e : g ≡ handed_in_lem
       ∷ (ever_heard (due_on Γ t m x), without_line_lem C.NeverHeard)
       ∷ []
 
-  abbrev work : Network → Due
-  work Γ = D.Events (events_of (due_on Γ t m x))
+  abbrev work : Network → OrRefusal ℕ
+  work Γ = Ok (events_of (due_on Γ t m x))
 
-  pub due-refused : (r : Refusal) → g.outcome ≡ Refused r → D.Refused r ≡ events_due_on_lem sheet t m x
+  pub due-refused : (r : Refusal) → handed_in_lem sheet (length t) ≡ Err r → Err r ≡ events_due_on_lem sheet t m x
   unfolding events_due_on_lem
-  due-refused r p = handed-refused sheet t g e D.Refused rest work r p
+  due-refused r p = handed-refused sheet t Err rest work r p
 
-  module _ (a : g.outcome ≡ Accepted) where
-    pub due_fails : (b : Breach) → verdict g.network t ≡ Breached b
-        → D.Refused (without_line_lem C.TableFails) ≡ events_due_on_lem sheet t m x
+  module _ (Γ : Network) (q : handed_in_lem sheet (length t) ≡ Ok Γ) where
+    pub due_fails : is_pass (verdict Γ t) ≡ false → Err (without_line_lem C.TableFails) ≡ events_due_on_lem sheet t m x
     unfolding events_due_on_lem
-    due_fails b v = handed_fails sheet t g e D.Refused rest work a _ (inl (ap is_pass v, refl))
+    due_fails v = handed_fails sheet t Err rest work Γ q _ (inl (v, refl))
 
-    pub due-answers : verdict g.network t ≡ Pass → answer_to_lem (due_on g.network t m x)
-        ≡ events_due_on_lem sheet t m x
+    pub due-answers : verdict Γ t ≡ Pass → refused_by of_unheard (due_on Γ t m x) ≡ events_due_on_lem sheet t m x
     unfolding events_due_on_lem
-    due-answers v = by_said (due_on g.network t m x) refl
+    due-answers v = by_said (due_on Γ t m x) refl
       where
-        pass : is_pass (verdict g.network t) ≡ true
+        pass : is_pass (verdict Γ t) ≡ true
         pass = ap is_pass v
 
-        by_said : (d : Dispatched) → due_on g.network t m x ≡ d → answer_to_lem d ≡ events_due_on_lem sheet t m x
-        by_said (P.Events y) q =
-            ap (λ (z : Dispatched). D.Events (events_of z)) (sym q)
-            ∙ handed_works sheet t g e D.Refused rest work a (pass, (ap named q, (ap ever_heard q, tt)))
-        by_said P.Misnamed q =
-            handed_fails sheet t g e D.Refused rest work a _ (inr (pass, inl (ap named q, refl)))
-        by_said P.NeverHeard q =
-            handed_fails sheet t g e D.Refused rest work a _
-            (inr (pass, inr (ap named q, inl (ap ever_heard q, refl))))
+        by_said : (d : Result ℕ Unheard) → due_on Γ t m x ≡ d → refused_by of_unheard d ≡ events_due_on_lem sheet t m x
+        by_said (Ok y) s =
+            ap (λ (z : Result ℕ Unheard). Ok (events_of z)) (sym s)
+            ∙ handed_works sheet t Err rest work Γ q (pass, (ap named s, (ap ever_heard s, tt)))
+        by_said (Err P.Misnamed) s =
+            handed_fails sheet t Err rest work Γ q _ (inr (pass, inl (ap named s, refl)))
+        by_said (Err P.NeverHeard) s =
+            handed_fails sheet t Err rest work Γ q _ (inr (pass, inr (ap named s, inl (ap ever_heard s, refl))))

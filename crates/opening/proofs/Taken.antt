@@ -9,21 +9,21 @@ use borrow.Author.Tests.{eqb-true, eq-eqb, ne_eqb}
 use lib.Dec.{eqb}
 use lib.ListN.{length, take, drop, length-append}
 use lib.Seq.{take_at, length-take-le}
+use Rattle.std.specs.Prelude.{Ok}
 use Rattle.prelude.proofs.Tests.{eq_or_ne}
 use Rattle.pairs.specs.Pairs.{minutes_of, Short}
 use Rattle.pairs.proofs.Packing.{length-minutes_of}
 use Rattle.network.specs.Build.{cells}
-use Rattle.sheet.specs.Reading.{read}
-use Rattle.sheet.specs.declared.Outcome.TheVariants.{Accepted}
+use Rattle.sheet.specs.Reading.{network_of, Accepts}
 use Rattle.sheet.proofs.WellFormed.{accepted_well_formed}
 use Rattle.checker.specs.declared.Verdict.{Verdict}
 use Rattle.dispatch.specs.Said.{due_on}
 use Rattle.dispatch.specs.HeardText.{said_text, due_text}
 use Rattle.dispatch.proofs.HeardText.{due-said-text}
+use Rattle.calls.specs.Values.{number_values}
 use Rattle.calls.specs.Lent.{as_minutes, as_bytes}
-use Rattle.calls.specs.Calls.{judgement, listed, written_values}
+use Rattle.calls.specs.Calls.{judgement, listed}
 use Rattle.calls.specs.Play.{events_due_on_lem}
-use Rattle.calls.specs.declared.Judgement.TheVariants as J
 use Rattle.calls.specs.Bench.{Small, verdict_values, bench_judgement, bench_listed, bench_due}
 use Rattle.calls.proofs.Handed.{cells-few}
 use Rattle.calls.proofs.Alike.{Alike, judging-alike, listing-alike, playing-alike}
@@ -55,13 +55,13 @@ module _ (b : List ℕ) (n : ℕ) (x : List ℕ) (taken : Taken b n x) where
   }
 
   module _ (sheet : List ℕ) where
-    of_sheet : (read sheet).outcome ≡ Accepted → Alike (as_minutes front) (as_bytes b) (cells (read sheet).network)
-    of_sheet a = alike (cells (read sheet).network) (cells-few (accepted_well_formed sheet a).0)
+    of_sheet : Accepts sheet → Alike (as_minutes front) (as_bytes b) (cells (network_of sheet))
+    of_sheet a = alike (cells (network_of sheet)) (cells-few (accepted_well_formed sheet a).0)
 
     pub taken_judged : judgement sheet front ≡ bench_judgement sheet b
     taken_judged = judging-alike sheet (as_minutes front) (as_bytes b) of_sheet
 
-    pub front_small : (v : Verdict) → judgement sheet front ≡ J.Judged v → Small (verdict_values v)
+    pub front_small : (v : Verdict) → judgement sheet front ≡ Ok v → Small (verdict_values v)
     front_small v e = judged_small sheet (as_minutes front) v e
 
     pub taken_listed : (m : List ℕ) → listed sheet front m ≡ bench_listed sheet b m
@@ -74,13 +74,13 @@ module _ (b : List ℕ) (n : ℕ) (x : List ℕ) (taken : Taken b n x) where
         playing-alike sheet (as_minutes front) (as_bytes b) of_sheet (λ Γ. due_on Γ front m (said_text text))
         (λ Γ. due_text Γ (minutes_of b) m text)
         (λ a h.
-        ap (λ (σ : List ℕ). due_on (read sheet).network σ m (said_text text)) ((of_sheet a).minutes h)
-        ∙ due-said-text (read sheet).network (minutes_of b) m (lettered sheet a) text)
+        ap (λ (σ : List ℕ). due_on (network_of sheet) σ m (said_text text)) ((of_sheet a).minutes h)
+        ∙ due-said-text (network_of sheet) (minutes_of b) m (lettered sheet a) text)
 
-    pub taken_small : (m : List ℕ) → (written_values (listed sheet front m).answer).value < 65536
+    pub taken_small : (m : List ℕ) → (number_values (listed sheet front m).answer).value < 65536
     taken_small m =
         listing_small sheet (as_minutes front) m (λ a h.
-        let size : n ≡ cells (read sheet).network = sym front-sized ∙ eqb-true (length front) _ h in
+        let size : n ≡ cells (network_of sheet) = sym front-sized ∙ eqb-true (length front) _ h in
         let few : n ≤ 256 = omega (arith, cells-few (accepted_well_formed sheet a).0) in
         rw (taken.minutes few) (taken.short few))
 

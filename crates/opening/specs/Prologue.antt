@@ -1,50 +1,30 @@
--- What the functions of the code answer that several calls share: the refusal before a call's own work, and how the
--- answers of writers, of the reader of listings and of the player become the call's.
-use Rattle.std.specs.Prelude.{Bool, List, [], ◌∷◌, ℕ, eqb}
-use Rattle.prelude.specs.Checks.{first_failing_lem}
-use Rattle.page.specs.declared.Filled.{Filled}
-use Rattle.page.specs.declared.Filled.TheVariants as F
+-- What the functions of the code answer that several calls share: the sheet of a call that is handed a table, and the
+-- refusals in which the reader of listings and the player are answered.
+use Rattle.std.specs.Prelude.{List, [], ◌∷◌, ℕ, eqb, Ok, Err}
 use Rattle.refusal.specs.Refusal.{refusal}
-use Rattle.refusal.specs.declared.Cause.{Cause}
 use Rattle.refusal.specs.declared.Cause.TheVariants as C
+use Rattle.refusal.specs.declared.Refusal.{Refusal}
 use Rattle.network.specs.Build.{cells}
-use Rattle.sheet.specs.Reading.{read}
-use Rattle.sheet.specs.declared.Outcome.{Outcome}
-use Rattle.sheet.specs.declared.Reading.{Reading}
-use Rattle.dispatch.specs.declared.Dispatched.{Dispatched}
-use Rattle.dispatch.specs.declared.Dispatched.TheVariants as P
-use Rattle.readback.specs.declared.Answer.{Answer}
-use Rattle.readback.specs.declared.Answer.TheVariants as A
-use Rattle.calls.specs.Call.{without_line_lem, tested}
-use Rattle.calls.specs.declared.Due.{Due}
-use Rattle.calls.specs.declared.Due.TheVariants as D
-use Rattle.calls.specs.declared.Written.{Written}
-use Rattle.calls.specs.declared.Written.TheVariants as W
+use Rattle.network.specs.declared.Network.{Network}
+use Rattle.dispatch.specs.declared.Unheard.{Unheard}
+use Rattle.dispatch.specs.declared.Unheard.TheVariants as H
+use Rattle.readback.specs.declared.Unread.{Unread}
+use Rattle.readback.specs.declared.Unread.TheVariants as U
+use Rattle.calls.specs.Values.{OrRefusal}
+use Rattle.calls.specs.Call.{without_line_lem, call}
 
--- the outcome, and behind it one test of the call
-abbrev pub after_test : Outcome → Bool → Cause → Outcome
-after_test o passes c = tested o (first_failing_lem ((passes, without_line_lem c) ∷ []))
-
--- the reading, for a call that is handed so many minutes
-abbrev pub handed_in_lem : List ℕ → ℕ → Reading
+-- the network of the sheet, for a call that is handed so many minutes
+abbrev pub handed_in_lem : List ℕ → ℕ → OrRefusal Network
 handed_in_lem sheet n =
-    let g = read sheet in
-    record { outcome = after_test g.outcome (eqb n (cells g.network)) C.WrongTableLength; network = g.network }
+    call Err sheet (λ Γ. (eqb n (cells Γ), without_line_lem C.WrongTableLength) ∷ []) (λ Γ. Ok Γ)
 
--- what a writer did, as the call's answer
-abbrev pub handed_out_lem : Filled → Written
-handed_out_lem (F.Bytes n) = W.Count n
-handed_out_lem F.TooShort = W.Refused (without_line_lem C.BufferTooShort)
+-- 18 and 19 with the listing's line
+abbrev pub of_unread : Unread → Refusal
+of_unread (U.OtherForm l) = refusal C.OtherForm l
+of_unread (U.NoMinute l) = refusal C.NoMinute l
+of_unread U.TooShort = without_line_lem C.BufferTooShort
 
--- what the reader of listings says, as the call's answer
-abbrev pub read_back_lem : Answer → Written
-read_back_lem (A.Recovered n) = W.Count n
-read_back_lem (A.OtherForm l) = W.Refused (refusal C.OtherForm l)
-read_back_lem (A.NoMinute l) = W.Refused (refusal C.NoMinute l)
-read_back_lem A.TooShort = W.Refused (without_line_lem C.BufferTooShort)
-
--- what the player says, as the call's answer
-abbrev pub answer_to_lem : Dispatched → Due
-answer_to_lem (P.Events e) = D.Events e
-answer_to_lem P.Misnamed = D.Refused (without_line_lem C.MisnamedSignal)
-answer_to_lem P.NeverHeard = D.Refused (without_line_lem C.NeverHeard)
+-- 15 and 16
+abbrev pub of_unheard : Unheard → Refusal
+of_unheard H.Misnamed = without_line_lem C.MisnamedSignal
+of_unheard H.NeverHeard = without_line_lem C.NeverHeard

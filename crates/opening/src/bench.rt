@@ -1,17 +1,15 @@
 // The calls of the workshop bench, which is written in C: byte slices and numbers only. A table travels as two bytes a
 // minute, low byte first, and an answer is one number, whose bytes include/opening.h explains. Each is the public call
 // on the minutes of the bytes. C has them by the crate `opening_c`, a static library, which no crate can stand on.
-ghost use Rattle.std.specs.Prelude.{◌≡◌, ◌+◌, ◌/◌, ◌<◌, min, length};
+ghost use Rattle.std.specs.Prelude.{◌≡◌, ◌+◌, ◌/◌, ◌^◌, ◌<◌, min, length};
 ghost use Rattle.network.specs.Limits as L;
-ghost use Rattle.calls.specs.Values.{turned_away, done};
+ghost use Rattle.calls.specs.Values.{done, number_values};
 ghost use Rattle.calls.specs.Call.{Leaves};
-ghost use Rattle.calls.specs.Calls.{written_values, housed};
-ghost use Rattle.calls.specs.Play.{due_values};
+ghost use Rattle.calls.specs.Calls.{housed};
 ghost use Rattle.calls.specs.Bench as B;
 ghost use Rattle.opening.specs.Taken.{Taken};
 ghost use Rattle.opening.specs.Packed.{HasRoom, packed_table_lem};
 
-use calls::{Due, Judgement, Written};
 use checker::{Breach, Verdict};
 use network::Network;
 use refusal::Refusal;
@@ -25,10 +23,7 @@ fn take(bytes: &[u8], table: &mut [u16]) -> usize
     ensures { Taken bytes.now result table.new }
 {
     let count = bytes.len() / 2;
-    if bytes.len() % 2 == 1 {
-        return TAKEN;
-    }
-    if Network::CELLS < count {
+    if bytes.len() % 2 == 1 || Network::CELLS < count {
         return TAKEN;
     }
     pairs::unpack(bytes, table);
@@ -39,87 +34,62 @@ fn take(bytes: &[u8], table: &mut [u16]) -> usize
 fn room(bytes: usize) -> usize
     ensures { result ≡ min (bytes / 2) L.cells }
 {
-    if Network::CELLS < bytes / 2 {
-        return Network::CELLS;
+    (bytes / 2).min(Network::CELLS)
+}
+
+// An answer: what it tells, behind a number and a line of 0, or a refusal's number, and its line in the next two bytes.
+fn packed(answer: Result<u64, Refusal>) -> u64
+    requires { (number_values answer).value < 2 ^ 40 }
+    ensures { result ≡ B.packed_count_lem (number_values answer) }
+{
+    match answer {
+        Ok(value) => 16777216 * value,
+        Err(refusal) => u64::from(refusal.cause.number()) + 256 * u64::from(refusal.line),
     }
-    bytes / 2
-}
-
-// A refusal's number, and its line in the next two bytes.
-fn packed_refusal(refusal: Refusal) -> u64
-    ensures { result ≡ B.packed_count_lem (turned_away 0 refusal) }
-{
-    let cause = refusal.cause;
-    refusal::number(cause) as u64 + 256 * (refusal.line as u64)
-}
-
-// A count behind a number and a line of 0.
-fn packed_count(count: usize) -> u64
-    requires { count < 65536 }
-    ensures { result ≡ B.packed_count_lem (done count) }
-{
-    16777216 * (count as u64)
 }
 
 // The answer of a call that writes.
-fn packed_written(written: Written) -> u64
-    requires { (written_values written).value < 65536 }
-    ensures { result ≡ B.packed_count_lem (written_values written) }
+fn packed_written(written: Result<usize, Refusal>) -> u64
+    requires { (number_values written).value < 65536 }
+    ensures { result ≡ B.packed_count_lem (number_values written) }
 {
-    match written {
-        Written::Refused(refusal) => packed_refusal(refusal),
-        Written::Count(count) => packed_count(count),
-    }
+    packed(written.map(|count| count as u64))
 }
 
 // The answer of a call that writes minutes, and as many of them in the table's bytes.
-fn packed_table(written: Written, minutes: &[u16], table: &mut [u8]) -> u64
+fn packed_table(written: Result<usize, Refusal>, minutes: &[u16], table: &mut [u8]) -> u64
     requires { HasRoom written minutes.now table.old }
     ensures { Leaves (packed_table_lem written minutes.now table.old) result table.new }
 {
-    match written {
-        Written::Refused(refusal) => packed_refusal(refusal),
-        Written::Count(count) => {
-            pairs::pack(&minutes[..count], table);
-            packed_count(count)
-        }
+    if let Ok(count) = written {
+        pairs::pack(&minutes[..count], table);
     }
+    packed_written(written)
 }
 
-// A word with its three values, behind a number and a line of 0.
-fn packed_word(word: u8, first: u8, second: u8, third: u8) -> u64
-    ensures { result ≡ B.packed (B.judged word first second third) }
-{
-    16777216 * (word as u64 + 256 * (first as u64 + 256 * (second as u64 + 256 * (third as u64))))
-}
-
-// A breach. Cases, events and rules are fewer than 256.
-fn packed_breach(breach: Breach) -> u64
-    requires { B.Small (B.breach_values breach) }
-    ensures { result ≡ B.packed (B.breach_values breach) }
-{
-    match breach {
-        Breach::Late { scenario, event } => packed_word(1, scenario as u8, event as u8, 0),
-        Breach::Rule {
-            scenario,
-            constraint,
-        } => packed_word(2, scenario as u8, constraint as u8, 0),
-        Breach::Unheard {
-            scenario,
-            other,
-            event,
-        } => packed_word(3, scenario as u8, other as u8, event as u8),
-    }
-}
-
-// A verdict.
-fn packed_verdict(verdict: Verdict) -> u64
+// A verdict's word with its three values, as what an answer tells. Cases, events and rules are fewer than 256.
+fn word(verdict: Verdict) -> u32
     requires { B.Small (B.verdict_values verdict) }
-    ensures { result ≡ B.packed (B.verdict_values verdict) }
+    ensures { B.packed_count_lem (done result) ≡ B.packed (B.verdict_values verdict) }
 {
     match verdict {
-        Verdict::Pass => packed_word(0, 0, 0, 0),
-        Verdict::Breach(breach) => packed_breach(breach),
+        Verdict::Pass => 0,
+        Verdict::Breach(Breach::Late { scenario, event }) => {
+            u32::from_le_bytes([1, scenario as u8, event as u8, 0])
+        }
+        Verdict::Breach(
+            Breach::Rule {
+                scenario,
+                constraint,
+            },
+        ) => u32::from_le_bytes([2, scenario as u8, constraint as u8, 0]),
+        Verdict::Breach(
+            Breach::Unheard {
+                scenario,
+                other,
+                event,
+            },
+        ) => u32::from_le_bytes([3, scenario as u8, other as u8, event as u8]),
     }
 }
 
@@ -129,10 +99,9 @@ pub fn opening_judge(sheet: &[u8], table: &[u8]) -> u64
 {
     let mut minutes = [0u16; TAKEN];
     let count = take(table, &mut minutes);
-    let judgement = crate::judge_table(sheet, &minutes[..count]);
-    match judgement {
-        Judgement::Refused(refusal) => packed_refusal(refusal),
-        Judgement::Judged(verdict) => packed_verdict(verdict),
+    match crate::judge_table(sheet, &minutes[..count]) {
+        Ok(verdict) => packed(Ok(u64::from(word(verdict)))),
+        Err(refusal) => packed(Err(refusal)),
     }
 }
 
@@ -177,15 +146,14 @@ pub fn opening_house(sheet: &[u8], out: &mut [u8]) -> u64
 
 // The player for C.
 pub fn opening_due(sheet: &[u8], table: &[u8], minute: u16, heard: &[u8]) -> u64
-    ensures { result ≡ B.packed_count_lem (due_values (B.bench_due sheet.now table.now minute
+    ensures { result ≡ B.packed_count_lem (number_values (B.bench_due sheet.now table.now minute
         heard.now)) }
 {
     let mut minutes = [0u16; TAKEN];
     let count = take(table, &mut minutes);
     let said = dispatch::heard_text::said(heard);
-    let due = crate::events_due_on(sheet, &minutes[..count], minute, said);
-    match due {
-        Due::Refused(refusal) => packed_refusal(refusal),
-        Due::Events(events) => packed_count(events as usize),
+    match crate::events_due_on(sheet, &minutes[..count], minute, said) {
+        Ok(events) => packed(Ok(u64::from(events))),
+        Err(refusal) => packed(Err(refusal)),
     }
 }

@@ -2,21 +2,20 @@
 // one, and a refusal leaves the lent memory as it was.
 #![tactic(auto)]
 
-ghost use Rattle.std.specs.Prelude.{◌≡◌};
-ghost use Rattle.calls.specs.Call.{without_line_lem, Leaves};
+ghost use Rattle.std.specs.Prelude.{◌≡◌, Ok, Err, MatchResult};
+ghost use Rattle.calls.specs.Call.{Leaves};
 ghost use Rattle.calls.specs.Calls.{summary, judgement, solving, listed, housed};
 ghost use Rattle.calls.specs.Play.{events_due_lem, events_due_on_lem};
 ghost use Rattle.calls.specs.Recover.{recovering};
-ghost use Rattle.opening.specs.Prologue.{after_test, handed_in_lem, handed_out_lem, read_back_lem, answer_to_lem};
+ghost use Rattle.opening.specs.Prologue.{handed_in_lem, of_unread, of_unheard};
 
-use calls::{Counts, Due, Judgement, Summary, Written};
+use calls::Counts;
 use checker::Verdict;
-use dispatch::{Dispatched, Heard};
+use dispatch::{Heard, Said, Unheard};
 use network::Network;
-use readback::Answer;
+use network::accepted::Accepted;
+use readback::Unread;
 use refusal::{Cause, Refusal};
-use sheet::{Outcome, Reading};
-use solver::Solved;
 
 pub mod bench;
 
@@ -30,195 +29,129 @@ pub const SHEET_BYTES: usize = sheet::LONGEST;
 
 pub const PRINTED_BYTES: usize = readback::LONGEST;
 
-// A refusal that concerns no line.
-fn without_line(cause: Cause) -> Refusal
-    ensures { result ≡ without_line_lem cause }
+// The sheet, for a call that is handed a table of so many minutes.
+fn handed_in(sheet: &[u8], minutes: usize) -> Result<Accepted<'_>, Refusal>
+    ensures { MatchResult result
+        (λ a. (a.sheet.now ≡ sheet.now) × (handed_in_lem sheet.now minutes ≡ Ok a.formed.network))
+        (λ r. handed_in_lem sheet.now minutes ≡ Err r) }
 {
-    Refusal { cause, line: 0 }
-}
-
-// The refusal before a call's own work: the sheet's own, or behind it that of a test of the call.
-fn after_test(outcome: Outcome, passes: bool, cause: Cause) -> Outcome
-    ensures { result ≡ after_test outcome passes cause }
-{
-    if let Outcome::Refused(refusal) = outcome {
-        return Outcome::Refused(refusal);
+    let accepted = sheet::read(sheet)?;
+    let network = &accepted.formed.network;
+    if minutes != network::cell_count(network.events, network.signals) {
+        return Err(Refusal::without_line(Cause::WrongTableLength));
     }
-    if passes {
-        return Outcome::Accepted;
-    }
-    Outcome::Refused(without_line(cause))
-}
-
-// The reading for a call that is handed a table of so many minutes.
-fn handed_in(sheet: &[u8], minutes: usize) -> Reading
-    ensures { result ≡ handed_in_lem sheet.now minutes }
-{
-    let reading = sheet::read(sheet);
-    let outcome = reading.outcome;
-    let network = reading.network;
-    let right = minutes == network::cell_count(network.events, network.signals);
-    Reading {
-        outcome: after_test(outcome, right, Cause::WrongTableLength),
-        network,
-    }
+    Ok(accepted)
 }
 
 // The horizon and the counts of a sheet.
-pub fn read_sheet(sheet: &[u8]) -> Summary
+pub fn read_sheet(sheet: &[u8]) -> Result<Counts, Refusal>
     ensures { result ≡ summary sheet.now }
 {
-    let reading = sheet::read(sheet);
-    let outcome = reading.outcome;
-    let network = reading.network;
-    match outcome {
-        Outcome::Refused(refusal) => Summary::Refused(refusal),
-        Outcome::Accepted => Summary::Accepted(Counts {
-            horizon: network.horizon,
-            events: network.events,
-            signals: network.signals,
-            rules: network.rules,
-        }),
-    }
+    let accepted = sheet::read(sheet)?;
+    let network = &accepted.formed.network;
+    Ok(Counts {
+        horizon: network.horizon,
+        events: network.events,
+        signals: network.signals,
+        rules: network.rules,
+    })
 }
 
 // The verdict on a table.
-pub fn judge_table(sheet: &[u8], table: &[u16]) -> Judgement
+pub fn judge_table(sheet: &[u8], table: &[u16]) -> Result<Verdict, Refusal>
     ensures { result ≡ judgement sheet.now table.now }
 {
-    let reading = handed_in(sheet, table.len());
-    let outcome = reading.outcome;
-    let network = reading.network;
-    match outcome {
-        Outcome::Refused(refusal) => Judgement::Refused(refusal),
-        Outcome::Accepted => Judgement::Judged(checker::check(network, table)),
-    }
+    let accepted = handed_in(sheet, table.len())?;
+    Ok(checker::check(&accepted.formed, table))
 }
 
 // The least good table into the first cells of the table.
-pub fn solve_sheet(sheet: &[u8], table: &mut [u16]) -> Written
+pub fn solve_sheet(sheet: &[u8], table: &mut [u16]) -> Result<usize, Refusal>
     ensures { Leaves (solving sheet.now table.old) result table.new }
 {
-    let reading = sheet::read(sheet);
-    let read = reading.outcome;
-    let network = reading.network;
+    let accepted = sheet::read(sheet)?;
+    let network = &accepted.formed.network;
     let cells = network::cell_count(network.events, network.signals);
-    let outcome = after_test(read, cells <= table.len(), Cause::BufferTooShort);
-    if let Outcome::Refused(refusal) = outcome {
-        return Written::Refused(refusal);
+    if table.len() < cells {
+        return Err(Refusal::without_line(Cause::BufferTooShort));
     }
-    let solved = solver::solve(network, table);
-    match solved {
-        Solved::Consistent { rounds: _ } => Written::Count(cells),
-        Solved::Inconsistent { rounds: _ } => Written::Refused(without_line(Cause::Inconsistent)),
-    }
-}
-
-// What a writer did with the memory that it was lent, as the call's answer.
-fn handed_out(filled: page::Filled) -> Written
-    ensures { result ≡ handed_out_lem filled }
-{
-    match filled {
-        page::Filled::Bytes(n) => Written::Count(n),
-        page::Filled::TooShort => Written::Refused(without_line(Cause::BufferTooShort)),
+    match solver::solve(&accepted.formed, table) {
+        Ok(_) => Ok(cells),
+        Err(_) => Err(Refusal::without_line(Cause::Inconsistent)),
     }
 }
 
 // The listing of any table of the right length, into the first bytes of out.
-pub fn write_listing(sheet: &[u8], table: &[u16], out: &mut [u8]) -> Written
+pub fn write_listing(sheet: &[u8], table: &[u16], out: &mut [u8]) -> Result<usize, Refusal>
     ensures { Leaves (listed sheet.now table.now out.old) result
         out.new }
 {
-    let reading = handed_in(sheet, table.len());
-    let outcome = reading.outcome;
-    let network = reading.network;
-    match outcome {
-        Outcome::Refused(refusal) => Written::Refused(refusal),
-        Outcome::Accepted => handed_out(listing::write(sheet, network, table, out)),
-    }
+    let accepted = handed_in(sheet, table.len())?;
+    listing::write(&accepted, table, out).ok_or(Refusal::without_line(Cause::BufferTooShort))
 }
 
-// What the reader of listings answers, as the call's answer.
-fn read_back(answer: Answer) -> Written
-    ensures { result ≡ read_back_lem answer }
+// Why a listing that can't be read back is refused.
+fn of_unread(unread: Unread) -> Refusal
+    ensures { result ≡ of_unread unread }
 {
-    match answer {
-        Answer::Recovered(n) => Written::Count(n),
-        Answer::OtherForm(line) => Written::Refused(Refusal {
-            cause: Cause::OtherForm,
-            line,
-        }),
-        Answer::NoMinute(line) => Written::Refused(Refusal {
-            cause: Cause::NoMinute,
-            line,
-        }),
-        Answer::TooShort => Written::Refused(without_line(Cause::BufferTooShort)),
+    match unread {
+        Unread::OtherForm(line) => Refusal::at(Cause::OtherForm, line),
+        Unread::NoMinute(line) => Refusal::at(Cause::NoMinute, line),
+        Unread::TooShort => Refusal::without_line(Cause::BufferTooShort),
     }
 }
 
 // The table of a listing, into the first cells of the table.
-pub fn read_listing(sheet: &[u8], printed: &[u8], table: &mut [u16]) -> Written
+pub fn read_listing(sheet: &[u8], printed: &[u8], table: &mut [u16]) -> Result<usize, Refusal>
     ensures { Leaves (recovering sheet.now printed.now table.old) result
         table.new }
 {
-    let reading = sheet::read(sheet);
-    let outcome = reading.outcome;
-    let network = reading.network;
-    match outcome {
-        Outcome::Refused(refusal) => Written::Refused(refusal),
-        Outcome::Accepted => read_back(readback::read(sheet, network, printed, table)),
+    let accepted = sheet::read(sheet)?;
+    match readback::read(&accepted, printed, table) {
+        Ok(minutes) => Ok(minutes),
+        Err(unread) => Err(of_unread(unread)),
     }
 }
 
 // The sheet in its house form, into the first bytes of out.
-pub fn write_house(sheet: &[u8], out: &mut [u8]) -> Written
+pub fn write_house(sheet: &[u8], out: &mut [u8]) -> Result<usize, Refusal>
     ensures { Leaves (housed sheet.now out.old) result out.new }
 {
-    let reading = sheet::read(sheet);
-    let outcome = reading.outcome;
-    let network = reading.network;
-    if let Outcome::Refused(refusal) = outcome {
-        return Written::Refused(refusal);
-    }
-    let rows = tighten::remaining(network);
-    if !rows.fits {
-        return Written::Refused(without_line(Cause::TooManyRows));
-    }
-    handed_out(canonical::write(sheet, network, rows, out))
+    let accepted = sheet::read(sheet)?;
+    let Some(remaining) = tighten::remaining(&accepted.formed) else {
+        return Err(Refusal::without_line(Cause::TooManyRows));
+    };
+    canonical::write(&accepted, &remaining, out).ok_or(Refusal::without_line(Cause::BufferTooShort))
 }
 
-// What the player answers, as the call's answer.
-fn answer_to(dispatched: Dispatched) -> Due
-    ensures { result ≡ answer_to_lem dispatched }
+// Why a list that no case can have heard is refused.
+fn of_unheard(unheard: Unheard) -> Refusal
+    ensures { result ≡ of_unheard unheard }
 {
-    match dispatched {
-        Dispatched::Events(events) => Due::Events(events),
-        Dispatched::Misnamed => Due::Refused(without_line(Cause::MisnamedSignal)),
-        Dispatched::NeverHeard => Due::Refused(without_line(Cause::NeverHeard)),
+    match unheard {
+        Unheard::Misnamed => Refusal::without_line(Cause::MisnamedSignal),
+        Unheard::NeverHeard => Refusal::without_line(Cause::NeverHeard),
     }
 }
 
 // The events due at the minute, by what a mask says of the signals heard before it. A mask says what a list does
-// where `dispatch::add` made it from 0, record by record; any other is misnamed.
-pub fn events_due_on(sheet: &[u8], table: &[u16], minute: u16, said: u64) -> Due
-    ensures { result ≡ events_due_on_lem sheet.now table.now minute said }
+// where `Said::add` made it from `Said::NOTHING`, record by record; any other is misnamed.
+pub fn events_due_on(sheet: &[u8], table: &[u16], minute: u16, said: Said) -> Result<u16, Refusal>
+    ensures { result ≡ events_due_on_lem sheet.now table.now minute said.mask }
 {
-    let reading = handed_in(sheet, table.len());
-    let outcome = reading.outcome;
-    let network = reading.network;
-    if let Outcome::Refused(refusal) = outcome {
-        return Due::Refused(refusal);
+    let accepted = handed_in(sheet, table.len())?;
+    if let Verdict::Breach(_) = checker::check(&accepted.formed, table) {
+        return Err(Refusal::without_line(Cause::TableFails));
     }
-    let verdict = checker::check(network, table);
-    match verdict {
-        Verdict::Pass => answer_to(dispatch::due(network, table, minute, said)),
-        Verdict::Breach(_) => Due::Refused(without_line(Cause::TableFails)),
+    match dispatch::due(&accepted.formed, table, minute, said) {
+        Ok(events) => Ok(events),
+        Err(unheard) => Err(of_unheard(unheard)),
     }
 }
 
 // The events due at the minute, by the list of the signals heard before it.
-pub fn events_due(sheet: &[u8], table: &[u16], minute: u16, heard: &[Heard]) -> Due
+pub fn events_due(sheet: &[u8], table: &[u16], minute: u16, heard: &[Heard]) -> Result<u16, Refusal>
     ensures { result ≡ events_due_lem sheet.now table.now minute heard.now }
 {
-    events_due_on(sheet, table, minute, dispatch::said(heard))
+    events_due_on(sheet, table, minute, Said::of(heard))
 }

@@ -3,9 +3,9 @@
 #![tactic(auto)]
 
 ghost use Rattle.std.specs.Prelude.{◌≡◌};
+ghost use Rattle.calls.specs.Values.{number_values};
 ghost use Rattle.calls.specs.Call.{Leaves};
 ghost use Rattle.calls.specs.Calls.{housed};
-ghost use Rattle.calls.specs.Play.{due_values};
 ghost use Rattle.calls.specs.Bench as B;
 
 use opening::bench;
@@ -53,7 +53,7 @@ pub extern "C" fn opening_house(sheet: &[u8], out: &mut [u8]) -> u64
 // The player for C.
 #[unsafe(no_mangle)]
 pub extern "C" fn opening_due(sheet: &[u8], table: &[u8], minute: u16, heard: &[u8]) -> u64
-    ensures { result ≡ B.packed_count_lem (due_values (B.bench_due sheet.now table.now minute heard.now)) }
+    ensures { result ≡ B.packed_count_lem (number_values (B.bench_due sheet.now table.now minute heard.now)) }
 {
     bench::opening_due(sheet, table, minute, heard)
 }

@@ -1,15 +1,11 @@
--- Laws of texts one behind the other. A loop that writes them has the invariant `Joining`: what is written so far is
--- the definition at n. It begins by `join-none`, goes on by `join-next` and ends by `join-all`. Assumes nothing.
+-- Laws of texts one behind the other. Assumes nothing.
 use mathlib.Core.Path.{◌≡◌, refl, ap}
 use mathlib.Core.List.{List, [], ◌∷◌, ◌++◌, append_assoc, append-nil}
-use Prim.Native.Nat.{ℕ, zero, suc, ◌+◌, ◌*◌, ◌≤◌, ◌<◌}
+use Prim.Native.Nat.{ℕ, zero, suc, ◌+◌}
 use native.Mathlib.Numerals.{add-one}
 use native.Mathlib.Omega.{arith}
-use lib.ListN.{length}
 use Rattle.prelude.specs.Bounded.{tabulate_from, tabulate}
 use Rattle.page.specs.Joined.{join_from}
-use Rattle.page.specs.Appended.{Appended}
-use Rattle.page.proofs.Append.{append-nothing, append_then}
 
 module _ (f : ℕ → List ℕ) where
   join_from-end : (i n j : ℕ) → j ≡ i + n → join_from i (suc n) f ≡ join_from i n f ++ f j
@@ -19,27 +15,6 @@ module _ (f : ℕ → List ℕ) where
   -- one more, at the end
   pub join_more : (n : ℕ) → join_from 0 (n + 1) f ≡ join_from 0 n f ++ f n
   join_more n = rw add-one (join_from-end 0 n n (omega arith))
-
--- a loop that writes f 0, f 1, .. , each of at most `most` bytes and `total` of them, has come to n
-pub record Joining (most : ℕ) (f : ℕ → List ℕ) (total : ℕ) (b : List ℕ) (at n : ℕ) (page : List ℕ)
-    (next : ℕ) : Type 0 where
-  pub within : n ≤ total
-  pub done : Appended (most * n) b at (join_from 0 n f) page next
-
-module _ {most : ℕ} {f : ℕ → List ℕ} {total : ℕ} {b : List ℕ} {at : ℕ} where
-  pub join-none : at ≤ length b → Joining most f total b at 0 b at
-  join-none h =
-      let none : most * 0 ≡ 0 = omega arith in
-      record { within = omega arith; done = rw none (append-nothing b at h) }
-
-  module _ {n r : ℕ} {m : List ℕ} (here : Joining most f total b at n m r) where
-    pub join-next : {j e : ℕ} {a : List ℕ} → n < total → Appended j m r (f n) a e → j ≤ most
-        → Joining most f total b at (n + 1) a e
-    join-next h g k =
-        record { within = omega arith; done = rw (join_more f n) (append_then here.done g (omega arith)) }
-
-    pub join-all : total ≤ n → Appended (most * total) b at (join_from 0 total f) m r
-    join-all h = let all : n ≡ total = omega arith in rw all at here.done
 
 -- a table of bytes is the join of texts of one byte
 module _ (f : ℕ → ℕ) where

@@ -1,4 +1,6 @@
--- Laws of `specs/`, for the proofs of whatever writes: of appending, of a loop that appends, and of lent memory.
-pub mod Append
+-- Laws of `specs/`, for the proofs of whatever writes: of texts one behind the other, of what is written behind, of a
+-- loop that writes, and of lent memory.
 pub mod Join
-pub mod Memory
+pub mod Pushed
+pub mod Pushing
+pub mod HandedOut

@@ -1,5 +1,5 @@
 -- Read in this order: texts one behind the other; what a function does that writes a text; what a call does with the
 -- memory that it is lent.
 pub mod Joined
-pub mod Appended
-pub mod Filled
+pub mod Pushed
+pub mod HandedOut

@@ -1,67 +1,102 @@
-// Text written into lent memory. Each push takes the place where its text begins and answers the place where it ends;
-// hand_out begins at the front, and tests first whether there is room. Everything else in the memory stays as it was.
+// Text written piece by piece onto a page, whose caller has seen to the room; hand_out copies it into lent memory, and
+// tests first whether there is room. Everything else in that memory stays as it was.
 #![tactic(auto)]
 
-ghost use Rattle.std.specs.Prelude.{[], ◌∷◌, ◌+◌, ◌≤◌, ◌<◌, length};
+ghost use Rattle.std.specs.Prelude.{◌≡◌, List, [], ◌∷◌, ℕ, ◌+◌, ◌≤◌, ◌<◌, length, take};
 ghost use Rattle.text.specs.Lines.{comma};
 ghost use Rattle.text.specs.Decimal.{decimal};
-ghost use Rattle.page.specs.Appended.{Appended};
-ghost use Rattle.page.specs.Filled.{FilledIs};
+ghost use Rattle.page.specs.Pushed.{Pushed};
+ghost use Rattle.page.specs.HandedOut.{HandedOut};
 
-// What a call that writes did: so many bytes, or nothing, since the memory is too short for them.
-#[derive(Clone, Copy)]
-pub enum Filled {
-    Bytes(usize),
-    TooShort,
+use std::marker::Model;
+
+// Memory of N bytes, written from the front. Contracts see it as the bytes that are written.
+#[derive(Drop)]
+pub struct Page<const N: usize> {
+    bytes: [u8; N],
+    end: usize,
 }
 
-// One byte.
-pub fn push(page: &mut [u8], at: usize, b: u8) -> usize
-    requires { at < length page.old }
-    ensures { Appended 1 page.old at (b ∷ []) page.new result }
-{
-    page[at] = b;
-    at + 1
+impl<const N: usize> Model for Page<N> {
+    ghost Value = { List ℕ };
+
+    ghost view = { λ p. take p.end p.bytes };
+
+    ghost invariant = { λ p. p.end ≤ N };
 }
 
-// Bytes, one behind the other.
-pub fn push_all(page: &mut [u8], at: usize, s: &[u8]) -> usize
-    requires { at + length s.now ≤ length page.old }
-    ensures { Appended (length s.now) page.old at s.now page.new result }
-{
-    for i in 0..s.len() {
-        page[at + i] = s[i];
+impl<const N: usize> Page<N> {
+    // One with nothing written.
+    pub fn new() -> Self
+        ensures { result ≡ [] }
+    {
+        Page {
+            bytes: [0; N],
+            end: 0,
+        }
     }
-    at + s.len()
-}
 
-// A field of a line, behind its comma.
-pub fn push_field(page: &mut [u8], at: usize, s: &[u8]) -> usize
-    requires { at + length s.now < length page.old }
-    ensures { Appended (1 + length s.now) page.old at (comma ∷ s.now)
-        page.new result }
-{
-    let next = push(page, at, b',');
-    push_all(page, next, s)
-}
-
-// A number in decimal.
-pub fn push_number(page: &mut [u8], at: usize, v: u16) -> usize
-    requires { at + 5 ≤ length page.old }
-    ensures { Appended 5 page.old at (decimal v) page.new result }
-{
-    let digits = text::spell(v);
-    let bytes = digits.bytes;
-    let count = digits.count;
-    push_all(page, at, &bytes[..count])
-}
-
-// A text into the front of lent memory: how many bytes were written, or that the memory is too short for them.
-pub fn hand_out(text: &[u8], out: &mut [u8]) -> Filled
-    ensures { FilledIs text.now out.old out.new result }
-{
-    if out.len() < text.len() {
-        return Filled::TooShort;
+    // How many bytes are written.
+    pub fn len(&self) -> usize
+        ensures { result ≡ length self.now }
+    {
+        self.end
     }
-    Filled::Bytes(push_all(out, 0, text))
+
+    // The bytes that are written.
+    pub fn text(&self) -> &[u8]
+        ensures { result.now ≡ self.now }
+    {
+        &self.bytes[..self.end]
+    }
+
+    // One byte.
+    pub fn push(&mut self, b: u8)
+        requires { length self.old < N }
+        ensures { Pushed 1 self.old (b ∷ []) self.new }
+    {
+        self.bytes[self.end] = b;
+        self.end += 1;
+    }
+
+    // Bytes, one behind the other.
+    pub fn push_all(&mut self, s: &[u8])
+        requires { length self.old + length s.now ≤ N }
+        ensures { Pushed (length s.now) self.old s.now self.new }
+    {
+        let end = self.end + s.len();
+        let bytes = &mut self.bytes[..];
+        bytes[self.end..end].copy_from_slice(s);
+        self.end = end;
+    }
+
+    // A field of a line, behind its comma.
+    pub fn push_field(&mut self, s: &[u8])
+        requires { length self.old + length s.now < N }
+        ensures { Pushed (1 + length s.now) self.old (comma ∷ s.now) self.new }
+    {
+        self.push(b',');
+        self.push_all(s);
+    }
+
+    // A number in decimal.
+    pub fn push_number(&mut self, v: u16)
+        requires { length self.old + 5 ≤ N }
+        ensures { Pushed 5 self.old (decimal v) self.new }
+    {
+        let digits = text::spell(v);
+        self.push_all(&digits.bytes[..digits.count]);
+    }
+
+    // The text into the front of lent memory: how many bytes that were, or None where the memory is too short for them.
+    pub fn hand_out(&self, out: &mut [u8]) -> Option<usize>
+        ensures { HandedOut self.now out.old out.new result }
+    {
+        let text = self.text();
+        if out.len() < text.len() {
+            return None;
+        }
+        out[..text.len()].copy_from_slice(text);
+        Some(text.len())
+    }
 }

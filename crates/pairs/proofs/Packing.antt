@@ -6,7 +6,7 @@ use Prim.Native.Nat.{ℕ, suc, ◌+◌, ◌*◌, ◌/◌, ◌%◌, ◌≤◌, �
 use native.Mathlib.Numerals.{add-one}
 use native.Mathlib.Omega.{arith}
 use lib.ListN.{length, get_or, get_or-eq_default, take, drop, set, length-append}
-use lib.Seq.{drop-cons, take-suc, take-length, set_at, length-take-le}
+use lib.Seq.{drop-cons, take-suc, set_at, length-take-le}
 use Rattle.prelude.specs.Bounded.{tabulate}
 use Rattle.prelude.proofs.Bounded.{length-tabulate, get_d_tabulate, tabulate-more}
 use Rattle.prelude.proofs.Tests.{lt_or_ge, eq_or_ne}
@@ -34,9 +34,6 @@ unpack_step b t₀ t i v e h q =
     ∙ rw more
 
 -- one more short minute
-pub short_none : Short []
-short_none i = omega arith
-
 pub short-more : (b : List ℕ) (i v : ℕ) → Short (tabulate i (pair_at b)) → v ≡ pair_at b i → v < 65536
     → Short (tabulate (i + 1) (pair_at b))
 short-more b i v s q h k =
@@ -85,7 +82,3 @@ pack_step t b₀ b i m e h r q =
     rw (q, append_assoc) (bytes_of_more t i h) in
     let place : 2 * i + 1 + 1 ≡ 2 * (i + 1) = omega arith in
     both ∙ rw (front, place)
-
-pub pack-end : (t b₀ b : List ℕ) (i : ℕ) → i ≡ length t → b ≡ bytes_of (take i t) ++ drop (2 * i) b₀
-    → b ≡ bytes_of t ++ drop (2 * length t) b₀
-pack-end t b₀ b i q e = e ∙ rw (q, take-length t)

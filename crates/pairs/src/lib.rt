@@ -1,15 +1,8 @@
 // A table as bytes, two a minute and the low byte first: how it travels to and from the bench's C program.
 #![tactic(auto)]
 
-ghost use Rattle.std.specs.Prelude.{◌≡◌, ◌++◌, ◌+◌, ◌*◌, ◌/◌, ◌≤◌, length, drop};
+ghost use Rattle.std.specs.Prelude.{◌≡◌, ◌++◌, ◌*◌, ◌/◌, ◌≤◌, length, drop};
 ghost use Rattle.pairs.specs.Pairs.{minutes_of, bytes_of, Short};
-
-// A minute of its two bytes.
-fn minute(low: u8, high: u8) -> u16
-    ensures { result ≡ low + 256 * high }
-{
-    low as u16 + 256 * (high as u16)
-}
 
 // The minutes of the whole pairs of bytes, into the first cells of the table; each has sixteen bits.
 pub fn unpack(bytes: &[u8], table: &mut [u16])
@@ -18,11 +11,8 @@ pub fn unpack(bytes: &[u8], table: &mut [u16])
         ++ drop (length bytes.now / 2) table.old)
         × Short (minutes_of bytes.now) }
 {
-    let count = bytes.len() / 2;
-    let mut i = 0;
-    while i < count {
-        table[i] = minute(bytes[2 * i], bytes[2 * i + 1]);
-        i += 1;
+    for i in 0..bytes.len() / 2 {
+        table[i] = u16::from_le_bytes([bytes[2 * i], bytes[2 * i + 1]]);
     }
 }
 
@@ -32,11 +22,9 @@ pub fn pack(table: &[u16], bytes: &mut [u8])
     ensures { bytes.new ≡ bytes_of table.now
         ++ drop (2 * length table.now) bytes.old }
 {
-    let mut i = 0;
-    while i < table.len() {
-        let m = table[i];
-        bytes[2 * i] = (m % 256) as u8;
-        bytes[2 * i + 1] = (m / 256) as u8;
-        i += 1;
+    for i in 0..table.len() {
+        let [low, high] = table[i].to_le_bytes();
+        bytes[2 * i] = low;
+        bytes[2 * i + 1] = high;
     }
 }

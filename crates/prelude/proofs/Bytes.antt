@@ -1,13 +1,16 @@
 -- Laws of byte strings. Assumes nothing.
-use mathlib.Core.Path.{◌≡◌, refl}
+use mathlib.Core.Path.{◌≡◌, refl, sym}
 use mathlib.Core.Logic.{inl, inr}
 use mathlib.Core.Bool.{Bool, true, false, or-true as or-true_right}
 use mathlib.Core.List.{List, [], ◌∷◌}
 use Prim.Native.Nat.{ℕ}
 use borrow.Author.Tests.{eqb-true, eq-eqb}
 use lib.Dec.{eqb}
+use Rattle.std.specs.Prelude.{nat_eq}
+use Rattle.std.specs.Cmp.Lexicographic.{pointwise}
+use Rattle.std.specs.List.{list_any, list_all}
 use Rattle.prelude.specs.Bytes.{same, is_in, every}
-use Rattle.prelude.proofs.Tests.{clash, and-true, and_both, or-true}
+use Rattle.prelude.proofs.Tests.{clash, and-true, and_both, or-true, eqb_same}
 
 -- the test finds out equality
 pub same_true : (s t : List ℕ) → same s t ≡ true → s ≡ t
@@ -47,3 +50,18 @@ every_mono f g h [] e = refl
 every_mono f g h (b ∷ s) e =
     let p = and-true (f b) (every f s) e in
     and_both (g b) (every g s) (h b p.0) (every_mono f g h s p.1)
+
+-- what the code finds by `==`, by `contains`, and by `all`
+pub contains_is : (b : ℕ) (s : List ℕ) → list_any (λ y. eqb y b) s ≡ is_in b s
+contains_is b [] = refl
+contains_is b (x ∷ xs) = rw (eqb_same x b b x sym sym, contains_is b xs)
+
+pub all_is : (f : ℕ → Bool) (s : List ℕ) → list_all f s ≡ every f s
+all_is f [] = refl
+all_is f (b ∷ s) = rw (all_is f s)
+
+pub equal_is : (s t : List ℕ) → pointwise nat_eq s t ≡ same s t
+equal_is [] [] = refl
+equal_is [] (y ∷ ys) = refl
+equal_is (x ∷ xs) [] = refl
+equal_is (x ∷ xs) (y ∷ ys) = rw (equal_is xs ys)

@@ -1,6 +1,8 @@
 -- Laws of `specs/`, and of tests and cells, for the proofs of the crates above. No contract cites them.
 pub mod Tests
 pub mod Search
+pub mod Options
+pub mod Positions
 pub mod Checks
 pub mod Bounded
 pub mod Minima

@@ -2,12 +2,13 @@
 -- both round trips. Assumes nothing.
 use mathlib.Core.Path.{◌≡◌, refl, sym, ◌∙◌, ap}
 use mathlib.Core.Logic.{inl, inr}
-use mathlib.Core.Bool.{Bool, true, false, cond}
+use mathlib.Core.Bool.{true, false, cond}
 use mathlib.Core.List.{List, [], ◌∷◌}
 use Prim.Native.Nat.{ℕ, ◌≤◌, ◌<◌}
+use Rattle.std.specs.Prelude.{Some, None}
 use native.Mathlib.Omega.{arith}
 use Rattle.prelude.specs.Bytes.{ascii}
-use Rattle.prelude.proofs.Tests.{either, zero-is-one, and-true, and_both, eq_or_ne}
+use Rattle.prelude.proofs.Tests.{either, and-true, and_both, eq_or_ne}
 use Rattle.prelude.proofs.Bytes.{same_true}
 use Rattle.text.specs.Number.{is_number, is_negative, in_range, magnitude}
 use Rattle.text.specs.Decimal.{decimal}
@@ -20,27 +21,27 @@ use Rattle.listing.specs.Listing.{time_text}
 use Rattle.listing.proofs.Times.{time_text-blank, time_text-time}
 use Rattle.readback.specs.Minute.{latest, is_blank, is_minute, minute_of}
 use Rattle.readback.specs.Answers.{digits_in_lem, minute_in_lem}
-use Rattle.readback.specs.declared.Minute.TheVariants as M
+use Rattle.readback.proofs.Optional.{then_some_none, then_some_some}
 
 -- what an answer says of the text
 module _ (f : List ℕ) where
-  pub digits_ill : read_number_lem latest f ≡ Num.IllFormed → M.IllFormed ≡ digits_in_lem f
+  pub digits_ill : read_number_lem latest f ≡ None → None ≡ digits_in_lem f
   digits_ill e = rw (number_ill latest f e)
 
-  beyond : (is_number f ≡ true) × (in_range 0 latest f ≡ false) → M.IllFormed ≡ digits_in_lem f
+  beyond : (is_number f ≡ true) × (in_range 0 latest f ≡ false) → None ≡ digits_in_lem f
   beyond p = rw (p.0, p.1)
 
-  pub digits_minus : (v : ℕ) → read_number_lem latest f ≡ Num.Minus v → M.IllFormed ≡ digits_in_lem f
+  pub digits_minus : (v : ℕ) → read_number_lem latest f ≡ Some (Num.Minus v) → None ≡ digits_in_lem f
   digits_minus v e = beyond (range_minus 0 latest f v e)
 
-  pub digits_beyond : (v : ℕ) → read_number_lem latest f ≡ Num.Plus v → latest < v → M.IllFormed ≡ digits_in_lem f
+  pub digits_beyond : (v : ℕ) → read_number_lem latest f ≡ Some (Num.Plus v) → latest < v → None ≡ digits_in_lem f
   digits_beyond v e h = beyond (range-high 0 latest f v e h)
 
-  pub digits_at : (v : ℕ) → read_number_lem latest f ≡ Num.Plus v → v ≤ latest → M.At v ≡ digits_in_lem f
-  digits_at v e h = let p = range_in 0 latest f v e (omega arith) h in rw (p.0, p.1, cond, p.2)
+  pub digits_at : (v : ℕ) → read_number_lem latest f ≡ Some (Num.Plus v) → v ≤ latest → Some v ≡ digits_in_lem f
+  digits_at v e h = let p = range_in 0 latest f v e (omega arith) h in rw (p.0, p.1, p.2)
 
   -- a dash, and any other text
-  pub minute-blank : is_blank f ≡ true → M.At L.blank ≡ minute_in_lem f
+  pub minute-blank : is_blank f ≡ true → Some L.blank ≡ minute_in_lem f
   unfolding is_minute minute_of
   minute-blank e = rw e
 
@@ -49,20 +50,12 @@ module _ (f : List ℕ) where
   minute_digits e = rw e
 
 -- what the answer on a text says
-answer_ill : (b : Bool) (v : ℕ) → cond b (M.At v) M.IllFormed ≡ M.IllFormed → b ≡ false
-answer_ill true v e = zero-is-one cc
-answer_ill false v e = refl
-
-answer_at : (b : Bool) (v w : ℕ) → cond b (M.At v) M.IllFormed ≡ M.At w → (b ≡ true) × (v ≡ w)
-answer_at true v w e = (refl, cc)
-answer_at false v w e = zero-is-one cc
-
 module _ (f : List ℕ) where
-  pub not_a_minute : minute_in_lem f ≡ M.IllFormed → is_minute f ≡ false
-  not_a_minute e = answer_ill (is_minute f) (minute_of f) e
+  pub not_a_minute : minute_in_lem f ≡ None → is_minute f ≡ false
+  not_a_minute e = then_some_none (is_minute f) (minute_of f) e
 
-  pub a_minute : (v : ℕ) → minute_in_lem f ≡ M.At v → (is_minute f ≡ true) × (minute_of f ≡ v)
-  a_minute v e = answer_at (is_minute f) (minute_of f) v e
+  pub a_minute : (v : ℕ) → minute_in_lem f ≡ Some v → (is_minute f ≡ true) × (minute_of f ≡ v)
+  a_minute v e = then_some_some (is_minute f) (minute_of f) v e
 
 -- what has no sign is not blank
 unsigned-not-blank : (f : List ℕ) → is_negative f ≡ false → is_blank f ≡ false

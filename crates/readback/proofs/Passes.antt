@@ -5,23 +5,24 @@ use mathlib.Core.Bool.{Bool, true, false, ◌&&◌}
 use mathlib.Core.Option.{Option, none, some}
 use mathlib.Core.List.{List}
 use Prim.Native.Nat.{ℕ, ◌+◌, ◌^◌, ◌≤◌, ◌<◌}
+use Rattle.std.specs.Prelude.{Ok, Err}
 use native.Mathlib.Numerals.{add-one}
 use native.Mathlib.Omega.{arith}
 use borrow.Author.Tests.{eqb-true, eq-eqb, ne_eqb, le-leb, lt-leb, le-ltb, lt-ltb}
 use lib.Dec.{eqb}
-use lib.ListN.{length, take, length-take}
+use lib.ListN.{length}
 use Rattle.prelude.specs.Bytes.{same}
 use Rattle.prelude.proofs.Tests.{zero-is-one, and-true}
 use Rattle.prelude.proofs.Search.{Searching, searching_start, searching_on, found_at, found_nothing}
 use Rattle.text.specs.Lines.{fields, field, line_at, ends_at, after_line}
-use Rattle.text.proofs.Lines.{same_length, line-inside}
+use Rattle.text.proofs.Lines.{line-inside}
 use Rattle.listing.specs.Listing.{scenario_text}
 use Rattle.readback.specs.Form.{longest_read}
 use Rattle.readback.specs.Rows.{is_row_lem, line_number_lem, place_of, row_fits_lem, row_misfit, rows_misfit}
 use Rattle.readback.specs.Rows.{header_fits, misfit}
-use Rattle.readback.specs.Answers.{fault_answer, line_answer}
-use Rattle.readback.specs.declared.Line.TheVariants as L
-use Rattle.readback.specs.declared.Fault.TheVariants as F
+use Rattle.readback.specs.Answers.{form_answer, minutes_answer}
+use Rattle.readback.specs.declared.Unread.{Unread}
+use Rattle.readback.specs.declared.Unread.TheVariants as U
 
 -- a listing: its length decides, then its header, then its rows
 module _ (head : List ℕ) (k n : ℕ) (bytes : List ℕ) where
@@ -37,11 +38,6 @@ module _ (head : List ℕ) (k n : ℕ) (bytes : List ℕ) where
     pub rows_decide : header_fits head bytes ≡ true → misfit head k n bytes ≡ rows_misfit bytes (length head) k n
     unfolding misfit
     rows_decide e = rw (le-leb (length bytes) longest_read h, e)
-
--- bytes that are shorter than the header do not begin with it
-pub header-short : (head bytes : List ℕ) → length bytes < length head → header_fits head bytes ≡ false
-header-short head bytes h =
-    same_length (take (length head) bytes) head (λ e. absurd (omega (arith, length-take (length head) bytes)))
 
 -- a line: the count of its fields decides, then its mark
 module _ (k n s : ℕ) (l : List ℕ) where
@@ -60,23 +56,22 @@ module _ (k n s : ℕ) (l : List ℕ) where
       let p = and-true (eqb (length (fields l)) (n + 1)) (same (field 0 (fields l)) (scenario_text k s)) e in
       (eqb-true (length (fields l)) (n + 1) p.0, p.1)
 
--- what the answer on a line says
-pub line-misfit : (b : Bool) (n : ℕ) → L.Misfit ≡ line_answer b n → b ≡ false
-line-misfit true n e = zero-is-one cc
-line-misfit false n e = refl
+-- what the answer of a pass says
+pub form-fault : (o : Option ℕ) (e : Unread) → form_answer o ≡ Err e → (l : ℕ) × (o ≡ some l) × (e ≡ U.OtherForm l)
+form-fault none e q = zero-is-one cc
+form-fault (some l) e q = (l, refl, cc)
 
-pub line-fits : (b : Bool) (n m : ℕ) → L.Fits m ≡ line_answer b n → (b ≡ true) × (m ≡ n)
-line-fits true n m e = (refl, cc)
-line-fits false n m e = zero-is-one cc
+pub form-none : (o : Option ℕ) → form_answer o ≡ Ok tt → o ≡ none
+form-none none q = refl
+form-none (some l) q = zero-is-one cc
 
--- and that of a pass
-pub fault-is : (o : Option ℕ) (m : ℕ) → F.At m ≡ fault_answer o → o ≡ some m
-fault-is none m e = zero-is-one cc
-fault-is (some a) m e = cc
+pub minutes-fault : (o : Option ℕ) (e : Unread) → minutes_answer o ≡ Err e → (l : ℕ) × (o ≡ some l) × (e ≡ U.NoMinute l)
+minutes-fault none e q = zero-is-one cc
+minutes-fault (some l) e q = (l, refl, cc)
 
-pub none_is : (o : Option ℕ) → F.Nowhere ≡ fault_answer o → o ≡ none
-none_is none e = refl
-none_is (some a) e = zero-is-one cc
+pub minutes-none : (o : Option ℕ) → minutes_answer o ≡ Ok tt → o ≡ none
+minutes-none none q = refl
+minutes-none (some l) q = zero-is-one cc
 
 -- where the row behind that of s begins, seen from where this one does
 pub next_place : (bytes : List ℕ) (first s at e : ℕ) → at ≡ place_of bytes first s → e ≡ length (line_at bytes at)
@@ -116,7 +111,8 @@ module _ {bytes : List ℕ} {first k n s at : ℕ} (here : Forming bytes first k
         inside = omega (arith, line-inside bytes at ends);
       }
 
-  pub forming-fault : s < 2 ^ k → fits ≡ false → F.At (line_number_lem s) ≡ fault_answer (rows_misfit bytes first k n)
+  pub forming-fault : s < 2 ^ k → fits ≡ false
+      → Err (U.OtherForm (line_number_lem s)) ≡ form_answer (rows_misfit bytes first k n)
   unfolding rows_misfit
   forming-fault h g = rw (found_at here.searching (line_number_lem s) h (rw (fits-is, g)))
 
@@ -126,10 +122,10 @@ module _ {bytes : List ℕ} {first k n s at : ℕ} (here : Forming bytes first k
       here.place ∙ ap (λ (m : ℕ). place_of bytes first m) all
 
   pub forming_over : 2 ^ k ≤ s → at < length bytes
-      → F.At (line_number_lem (2 ^ k)) ≡ fault_answer (rows_misfit bytes first k n)
+      → Err (U.OtherForm (line_number_lem (2 ^ k))) ≡ form_answer (rows_misfit bytes first k n)
   unfolding rows_misfit
   forming_over h l = rw (found_nothing here.searching h, ← at-end h, lt-ltb at (length bytes) l)
 
-  pub forming-all : 2 ^ k ≤ s → length bytes ≤ at → F.Nowhere ≡ fault_answer (rows_misfit bytes first k n)
+  pub forming-all : 2 ^ k ≤ s → length bytes ≤ at → Ok tt ≡ form_answer (rows_misfit bytes first k n)
   unfolding rows_misfit
   forming-all h l = rw (found_nothing here.searching h, ← at-end h, le-ltb at (length bytes) l)

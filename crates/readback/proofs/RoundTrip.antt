@@ -21,7 +21,7 @@ use Rattle.readback.specs.Form.{longest_read, Formed}
 use Rattle.readback.specs.Rows.{cell_of, rows_table, text_of, misfit, unread, recovered}
 use Rattle.readback.proofs.Minutes.{is_minute-time_text, minute_of-time_text, time_text-minute_of, minute_of_le}
 use Rattle.readback.proofs.Formed.{formed_iff, texts-read}
-use Rattle.readback.proofs.Unread.{minutes-read, minutes_iff}
+use Rattle.readback.proofs.Unreads.{minutes-read, minutes_iff}
 
 module _ (head : List ℕ) (k n : ℕ) (bytes : List ℕ) where
   abbrev found : List ℕ

@@ -1,18 +1,20 @@
 -- Laws of the pass over the minutes, where the form is right: the rows stand where they should (`row_at`), the cells
 -- are the table that they hold (`Reading_rows`). Assumes nothing.
-use mathlib.Core.Path.{◌≡◌, refl, ◌∙◌, ap}
+use mathlib.Core.Path.{◌≡◌, refl, sym, ◌∙◌, ap}
 use mathlib.Core.Logic.{inl, inr}
-use mathlib.Core.Bool.{true, false}
+use mathlib.Core.Bool.{true}
 use mathlib.Core.Option.{none}
 use mathlib.Core.List.{List}
 use Prim.Native.Nat.{ℕ, suc, ◌+◌, ◌-◌, ◌*◌, ◌^◌, ◌≤◌, ◌<◌}
 use native.Mathlib.Nat.{mul-le-mul_right, mul_comm}
 use native.Mathlib.Omega.{arith}
+use borrow.Rule.Slice.PartMut.{put_mid, mid_of}
+use Rattle.std.specs.Prelude.{Option, Some, None, Ok, Err, ⊤}
 use lib.ListN.{length, get_or, take, drop}
 use Rattle.prelude.specs.Search.{first_below}
 use Rattle.prelude.proofs.Tests.{zero-is-one, and-true, lt_or_ge}
 use Rattle.prelude.proofs.Search.{Searching, searching_start, searching_on, found_at, found_nothing}
-use Rattle.prelude.proofs.Search.{or_else_none, all_pass}
+use Rattle.prelude.proofs.Search.{or_else_none, unless-true, all_pass}
 use Rattle.prelude.proofs.Cells.{row_of_lem, column_of}
 use Rattle.text.specs.Lines.{line_feed, up_to, fields, line_at, ends_at}
 use Rattle.text.proofs.Lines.{take-drop, take_up_to, line-inside}
@@ -22,7 +24,9 @@ use Rattle.readback.specs.Rows.{is_row_lem, line_number_lem, place_of, row_of, c
 use Rattle.readback.specs.Rows.{rows_misfit}
 use Rattle.readback.specs.Rows.{row_unread, rows_unread}
 use Rattle.readback.specs.Answers.{RowRead, RowsRead}
-use Rattle.readback.specs.declared.Fault.TheVariants as F
+use Rattle.readback.specs.declared.Unread.TheVariants as U
+use Rattle.readback.proofs.Optional.{then_some_none, then_some_some}
+use Rattle.readback.proofs.Part.{part_count, part-size, part-before, part-inside}
 use Rattle.readback.proofs.Passes.{count_of_row, next_place}
 
 -- there is room for the cells of row s, and for all
@@ -88,35 +92,49 @@ module _ {bytes : List ℕ} {first k n : ℕ} {times : List ℕ} {s at : ℕ}
         place = next_place bytes first s at e here.place size;
       }
 
-  module _ {after : List ℕ} (h : s < 2 ^ k) where
-    pub rows_next : RowRead (row_of bytes first s) n (s * n) times after true → (next : ℕ)
-        → next ≡ place_of bytes first (s + 1) → next ≤ length bytes → Reading_rows bytes first k n after (s + 1) next
-    rows_next r next p l = record {
-      searching = searching_on here.searching h (rw (← r.answer));
-      place = p;
-      inside = l;
-      sized = r.sized ∙ here.sized;
-      done = λ i b.
-          elim (lt_or_ge i (s * n)) [
-            | inl g ↦ r.others refl i g ∙ here.done i g
-            | inr g ↦
-                let u = i - s * n in
-                let q : i ≡ s * n + u = omega arith in
-                let small : u < n = omega arith in
-                rw (q, row_of_lem n s u small, column_of n s u small) (r.times refl u small)
-          ];
-    }
+  -- the cells of row s, where the reading of its line leaves them so
+  module _ (h : s < 2 ^ k) (room : s * n + n ≤ length times) where
+    abbrev cells : List ℕ
+    cells = mid_of (s * n) n times
 
-    pub rows-fault : {place : ℕ} → RowRead (row_of bytes first s) n place times after false
-        → RowsRead bytes first k n after (F.At (line_number_lem s))
-    unfolding rows_unread
-    rows-fault r = record {
-      answer = rw (found_at here.searching (line_number_lem s) h (rw (← r.answer)));
-      sized = r.sized ∙ here.sized;
-      times = λ z. zero-is-one cc;
-    }
+    pub cells_count : length cells ≡ n
+    cells_count = part_count (s * n) n times room
 
-  pub rows_all : 2 ^ k ≤ s → RowsRead bytes first k n times F.Nowhere
+    module _ {row : List ℕ} {r : Option ⊤} (read : RowRead (row_of bytes first s) cells row r) where
+      pub rows_next : r ≡ Some tt → (next : ℕ) → next ≡ place_of bytes first (s + 1) → next ≤ length bytes
+          → Reading_rows bytes first k n (put_mid (s * n) n times row) (s + 1) next
+      rows_next e next p l = record {
+        searching =
+            searching_on here.searching h
+            (unless-true _ _ (rw cells_count at (then_some_some _ _ _ (sym read.answer ∙ e)).0));
+        place = p;
+        inside = l;
+        sized = part-size (s * n) n times room row read.sized ∙ here.sized;
+        done = λ i b.
+            elim (lt_or_ge i (s * n)) [
+              | inl g ↦ part-before (s * n) n times room row read.sized i g ∙ here.done i g
+              | inr g ↦
+                  let u = i - s * n in
+                  let q : i ≡ s * n + u = omega arith in
+                  let small : u < n = omega arith in
+                  rw (q, row_of_lem n s u small, column_of n s u small)
+                  (part-inside (s * n) n times room row read.sized u small
+                  ∙ read.times e u (omega (arith, cells_count)))
+            ];
+      }
+
+      pub rows-fault : r ≡ None
+          → RowsRead bytes first k n (put_mid (s * n) n times row) (Err (U.NoMinute (line_number_lem s)))
+      unfolding rows_unread
+      rows-fault e =
+          let none = then_some_none _ _ (sym read.answer ∙ e) in
+          record {
+            answer = rw (found_at here.searching (line_number_lem s) h (rw (rw cells_count at none)));
+            sized = part-size (s * n) n times room row read.sized ∙ here.sized;
+            times = λ z. zero-is-one cc;
+          }
+
+  pub rows_all : 2 ^ k ≤ s → RowsRead bytes first k n times (Ok tt)
   unfolding rows_unread
   rows_all h =
       let all : s ≡ 2 ^ k = omega (arith, here.searching.within) in

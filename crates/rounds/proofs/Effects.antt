@@ -15,9 +15,6 @@ use Rattle.fixpoint.proofs.Run.{rest_turn, pass_turn}
 use Rattle.fixpoint.proofs.Leads.{leads_one}
 use Rattle.network.specs.Build.{scenarios}
 use Rattle.network.specs.declared.Network.{Network}
-use Rattle.rows.specs.declared.Frame.{Frame}
-use Rattle.rows.specs.Rows.{Times, FrameTimes}
-use Rattle.rows.specs.Framed.{Framed}
 use Rattle.rows.proofs.Gapless.{length-gapless}
 use Rattle.rounds.specs.declared.Effect.{Effect}
 use Rattle.rounds.specs.declared.Effect.TheVariants.{Passes, Rests, Rises}
@@ -46,11 +43,6 @@ rises_false false b e = (cc, cc)
 -- a round whose effect is told
 pub rounded_as : {Γ : Network} {t t' : List ℕ} {r r' : Effect} → r ≡ r' → Rounded Γ t t' r → Rounded Γ t t' r'
 rounded_as e h = rw e at h
-
--- times in the frame's terms
-pub times-framed : (Γ : Network) (frame : Frame) → Framed Γ frame → {t : List ℕ}
-    → Times Γ.events Γ.labels (scenarios Γ) t → FrameTimes frame t
-times-framed Γ frame F T = rw (F.events, F.labels, F.scenarios_are) T
 
 module _ (Γ : Network) where
   pub length-held : (t : List ℕ) → length (held Γ t) ≡ length (cap Γ)

@@ -7,11 +7,11 @@ pub mod Bounds
 pub mod Rising
 pub mod Cap
 pub mod Differ
+pub mod Maxima
 pub mod Constrained
 pub mod Waits
 pub mod Raise
 pub mod Raised
-pub mod Usable
 pub mod Rounding
 pub mod Rounded
 pub mod Effects

@@ -5,28 +5,27 @@ use mathlib.Core.Bool.{Bool, true, false, not, cond}
 use mathlib.Core.List.{List}
 use Prim.Native.Nat.{ℕ, ◌+◌, ◌-◌, ◌*◌, ◌≤◌, ◌<◌, max, min}
 use native.Mathlib.Omega.{arith}
-use borrow.Author.Tests.{ne_eqb}
 use lib.Bits.{bit_xor, xor_lt}
-use lib.Dec.{eqb}
-use lib.ListN.{get_or}
+use lib.ListN.{get_or, drop, length-drop}
+use lib.Seq.{length-take-le}
 use Rattle.prelude.specs.Bounded.{max_below}
 use Rattle.prelude.proofs.Tests.{either}
-use Rattle.prelude.proofs.Bounded.{max_below_le}
 use Rattle.prelude.proofs.Minima.{min_where-lesser, min_where_ext, min_where_guarded}
 use Rattle.network.specs.Build.{scenarios}
 use Rattle.network.specs.Scenario.{truth, agree}
 use Rattle.network.specs.Happens.{happens, given, tells}
 use Rattle.network.specs.Strategy.{time, known_from, least_known_lem}
+use Rattle.network.specs.WellFormed.{WellFormed}
 use Rattle.network.specs.declared.Network.{Network}
-use Rattle.rows.specs.declared.Frame.{Frame}
-use Rattle.rows.specs.Rows.{RowIn, row_of, Times}
+use Rattle.rows.specs.Rows.{Sixteen, RowIn, row_of, Times}
 use Rattle.rows.specs.Known.{known_in, first_of}
 use Rattle.rows.proofs.Gapless.{sixteen, gapless-at, row_at}
-use Rattle.bounds.specs.Listed.{list_asks, asking, target, source, weight}
-use Rattle.bounds.proofs.Listed.{max_below_ext}
+use Rattle.bounds.specs.declared.list.BoundList.{BoundList}
+use Rattle.bounds.specs.Listed.{asks, in_case}
 use Rattle.rounds.specs.Propagate.{raised, constraints_bound, waits_bound, hyperarc, hyperarcs_bound}
-use Rattle.rounds.specs.Compiled.{Compiled}
+use Rattle.rounds.specs.Compiled.{Compiles}
 use Rattle.rounds.specs.Rounds.{held, raised_at}
+use Rattle.rounds.proofs.Maxima.{max_below_ext, max_below-zero}
 use Rattle.rounds.proofs.Differ.{xor_back, max_below_xor, truth_xor}
 
 -- a hyperarc by the set of propositions on which its scenarios differ: one that is not given has no known time
@@ -39,32 +38,28 @@ least_known-first Γ σ s r m k l =
     (λ p _. sym (truth_xor s r p)) (λ p _. refl))
 
 -- a row of the table has the times of its scenario in the strategy that the table holds
-pub row_in : {Γ : Network} {frame : Frame} {counts lists row : List ℕ} → Compiled Γ frame counts lists
-    → (t : List ℕ) (s : ℕ) → s < scenarios Γ → row ≡ row_of t s → RowIn Γ (held Γ t) s row
-row_in {Γ} C t s l e = record {
-  at = λ u m.
-      ap (λ (xs : List ℕ). get_or xs u 0) e
-      ∙ (row_at t s u (omega (arith, C.formed.events)) ∙ sym (gapless-at Γ.events (scenarios Γ) t s u l m));
+pub row_in : {Γ : Network} {row : List ℕ} → WellFormed Γ → (t : List ℕ) (s : ℕ) → s < scenarios Γ
+    → Sixteen row (λ u. get_or t (s * 16 + u) 0) → RowIn Γ (held Γ t) s row
+row_in {Γ} W t s l R = record {
+  at = λ u m. R.is u (omega (arith, W.events)) ∙ sym (gapless-at Γ.events (scenarios Γ) t s u l m);
 }
 
-max_below-zero : (n : ℕ) (f : ℕ → ℕ) → ((k : ℕ) → k < n → f k ≡ 0) → max_below n f ≡ 0
-max_below-zero n f h = omega (arith, max_below_le f n 0 (λ k l. omega (arith, h k l)))
-
-module _ (Γ : Network) (frame : Frame) (counts lists t : List ℕ) (C : Compiled Γ frame counts lists)
-    (T : Times Γ.events Γ.labels (scenarios Γ) t) (s : ℕ) (in-s : s < scenarios Γ) where
+module _ (Γ : Network) (lists : List BoundList) (t : List ℕ) (W : WellFormed Γ) (C : Compiles Γ lists) (T : Times Γ t)
+    (s : ℕ) (in-s : s < scenarios Γ) where
   abbrev σ : List ℕ
   σ = held Γ t
 
   few : scenarios Γ ≤ 16
-  few = sixteen Γ.signals C.formed.signals
+  few = sixteen Γ.signals W.signals
+
+  own_row : Sixteen (row_of t s) (λ u. get_or t (s * 16 + u) 0)
+  own_row = record {
+    sized = length-take-le 16 (drop (s * 16) t) (simp length-drop (omega (arith, T.sized, few)));
+    is = λ u l. row_at t s u l;
+  }
 
   time-is : (r u : ℕ) → r < scenarios Γ → u < Γ.events → time Γ.events σ r u ≡ get_or t (r * 16 + u) 0
   time-is r u l m = gapless-at Γ.events (scenarios Γ) t r u l m
-
-  -- zero stands where an event does not happen
-  absent-is : (r u : ℕ) → r < scenarios Γ → u < 16 → happens Γ r u ≡ false → get_or t (r * 16 + u) 0 ≡ 0
-  unfolding happens
-  absent-is r u l m e = T.absent r u l m e
 
   module _ (u : ℕ) where
     across_is : u < Γ.events
@@ -78,7 +73,7 @@ module _ (Γ : Network) (frame : Frame) (counts lists t : List ℕ) (C : Compile
         λ d l.
         let r = bit_xor s d in
         let hr : bit_xor s d < scenarios Γ = xor_lt Γ.signals s d in-s l in
-        let low = T.few (bit_xor s d) u hr (omega (arith, C.formed.events)) in
+        let low = T.few (bit_xor s d) u hr (omega (arith, W.events)) in
         let e = time-is (bit_xor s d) u hr m in
         elim (either (happens Γ r u)) [
           | inl h ↦
@@ -86,22 +81,22 @@ module _ (Γ : Network) (frame : Frame) (counts lists t : List ℕ) (C : Compile
               (sym (least_known-first Γ σ s (bit_xor s d) (time Γ.events σ (bit_xor s d) u) Γ.signals
               (omega (arith, e, low))
               ∙ rw (e, xor_back s d (omega (arith, few)) (omega (arith, few)))))
-          | inr h ↦ rw h (omega (arith, absent-is (bit_xor s d) u hr (omega (arith, C.formed.events)) h))
+          | inr h ↦ rw h (omega (arith, T.absent (bit_xor s d) u hr (omega (arith, W.events)) h))
         ]
         in
         max_below_ext _ _ (scenarios Γ) arcs
         ∙ sym (max_below_xor Γ.signals s (λ r. cond (happens Γ r u) (hyperarc Γ σ s r u) 0) few in-s)
 
-    pub raised_is : u < Γ.events → raised_at Γ counts lists t s u ≡ raised Γ σ s u
+    pub raised_is : u < Γ.events → raised_at Γ lists t s u ≡ raised Γ σ s u
     unfolding raised_at
     raised_is m =
         let own = time-is s u in-s m in
         elim (either (happens Γ s u)) [
-          | inr e ↦ rw e (sym (own ∙ absent-is s u in-s (omega (arith, C.formed.events)) e))
+          | inr e ↦ rw e (sym (own ∙ T.absent s u in-s (omega (arith, W.events)) e))
           | inl e ↦
-              let asked : list_asks counts lists s (row_of t s) u - 10080
+              let asked : asks (in_case lists s) (row_of t s) u - 10080
               ≡ max (constraints_bound Γ σ s u) (waits_bound Γ σ s u) =
-              C.asks σ (row_of t s) s u (omega (arith, C.framed.scenarios_are)) m e (row_in C t s in-s refl)
+              C.asks_of σ (row_of t s) s u in-s m e (row_in W t s in-s own_row)
               in
               rw (e, asked, across_is m, ← own)
               (joined (time Γ.events σ s u) (constraints_bound Γ σ s u) (waits_bound Γ σ s u)
@@ -112,25 +107,15 @@ module _ (Γ : Network) (frame : Frame) (counts lists t : List ℕ) (C : Compile
         joined a b c d = omega arith
 
     -- behind the events all stays zero, and where an event does not happen
-    pub raised-beyond : Γ.events ≤ u → u < 16 → raised_at Γ counts lists t s u ≡ 0
+    pub raised-beyond : Γ.events ≤ u → u < 16 → raised_at Γ lists t s u ≡ 0
     unfolding raised_at
     raised-beyond m l =
-        let asked : list_asks counts lists s (row_of t s) u ≡ 0 =
-        max_below-zero (get_or counts s 0)
-        (λ j. asking (target lists (s * 192 + j)) (source lists (s * 192 + j)) (weight lists (s * 192 + j))
-        (row_of t s) u)
-        (λ j h.
-        let ne : eqb (target lists (s * 192 + j)) u ≡ false =
-        ne_eqb (target lists (s * 192 + j)) u
-        (λ e. omega (arith, C.lists_are.targets (s * 192 + j), C.framed.events))
-        in
-        rw ne)
-        in
+        let asked = C.beyond σ (row_of t s) s u in-s m (row_in W t s in-s own_row) in
         let arcs = max_below-zero (scenarios Γ)
         (λ d. min (get_or t (bit_xor s d * 16 + u) 0) (first_of Γ.signals (known_in Γ σ s) d))
         (λ d h. omega (arith, T.beyond (bit_xor s d) u (xor_lt Γ.signals s d in-s h) m l))
         in
-        let zero : max (max (get_or t (s * 16 + u) 0) (list_asks counts lists s (row_of t s) u - 10080))
+        let zero : max (max (get_or t (s * 16 + u) 0) (asks (in_case lists s) (row_of t s) u - 10080))
         (max_below (scenarios Γ)
         (λ d. min (get_or t (bit_xor s d * 16 + u) 0) (first_of Γ.signals (known_in Γ σ s) d))) ≡ 0 =
         omega (arith, T.beyond s u in-s m l, asked, arcs) in
@@ -139,6 +124,6 @@ module _ (Γ : Network) (frame : Frame) (counts lists t : List ℕ) (C : Compile
           same true = refl
           same false = refl
 
-    pub raised_away : happens Γ s u ≡ false → raised_at Γ counts lists t s u ≡ 0
+    pub raised_away : happens Γ s u ≡ false → raised_at Γ lists t s u ≡ 0
     unfolding raised_at
     raised_away e = rw e

@@ -15,42 +15,41 @@ use Rattle.prelude.proofs.Bounded.{le_max_below, max_below_le}
 use Rattle.prelude.proofs.Bytes.{same_true, same_of_eq}
 use Rattle.prelude.proofs.Cells.{by-cell}
 use Rattle.fixpoint.specs.Run.{within}
-use Rattle.network.specs.Build.{event_label, scenarios, cells}
-use Rattle.network.specs.Scenario.{satisfies}
+use Rattle.network.specs.Build.{scenarios, cells}
 use Rattle.network.specs.Happens.{happens}
+use Rattle.network.specs.WellFormed.{WellFormed}
 use Rattle.network.specs.declared.Network.{Network}
-use Rattle.rows.specs.declared.Frame.{Frame}
-use Rattle.rows.specs.Rows.{gapless, Times, FrameTimes}
+use Rattle.bounds.specs.declared.list.BoundList.{BoundList}
+use Rattle.rows.specs.Rows.{gapless, Times}
 use Rattle.rows.proofs.Gapless.{length-gapless, gapless-at}
 use Rattle.rounds.specs.declared.Effect.{Effect}
 use Rattle.rounds.specs.declared.Effect.TheVariants.{Passes, Rests, Rises}
 use Rattle.rounds.specs.Propagate.{propagate, raised}
 use Rattle.rounds.specs.Cap.{fixed, cap}
-use Rattle.rounds.specs.Compiled.{Compiled}
+use Rattle.rounds.specs.Compiled.{Compiles}
 use Rattle.rounds.specs.Rounds.{raised_at, effect_of, Rounded}
 use Rattle.rounds.proofs.Rounding.{Rounding, greatest, le_greatest, greatest_le}
 use Rattle.rounds.proofs.Raised.{raised_is, raised-beyond, raised_away}
 use Rattle.rounds.proofs.Rising.{length-propagate, time-propagate, raised-up}
 use Rattle.rounds.proofs.Cap.{cond-few, within_cap, cap-within}
 
-module _ {Γ : Network} {frame : Frame} {counts lists t new climb highest : List ℕ} (C : Compiled Γ frame counts lists)
-    (T : Times Γ.events Γ.labels (scenarios Γ) t)
-    (R : Rounding (raised_at Γ counts lists t) (scenarios Γ) t new climb highest (scenarios Γ)) where
+module _ {Γ : Network} {lists : List BoundList} {t new climb highest : List ℕ} (W : WellFormed Γ) (C : Compiles Γ lists)
+    (T : Times Γ t) (R : Rounding (raised_at Γ lists t) (scenarios Γ) t new climb highest (scenarios Γ)) where
   abbrev σ : List ℕ
   σ = gapless Γ.events (scenarios Γ) t
 
   abbrev made : ℕ → ℕ → ℕ
-  made s u = raised_at Γ counts lists t s u
+  made s u = raised_at Γ lists t s u
 
   -- a cell that was made is the definition's, and behind the events it is zero
   made-is : (s u : ℕ) → s < scenarios Γ → u < Γ.events → made s u ≡ raised Γ σ s u
-  made-is s u h l = raised_is Γ frame counts lists t C T s h u l
+  made-is s u h l = raised_is Γ lists t W C T s h u l
 
   beyond : (s u : ℕ) → s < scenarios Γ → Γ.events ≤ u → u < 16 → made s u ≡ 0
-  beyond s u h l m = raised-beyond Γ frame counts lists t C T s h u l m
+  beyond s u h l m = raised-beyond Γ lists t W C T s h u l m
 
   away : (s u : ℕ) → s < scenarios Γ → happens Γ s u ≡ false → made s u ≡ 0
-  away s u h e = raised_away Γ frame counts lists t C T s h u e
+  away s u h e = raised_away Γ lists t W C T s h u e
 
   made_at : (s u : ℕ) → s < scenarios Γ → u < Γ.events → get_or (propagate Γ σ) (s * Γ.events + u) 0 ≡ made s u
   made_at s u h l = time-propagate Γ σ s u h l ∙ sym (made-is s u h l)
@@ -61,7 +60,7 @@ module _ {Γ : Network} {frame : Frame} {counts lists t new climb highest : List
   all-cells P f g s u h l = elim (lt_or_ge u Γ.events) [ inl p ↦ f s u h p | inr p ↦ g s u h p l ]
 
   sixteen_events : Γ.events ≤ 16
-  sixteen_events = C.formed.events
+  sixteen_events = W.events
 
   pub gapless-made : gapless Γ.events (scenarios Γ) new ≡ propagate Γ σ
   gapless-made =
@@ -104,7 +103,7 @@ module _ {Γ : Network} {frame : Frame} {counts lists t new climb highest : List
       omega (
         arith,
         origin-is,
-        max_below_le (λ r. made r 0) (scenarios Γ) 0 (λ s h. limit_of e s 0 h C.formed.some_event),
+        max_below_le (λ r. made r 0) (scenarios Γ) 0 (λ s h. limit_of e s 0 h W.some_event),
       )
 
   -- whether anything rose
@@ -145,17 +144,8 @@ module _ {Γ : Network} {frame : Frame} {counts lists t new climb highest : List
       in
       omega arith
 
-  -- an event whose label does not hold does not happen
-  happens-label : (s u : ℕ) → satisfies s (event_label Γ u) ≡ false → happens Γ s u ≡ false
-  unfolding happens
-  happens-label s u e = e
-
   -- the three ways
-  rounded :
-      (r : Effect)
-      → r ≡ effect_of Γ σ
-      → (r ≡ Rises → Times Γ.events Γ.labels (scenarios Γ) new)
-      → Rounded Γ t new r
+  rounded : (r : Effect) → r ≡ effect_of Γ σ → (r ≡ Rises → Times Γ new) → Rounded Γ t new r
   rounded r e f = record { sized = R.sized; made = gapless-made; effect_is = e; times = f }
 
   pub ends_passing : (Γ.horizon < greatest highest) ⊎ (0 < get_or highest 0 0) → Rounded Γ t new Passes
@@ -181,20 +171,7 @@ module _ {Γ : Network} {frame : Frame} {counts lists t new climb highest : List
           sized = R.sized;
           few =
               λ s u h l.
-              omega (arith, R.done s u h l, le_greatest _ _ R.highest_is s u h l, C.formed.horizon);
+              omega (arith, R.done s u h l, le_greatest _ _ R.highest_is s u h l, W.horizon);
           beyond = λ s u h l m. R.done s u h m ∙ beyond s u h l m;
-          absent = λ s u h m e. R.done s u h m ∙ away s u h (happens-label s u e);
+          absent = λ s u h m e. R.done s u h m ∙ away s u h e;
         })
-
--- what the code knows of its frame is known of the network
-module _ {Γ : Network} {frame : Frame} {counts lists t : List ℕ} (C : Compiled Γ frame counts lists) where
-  pub framed-times : FrameTimes frame t
-      → Times Γ.events Γ.labels (scenarios Γ) t
-  framed-times T = rw (C.framed.events, C.framed.labels, C.framed.scenarios_are) at T
-
-  pub framed-rounds : {made : ℕ → ℕ → ℕ} {new climb highest : List ℕ} {s : ℕ}
-      → Rounding made frame.scenarios t new climb highest s → frame.scenarios ≤ s
-      → Rounding made (scenarios Γ) t new climb highest (scenarios Γ)
-  framed-rounds {made} {new} {climb} {highest} {s} R l =
-      let e : s ≡ scenarios Γ = omega (arith, R.rows, C.framed.scenarios_are) in
-      rw (C.framed.scenarios_are, e) at R

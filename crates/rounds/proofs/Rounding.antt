@@ -10,7 +10,7 @@ use lib.ListN.{length, get_or, replicate, get_or-replicate}
 use Rattle.prelude.specs.Bounded.{max_below}
 use Rattle.prelude.proofs.Tests.{eq_or_ne}
 use Rattle.prelude.proofs.Bounded.{le_max_below, max_below_le}
-use Rattle.rows.specs.Rows.{Few, Row, Stored}
+use Rattle.rows.specs.Rows.{Few, Sixteen, Wrote}
 
 -- the greatest of a row; shut, since sixteen maxima written out are too many for `omega`
 unfoldable pub greatest : List ℕ → ℕ
@@ -21,11 +21,11 @@ pub record Rounding (made : ℕ → ℕ → ℕ) (c : ℕ) (t new climb highest 
   pub rows : s ≤ c
   pub sized : length new ≡ 256
   pub done : (r u : ℕ) → r < s → u < 16 → get_or new (r * 16 + u) 0 ≡ made r u
-  pub climb_is : Row climb (λ u. max_below s (λ r. made r u - get_or t (r * 16 + u) 0))
-  pub highest_is : Row highest (λ u. max_below s (λ r. made r u))
+  pub climb_is : Sixteen climb (λ u. max_below s (λ r. made r u - get_or t (r * 16 + u) 0))
+  pub highest_is : Sixteen highest (λ u. max_below s (λ r. made r u))
 
 module _ (made : ℕ → ℕ → ℕ) (c : ℕ) (t : List ℕ) where
-  zeros : Row (replicate 16 0) (λ u. 0)
+  zeros : Sixteen (replicate 16 0) (λ u. 0)
   zeros = record { sized = refl; is = λ u l. get_or-replicate {A = ℕ} 16 u 0 0 l }
 
   pub rounding_none : (new : List ℕ) → length new ≡ 256 → Rounding made c t new (replicate 16 0) (replicate 16 0) 0
@@ -38,27 +38,36 @@ module _ (made : ℕ → ℕ → ℕ) (c : ℕ) (t : List ℕ) where
   }
 
   pub rounding_next : {new new' climb climb' highest highest' : List ℕ} {s : ℕ}
-      → Rounding made c t new climb highest s → s < c
-      → Stored new new' s (λ u. get_or t (s * 16 + u) 0) (made s) climb climb' highest highest'
+      {row raised : List ℕ} → Rounding made c t new climb highest s → s < c
+      → Sixteen row (λ u. get_or t (s * 16 + u) 0) → Sixteen raised (made s)
+      → Wrote new new' (s * 16) 16 (λ u. get_or raised u 0)
+      → Sixteen climb' (λ u. max (get_or climb u 0) (get_or raised u 0 - get_or row u 0))
+      → Sixteen highest' (λ u. max (get_or highest u 0) (get_or raised u 0))
       → Rounding made c t new' climb' highest' (s + 1)
-  rounding_next {s = s} h l g = record {
+  rounding_next {s = s} h l before after wrote climb highest = record {
     rows = omega arith;
-    sized = g.wrote.sized ∙ h.sized;
+    sized = wrote.sized ∙ h.sized;
     done =
         λ r u k m. elim (eq_or_ne r s) [
-          | inl q ↦ rw q (g.wrote.here u m)
-          | inr q ↦ g.wrote.other (r * 16 + u) (inl (omega arith)) ∙ h.done r u (omega arith) m
+          | inl q ↦ rw q (wrote.here u m ∙ after.is u m)
+          | inr q ↦ wrote.other (r * 16 + u) (inl (omega arith)) ∙ h.done r u (omega arith) m
         ];
-    climb_is = one_more (λ r u. made r u - get_or t (r * 16 + u) 0) g.climb_is h.climb_is;
-    highest_is = one_more made g.highest_is h.highest_is;
+    climb_is = one_more (λ r u. made r u - get_or t (r * 16 + u) 0) (record {
+      sized = climb.sized;
+      is = λ u l. omega (arith, climb.is u l, before.is u l, after.is u l);
+    }) h.climb_is;
+    highest_is = one_more made (record {
+      sized = highest.sized;
+      is = λ u l. omega (arith, highest.is u l, after.is u l);
+    }) h.highest_is;
   } where
     one_more : (f : ℕ → ℕ → ℕ) {xs xs' : List ℕ}
-        → Row xs' (λ u. max (get_or xs u 0) (f s u)) → Row xs (λ u. max_below s (λ r. f r u))
-        → Row xs' (λ u. max_below (s + 1) (λ r. f r u))
+        → Sixteen xs' (λ u. max (get_or xs u 0) (f s u)) → Sixteen xs (λ u. max_below s (λ r. f r u))
+        → Sixteen xs' (λ u. max_below (s + 1) (λ r. f r u))
     one_more f p q = record { sized = p.sized; is = λ u l. rw add-one (omega (arith, p.is u l, q.is u l)) }
 
 -- a row that has the greatest of each cell over c rows, and its greatest
-module _ (c : ℕ) (f : ℕ → ℕ → ℕ) {xs : List ℕ} (R : Row xs (λ u. max_below c (λ s. f s u))) where
+module _ (c : ℕ) (f : ℕ → ℕ → ℕ) {xs : List ℕ} (R : Sixteen xs (λ u. max_below c (λ s. f s u))) where
   pub le_greatest : (s u : ℕ) → s < c → u < 16 → f s u ≤ greatest xs
   unfolding greatest
   le_greatest s u h l = omega (
@@ -76,14 +85,3 @@ module _ (c : ℕ) (f : ℕ → ℕ → ℕ) {xs : List ℕ} (R : Row xs (λ u. 
     pub greatest_le : greatest xs ≤ m
     unfolding greatest
     greatest_le = max_below_le (λ u. get_or xs u 0) 16 m row-at-most
-
--- where no cell that is made is over m, no cell of the two rows is
-module _ {made : ℕ → ℕ → ℕ} {c : ℕ} {t new climb highest : List ℕ} {s : ℕ}
-    (R : Rounding made c t new climb highest s) (m : ℕ) (few : (r u : ℕ) → r < c → u < 16 → made r u ≤ m) where
-  pub climb_at-most : Few m climb
-  climb_at-most =
-      row-at-most s (λ r u. made r u - get_or t (r * 16 + u) 0) R.climb_is m (λ r u h l.
-      omega (arith, few r u (omega (arith, R.rows)) l))
-
-  pub highest_at-most : Few m highest
-  highest_at-most = row-at-most s made R.highest_is m (λ r u h l. few r u (omega (arith, R.rows)) l)

@@ -6,43 +6,44 @@ use mathlib.Core.List.{List}
 use Prim.Native.Nat.{ℕ, ◌+◌, ◌≤◌, ◌<◌, max}
 use native.Mathlib.Numerals.{add-one}
 use native.Mathlib.Omega.{arith}
-use borrow.Author.Tests.{eqb-true, eqb-false, eq-eqb}
+use borrow.Author.Tests.{eqb-true, eqb-false, eq-eqb, ne_eqb}
 use lib.Dec.{eqb}
-use lib.IntN.{pos}
+use lib.IntN.{pos, neg_ℤ}
 use Rattle.prelude.specs.Bounded.{max_below}
 use Rattle.prelude.proofs.Tests.{either, by_cond, false_of_not-true}
 use Rattle.prelude.proofs.Bounded.{le_max_below, max_below_le}
-use Rattle.network.specs.Build.{observation, event_label}
+use Rattle.network.specs.Build.{no_label, observation, event_label, constraint, scenarios}
+use Rattle.network.specs.Constraint.{covers}
 use Rattle.network.specs.Happens.{mentions, happens}
 use Rattle.network.specs.Strategy.{time, reaction, known_from}
 use Rattle.network.specs.WellFormed.{Proper, WellFormed}
 use Rattle.network.specs.declared.Network.{Network}
 use Rattle.network.proofs.Labels.{mentions-none}
-use Rattle.rows.specs.declared.Frame.{Frame}
-use Rattle.rows.specs.Framed.{Framed}
-use Rattle.bounds.specs.Halves.{LowerAdded}
-use Rattle.bounds.proofs.Halves.{listable}
-use Rattle.bounds.proofs.Listed.{max_below_ext}
-use Rattle.rounds.specs.Propagate.{least_from, lower_if, waits_bound}
-use Rattle.rounds.specs.Compiled.{wait, wait_asks, Asking, constraints_ask, all_ask, Compiled}
+use Rattle.rounds.specs.Propagate.{is_upper, is_lower, least_from, lower_if, constraints_bound, waits_bound}
+use Rattle.bounds.specs.declared.bound.Bound.{Bound}
+use Rattle.bounds.specs.declared.list.BoundList.{BoundList}
+use Rattle.bounds.specs.Weight.{weight_of}
+use Rattle.bounds.specs.Listed.{Is, Added}
+use Rattle.rounds.specs.Compiled.{wait, wait_asks, Asking, constraints_ask, all_ask, Compiles}
+use Rattle.rounds.proofs.Maxima.{max_below_ext, max_below-zero}
 use Rattle.rounds.proofs.Constrained.{not-counted, constrained_min}
 
-module _ {Γ : Network} {frame : Frame} where
+module _ {Γ : Network} where
   -- longer lists that ask the same
-  pub asking_as : {ks ls : List ℕ} {m n : ℕ} {f g : List ℕ → ℕ → ℕ → ℕ} → Asking Γ frame ks ls m f → m ≤ n
-      → ((σ : List ℕ) (s u : ℕ) → f σ s u ≡ g σ s u) → Asking Γ frame ks ls n g
+  pub asking_as : {lists : List BoundList} {m n : ℕ} {f g : List ℕ → ℕ → ℕ → ℕ} → Asking Γ lists m f → m ≤ n
+      → ((σ : List ℕ) (s u : ℕ) → f σ s u ≡ g σ s u) → Asking Γ lists n g
   asking_as A l e = record {
-    lists_are = A.lists_are;
+    sized = A.sized;
     short = λ s. omega (arith, A.short s);
-    asks = λ σ row s u h R. A.asks σ row s u h R ∙ e σ s u;
+    asks_of = λ σ row s u h R. A.asks_of σ row s u h R ∙ e σ s u;
   }
 
   -- behind the constraints
-  pub waits_start : {ks ls : List ℕ} {m : ℕ} → Asking Γ frame ks ls m (constraints_ask Γ Γ.rules)
-      → Asking Γ frame ks ls m (all_ask Γ 0 0)
+  pub waits_start : {lists : List BoundList} {m : ℕ} → Asking Γ lists m (constraints_ask Γ Γ.rules)
+      → Asking Γ lists m (all_ask Γ 0 0)
   waits_start A = asking_as A (omega arith) (λ σ s u. omega arith)
 
-  module _ (W : WellFormed Γ) (F : Framed Γ frame) (w : ℕ) where
+  module _ (W : WellFormed Γ) (w : ℕ) where
     -- a wait is a constraint that can be listed
     pub wait-proper : w < Γ.events → (p : ℕ) → p < Γ.signals → Proper Γ (wait Γ w p)
     wait-proper hw p hp = record {
@@ -52,25 +53,27 @@ module _ {Γ : Network} {frame : Frame} where
       label = W.lettered w;
     }
 
-    module _ {ks ls : List ℕ} {m : ℕ} (p : ℕ) (A : Asking Γ frame ks ls m (all_ask Γ w p)) where
-      pub wait_skip : mentions (event_label Γ w) p ≡ false → Asking Γ frame ks ls (m + 1) (all_ask Γ w (p + 1))
+    module _ {lists : List BoundList} {m : ℕ} (p : ℕ) (A : Asking Γ lists m (all_ask Γ w p)) where
+      pub wait_skip : mentions (event_label Γ w) p ≡ false → Asking Γ lists (m + 1) (all_ask Γ w (p + 1))
       wait_skip e = asking_as A (omega arith) (λ σ s u. rw (add-one p, e) (omega arith))
 
-      pub wait-next : {ks' ls' : List ℕ} → w < Γ.events → p < Γ.signals → mentions (event_label Γ w) p ≡ true
-          → LowerAdded frame (wait Γ w p) ks ls ks' ls' → Asking Γ frame ks' ls' (m + 1) (all_ask Γ w (p + 1))
+      pub wait-next : {lists' : List BoundList} (b : Bound) → w < Γ.events → p < Γ.signals
+          → mentions (event_label Γ w) p ≡ true
+          → Is b w (observation Γ p) (weight_of (neg_ℤ (pos (reaction Γ p))))
+          → Added (event_label Γ w) b lists lists' (scenarios Γ) → Asking Γ lists' (m + 1) (all_ask Γ w (p + 1))
       unfolding happens
-      wait-next hw hp e B =
-          let C = constrained_min frame (wait Γ w p) (listable Γ frame W F (wait Γ w p) (wait-proper hw p hp)) refl
-          A.lists_are B in
+      wait-next b hw hp e I B =
+          let proper = wait-proper hw p hp in
+          let C = constrained_min (wait Γ w p) proper.bound b refl I B in
           record {
-            lists_are = C.lists_are;
+            sized = C.sized ∙ A.sized;
             short = λ s. omega (arith, A.short s, B.grows s);
-            asks = λ σ row s u l R.
+            asks_of = λ σ row s u l R.
                 rw (add-one p, e)
-                (more _ _ _ _ _ _ _ (C.asks Γ σ row s u F l R)
+                (more _ _ _ _ _ _ _ (C.asks_more Γ σ row s u l proper.from proper.to R)
                 (not-counted (happens Γ s w) false (eqb (observation Γ p) u)
                 (least_from (time Γ.events σ s w) (pos (reaction Γ p))) refl)
-                (A.asks σ row s u l R));
+                (A.asks_of σ row s u l R));
           }
         where
           from_zero : (m : ℕ) → max 0 m ≡ m
@@ -86,8 +89,8 @@ module _ {Γ : Network} {frame : Frame} where
               x ∙ rw (y, z, from_zero lower, assoc a (max b c) lower, assoc b c lower)
 
     -- one event more
-    pub waits-next : {ks ls : List ℕ} {m n : ℕ} → Asking Γ frame ks ls m (all_ask Γ w Γ.signals) → m ≤ n
-        → Asking Γ frame ks ls n (all_ask Γ (w + 1) 0)
+    pub waits-next : {lists : List BoundList} {m n : ℕ} → Asking Γ lists m (all_ask Γ w Γ.signals) → m ≤ n
+        → Asking Γ lists n (all_ask Γ (w + 1) 0)
     waits-next A l = asking_as A l (λ σ s u. rw (add-one w) (omega arith))
 
 -- the waits of other events ask nothing of u, and its own ask what its label does
@@ -127,26 +130,40 @@ module _ (Γ : Network) (σ : List ℕ) (s u : ℕ) where
         (λ p _. rw (n p) (omega arith)),
   )
 
+-- behind the events neither the constraints nor the waits ask anything
+module _ {Γ : Network} (W : WellFormed Γ) (σ : List ℕ) (s u : ℕ) (h : Γ.events ≤ u) where
+  constraints-beyond : constraints_bound Γ σ s u ≡ 0
+  constraints-beyond = max_below-zero Γ.rules _ (λ i l.
+      let c = constraint Γ i in
+      let p = W.proper i l in
+      rw (ne_eqb c.from u (λ e. omega (arith, p.from)), ne_eqb c.to u (λ e. omega (arith, p.to)))
+      (none (covers Γ c s) (is_upper c.kind) (is_lower c.kind) _ _)) where
+        none : (t a b : Bool) (x y : ℕ) → max (cond (t && (a && false)) x 0) (cond (t && (b && false)) y 0) ≡ 0
+        none true true true x y = refl
+        none true true false x y = refl
+        none true false true x y = refl
+        none true false false x y = refl
+        none false a b x y = refl
+
+  waits-beyond : max_below Γ.events (λ w. wait_asks Γ σ s u w Γ.signals) ≡ 0
+  waits-beyond = max_below-zero Γ.events _ (λ w l. others Γ σ s u w (λ e. omega arith))
+
 -- all listed
-module _ {Γ : Network} {frame : Frame} (W : WellFormed Γ) (F : Framed Γ frame) {ks ls : List ℕ} where
-  pub compiled-waits : Asking Γ frame ks ls 192 (all_ask Γ Γ.events 0) → Compiled Γ frame ks ls
+module _ {Γ : Network} (W : WellFormed Γ) {lists : List BoundList} where
+  pub compiled-waits : {m : ℕ} → Asking Γ lists m (all_ask Γ Γ.events 0) → Compiles Γ lists
   compiled-waits A = record {
-    formed = W;
-    framed = F;
-    lists_are = A.lists_are;
-    short = A.short;
-    asks = λ σ row s u l hu e R. omega (arith, A.asks σ row s u l R, waits-are Γ σ s u hu e);
+    sized = A.sized;
+    asks_of = λ σ row s u l hu e R. omega (arith, A.asks_of σ row s u l R, waits-are Γ σ s u hu e);
+    beyond = λ σ row s u l b R.
+        omega (arith, A.asks_of σ row s u l R, constraints-beyond W σ s u b, waits-beyond W σ s u b);
   }
 
-  pub compiled-unlabelled : frame.labelled ≡ false → Asking Γ frame ks ls 128 (constraints_ask Γ Γ.rules)
-      → Compiled Γ frame ks ls
+  pub compiled-unlabelled : {m : ℕ} → ((u : ℕ) → event_label Γ u ≡ no_label)
+      → Asking Γ lists m (constraints_ask Γ Γ.rules) → Compiles Γ lists
   compiled-unlabelled e A = record {
-    formed = W;
-    framed = F;
-    lists_are = A.lists_are;
-    short = λ s. omega (arith, A.short s);
-    asks = λ σ row s u l hu here R.
-        let none = unlabelled-waits Γ σ s u (λ p.
-        rw (F.unlabelled e u) (false_of_not-true _ (mentions-none p))) in
-        omega (arith, A.asks σ row s u l R, none);
+    sized = A.sized;
+    asks_of = λ σ row s u l hu here R.
+        let none = unlabelled-waits Γ σ s u (λ p. rw (e u) (false_of_not-true _ (mentions-none p))) in
+        omega (arith, A.asks_of σ row s u l R, none);
+    beyond = λ σ row s u l b R. omega (arith, A.asks_of σ row s u l R, constraints-beyond W σ s u b);
   }

@@ -1,31 +1,29 @@
--- What the rounds are given of a network: its constraints, and the waits of its labels, as lists of bounds, beside its
--- frame.
-use Rattle.std.specs.Prelude.{◌≡◌, true, cond, List, ℕ, ◌+◌, ◌-◌, ◌≤◌, ◌<◌, max, pos, get_or}
+-- What the rounds are given of a network: its constraints, and the waits of its labels, as lists of bounds.
+use Rattle.std.specs.Prelude.{◌≡◌, true, cond, List, ℕ, ◌+◌, ◌-◌, ◌≤◌, ◌<◌, max, pos, length}
 use Rattle.prelude.specs.Bounded.{max_below}
 use Rattle.network.specs.Limits as L
-use Rattle.network.specs.Build.{observation, event_label, constraint}
+use Rattle.network.specs.Build.{observation, event_label, constraint, scenarios}
 use Rattle.network.specs.Scenario.{satisfies}
 use Rattle.network.specs.Happens.{mentions, happens}
 use Rattle.network.specs.Strategy.{reaction}
 use Rattle.network.specs.Joint.{joint}
-use Rattle.network.specs.WellFormed.{WellFormed}
 use Rattle.network.specs.declared.Kind.TheVariants.{Min}
 use Rattle.network.specs.declared.Label.{Label}
 use Rattle.network.specs.declared.Constraint.{Constraint}
 use Rattle.network.specs.declared.Network.{Network}
-use Rattle.rows.specs.declared.Frame.{Frame}
-use Rattle.rows.specs.Framed.{Framed}
 use Rattle.rows.specs.Rows.{RowIn}
-use Rattle.bounds.specs.Listed.{Lists, NoLonger, list_asks}
+use Rattle.bounds.specs.declared.list.BoundList.{BoundList}
+use Rattle.bounds.specs.Listed.{asks, case, in_case, NoLonger}
 use Rattle.rounds.specs.Propagate.{upper_if, lower_if, constraints_bound, waits_bound, upper_bound, lower_bound}
 
--- the constraint is listed under its own label
-pub record Constrained (frame : Frame) (c : Constraint) (counts lists counts' lists' : List ℕ) : Type 0 where
-  pub lists_are : Lists frame.events counts' lists'
-  pub grows : (s : ℕ) → get_or counts' s 0 ≤ get_or counts s 0 + 2
-  pub asks : (Γ : Network) (σ row : List ℕ) (s u : ℕ) → Framed Γ frame → s < frame.scenarios → RowIn Γ σ s row
-      → list_asks counts' lists' s row u - L.horizon
-      ≡ max (list_asks counts lists s row u - L.horizon)
+-- the constraint is listed under its own label, in the first k scenarios
+pub record Constrained (c : Constraint) (lists lists' : List BoundList) (k : ℕ) : Type 0 where
+  pub sized : length lists' ≡ length lists
+  pub grows : (s : ℕ) → (case lists' s).count ≤ (case lists s).count + 2
+  pub asks_more : (Γ : Network) (σ row : List ℕ) (s u : ℕ) → s < k → c.from < Γ.events → c.to < Γ.events
+      → RowIn Γ σ s row
+      → asks (in_case lists' s) row u - L.horizon
+      ≡ max (asks (in_case lists s) row u - L.horizon)
       (max (upper_if Γ σ (satisfies s c.label) s u c) (lower_if Γ σ (satisfies s c.label) s u c))
 
 -- that event w comes no sooner than so many minutes after an observation, as a constraint
@@ -51,11 +49,11 @@ module _ (Γ : Network) where
       max_below p (λ q. cond (mentions (event_label Γ w) q) (lower_if Γ σ (happens Γ s w) s u (wait w q)) 0)
 
   -- the lists have at most m bounds a case, and ask f
-  pub record Asking (frame : Frame) (counts lists : List ℕ) (m : ℕ) (f : List ℕ → ℕ → ℕ → ℕ) : Type 0 where
-    pub lists_are : Lists frame.events counts lists
-    pub short : NoLonger m counts
-    pub asks : (σ row : List ℕ) (s u : ℕ) → s < frame.scenarios → RowIn Γ σ s row
-        → list_asks counts lists s row u - L.horizon ≡ f σ s u
+  pub record Asking (lists : List BoundList) (m : ℕ) (f : List ℕ → ℕ → ℕ → ℕ) : Type 0 where
+    pub sized : length lists ≡ L.cases
+    pub short : NoLonger m lists
+    pub asks_of : (σ row : List ℕ) (s u : ℕ) → s < scenarios Γ → RowIn Γ σ s row
+        → asks (in_case lists s) row u - L.horizon ≡ f σ s u
 
   -- what the first i constraints ask
   abbrev pub constraints_ask : ℕ → List ℕ → ℕ → ℕ → ℕ
@@ -67,15 +65,10 @@ module _ (Γ : Network) where
   all_ask w p σ s u =
       max (constraints_bound Γ σ s u) (max (max_below w (λ v. wait_asks σ s u v Γ.signals)) (wait_asks σ s u w p))
 
-pub record Compiled (Γ : Network) (frame : Frame) (counts lists : List ℕ) : Type 0 where
-  pub formed : WellFormed Γ
-  pub framed : Framed Γ frame
-  pub lists_are : Lists frame.events counts lists
-  pub short : NoLonger L.listed counts
-  pub asks : (σ row : List ℕ) (s u : ℕ) → s < frame.scenarios → u < Γ.events → happens Γ s u ≡ true → RowIn Γ σ s row
-      → list_asks counts lists s row u - L.horizon ≡ max (constraints_bound Γ σ s u) (waits_bound Γ σ s u)
-
--- what some network was compiled into
-pub record Usable (frame : Frame) (counts lists : List ℕ) : Type 0 where
-  pub network : Network
-  pub compiled : Compiled network frame counts lists
+-- the lists ask what the constraints and the waits do of each event that happens, and nothing behind the events
+pub record Compiles (Γ : Network) (lists : List BoundList) : Type 0 where
+  pub sized : length lists ≡ L.cases
+  pub asks_of : (σ row : List ℕ) (s u : ℕ) → s < scenarios Γ → u < Γ.events → happens Γ s u ≡ true → RowIn Γ σ s row
+      → asks (in_case lists s) row u - L.horizon ≡ max (constraints_bound Γ σ s u) (waits_bound Γ σ s u)
+  pub beyond : (σ row : List ℕ) (s u : ℕ) → s < scenarios Γ → Γ.events ≤ u → RowIn Γ σ s row
+      → asks (in_case lists s) row u - L.horizon ≡ 0

@@ -10,7 +10,8 @@ use Rattle.network.specs.Happens.{happens}
 use Rattle.network.specs.declared.Network.{Network}
 use Rattle.rows.specs.Rows.{gapless, row_of, Times}
 use Rattle.rows.specs.Known.{known_in, first_of}
-use Rattle.bounds.specs.Listed.{list_asks}
+use Rattle.bounds.specs.declared.list.BoundList.{BoundList}
+use Rattle.bounds.specs.Listed.{asks, in_case}
 use Rattle.rounds.specs.declared.Effect.{Effect}
 use Rattle.rounds.specs.declared.Effect.TheVariants.{Passes, Rests, Rises}
 use Rattle.rounds.specs.Propagate.{propagate}
@@ -22,10 +23,10 @@ held Γ t = gapless Γ.events (scenarios Γ) t
 
 -- what it makes of event u in scenario s, where that happens: the other scenarios are told by the set d of propositions
 -- on which they differ from s. Elsewhere zero stays
-unfoldable pub raised_at : Network → List ℕ → List ℕ → List ℕ → ℕ → ℕ → ℕ
-raised_at Γ counts lists t s u =
+unfoldable pub raised_at : Network → List BoundList → List ℕ → ℕ → ℕ → ℕ
+raised_at Γ lists t s u =
     cond (happens Γ s u)
-    (max (max (get_or t (s * 16 + u) 0) (list_asks counts lists s (row_of t s) u - L.horizon))
+    (max (max (get_or t (s * 16 + u) 0) (asks (in_case lists s) (row_of t s) u - L.horizon))
     (max_below (scenarios Γ)
     (λ d. min (get_or t (bit_xor s d * 16 + u) 0) (first_of Γ.signals (known_in Γ (held Γ t) s) d))))
     0
@@ -44,4 +45,4 @@ pub record Rounded (Γ : Network) (t t' : List ℕ) (r : Effect) : Type 0 where
   pub sized : length t' ≡ 256
   pub made : held Γ t' ≡ propagate Γ (held Γ t)
   pub effect_is : r ≡ effect_of Γ (held Γ t)
-  pub times : r ≡ Rises → Times Γ.events Γ.labels (scenarios Γ) t'
+  pub times : r ≡ Rises → Times Γ t'

@@ -2,93 +2,87 @@
 // constraints and waits are first compiled into lists of difference bounds, one for each scenario.
 #![tactic(auto)]
 
-ghost use Rattle.std.specs.Prelude.{◌≡◌, ◌+◌, ◌*◌, ◌<◌, length, get_or};
-ghost use Rattle.network.specs.Limits as L;
-ghost use Rattle.network.specs.declared.Network.{Network};
-ghost use Rattle.rows.specs.Rows.{Few, FrameTimes, Stored};
-ghost use Rattle.rounds.specs.Compiled.{Compiled, Usable};
-ghost use Rattle.rounds.specs.Rounds.{raised_at, Rounded};
+ghost use Rattle.rounds.specs.Compiled.{Compiles};
 
+use bounds::lists::Lists;
 use network::Network;
-use rows::{Frame, known};
+use network::formed::Formed;
+use rows::frame::Frame;
+use rows::marks::Marks;
+use rows::{Row, Table, known};
 
-pub mod compile;
+mod compile;
 
 // The effect of a round: a time is over its limit; no time was raised; or times were raised, within limits.
-#[derive(Clone, Copy)]
+#[derive(Clone, Copy, PartialEq, Eq)]
 pub enum Effect {
     Passes,
     Rests,
     Rises,
 }
 
-// Row s of new: the times of scenario s in t, raised to what constraints, waits and hyperarcs ask, where their events
-// happen.
-fn raise_row(
-    t: &[u16; Network::CELLS],
-    new: &mut [u16; Network::CELLS],
-    s: usize,
-    frame: Frame,
-    counts: &[usize; Network::CASES],
-    lists: &[u16; bounds::LIST],
-    climb: &mut [u16; Network::EVENTS],
-    highest: &mut [u16; Network::EVENTS],
-)
-    requires { (s < frame.scenarios) × Usable frame counts.now lists.now
-        × FrameTimes frame t.now × (length new.old ≡ L.cells)
-        × (length climb.old ≡ L.events) × Few 32767 climb.old
-        × (length highest.old ≡ L.events) × Few 32767 highest.old }
-    ensures { (Γ : Network) → Compiled Γ frame counts.now lists.now
-        → Stored new.old new.new s (λ u. get_or t.now (s * L.events + u) 0)
-        (λ u. raised_at Γ counts.now lists.now t.now s u)
-        climb.old climb.new highest.old highest.new }
-{
-    let mut row: [u16; Network::EVENTS] = [0; Network::EVENTS];
-    rows::read_row(t, s, &mut row);
-    let mut first: [u16; Network::CASES] = [0; Network::CASES];
-    known::first_known(&row, frame, s, &mut first);
-    let mut o: [u16; Network::EVENTS] = [0; Network::EVENTS];
-    bounds::lift(&row, &mut o);
-    bounds::raise_by_bounds(s, counts, lists, &row, &mut o);
-    bounds::lower(&mut o);
-    let scenarios = frame.scenarios;
-    let mut d: usize = 1;
-    while d < scenarios {
-        rows::raise_by_scenario(t, s ^ d, first[d], &mut o);
-        d += 1;
-    }
-    if frame.labelled {
-        rows::clear_absent(frame, s, &mut o);
-    }
-    rows::store_row(new, s, &row, &o, climb, highest)
+// A network's frame, and its constraints and waits as lists of bounds. The lists stand in memory that is lent: to move
+// them would cost as much as reading a sheet.
+#[derive(Drop)]
+pub struct Compiled<'a> {
+    pub frame: Frame,
+    pub lists: &'a Lists,
+    pub ghost compiled: { Compiles frame.network lists.now },
 }
 
-// The table after t, and the round's effect.
-pub fn round(
-    t: &[u16; Network::CELLS],
-    new: &mut [u16; Network::CELLS],
-    frame: Frame,
-    counts: &[usize; Network::CASES],
-    lists: &[u16; bounds::LIST],
-) -> Effect
-    requires { Usable frame counts.now lists.now × FrameTimes frame t.now
-        × (length new.old ≡ L.cells) }
-    ensures { (Γ : Network) → Compiled Γ frame counts.now lists.now
-        → Rounded Γ t.now new.new result }
-{
-    let scenarios = frame.scenarios;
-    let mut climb: [u16; Network::EVENTS] = [0; Network::EVENTS];
-    let mut highest: [u16; Network::EVENTS] = [0; Network::EVENTS];
-    let mut s: usize = 0;
-    while s < scenarios {
-        raise_row(t, new, s, frame, counts, lists, &mut climb, &mut highest);
-        s += 1;
+impl<'a> Compiled<'a> {
+    ghost use Rattle.std.specs.Prelude.{◌≡◌, ℕ, ◌+◌, ◌*◌, ◌<◌, get_or};
+    ghost use Rattle.bounds.specs.Listed.{case};
+    ghost use Rattle.rows.specs.Rows.{Sixteen, Times};
+    ghost use Rattle.rounds.specs.Rounds.{raised_at, Rounded};
+
+    // A network's frame, and its lists, from lists that hold nothing yet.
+    pub fn of(formed: &Formed, lists: &'a mut Lists) -> Self
+        requires { (s : ℕ) → (case lists.old s).count ≡ 0 }
+        ensures { result.frame.network ≡ formed.now.network }
+    {
+        let frame = Frame::of(formed);
+        compile::list_constraints(lists, &frame);
+        compile::list_waits(lists, &frame);
+        Compiled { frame, lists }
     }
-    if frame.horizon < rows::greatest(&highest) || 0 < highest[0] {
-        return Effect::Passes;
+
+    // The times of scenario s in t, which are row, raised to what constraints, waits and hyperarcs ask, where their
+    // events happen.
+    fn raised(&self, t: &Table, s: usize, row: &Row) -> Row
+        requires { (s < self.now.frame.scenarios) × Times self.now.frame.network t.now
+            × Sixteen row.now (λ u. get_or t.now (s * 16 + u) 0) }
+        ensures { Sixteen result (λ u. raised_at self.now.frame.network self.now.lists.now t.now s u) }
+    {
+        let mut first = [0; Network::CASES];
+        known::first_known(row, &self.frame, s, &mut first);
+        let mut o = self.lists[s].raised(row);
+        for d in 1..self.frame.scenarios {
+            rows::raise_by_scenario(t, s ^ d, first[d], &mut o);
+        }
+        self.frame.clear_absent(s, &mut o);
+        o
     }
-    if rows::greatest(&climb) == 0 {
-        return Effect::Rests;
+
+    // The table after t, and the round's effect.
+    pub fn round(&self, t: &Table, new: &mut Table) -> Effect
+        requires { Times self.now.frame.network t.now }
+        ensures { Rounded self.now.frame.network t.now new.new result }
+    {
+        let mut marks = Marks::none();
+        for s in 0..self.frame.scenarios {
+            let mut row = [0; Network::EVENTS];
+            rows::read_row(t, s, &mut row);
+            let raised = self.raised(t, s, &row);
+            rows::write_row(new, s, &raised);
+            marks.note(&row, &raised);
+        }
+        if self.frame.network.horizon < marks.latest() || 0 < marks.highest[0] {
+            return Effect::Passes;
+        }
+        if marks.steepest() == 0 {
+            return Effect::Rests;
+        }
+        Effect::Rises
     }
-    Effect::Rises
 }

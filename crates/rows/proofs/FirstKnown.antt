@@ -1,7 +1,7 @@
 -- Laws of first known times: the table by doubling, and known times by a row. Assumes nothing.
 use mathlib.Core.Path.{◌≡◌, refl, ◌∙◌, ap}
 use mathlib.Core.Logic.{inl, inr}
-use mathlib.Core.Bool.{true, false, cond}
+use mathlib.Core.Bool.{true, false}
 use mathlib.Core.List.{List}
 use Prim.Native.Nat.{ℕ, zero, suc, ◌+◌, ◌-◌, ◌/◌, ◌%◌, ◌^◌, ◌≤◌, ◌<◌, min}
 use native.Mathlib.Nat.{pow-le-pow_right}
@@ -11,16 +11,13 @@ use lib.Dec.{eqb}
 use lib.ListN.{length, get_or, set, length-set}
 use lib.Seq.{get_or-set_same, get_or-set_other}
 use Rattle.prelude.proofs.Tests.{lt_or_ge, eq_or_ne}
-use Rattle.prelude.proofs.Minima.{min_where-top, min_where_ext, min_where-fewer}
+use Rattle.prelude.proofs.Minima.{min_where_ext, min_where-fewer}
 use Rattle.network.specs.Build.{observation}
 use Rattle.network.specs.Scenario.{truth}
 use Rattle.network.specs.WellFormed.{WellFormed}
 use Rattle.network.specs.declared.Network.{Network}
-use Rattle.rows.specs.declared.Frame.{Frame}
-use Rattle.rows.specs.Framed.{present, Framed}
 use Rattle.rows.specs.Rows.{RowIn}
-use Rattle.rows.specs.Known.{known_in, first_of, FirstKnown, Doubled}
-use Rattle.rows.proofs.Framed.{present-happens}
+use Rattle.rows.specs.Known.{known_in, known_at, first_of, FirstKnown, Doubled}
 
 -- the digits of d, and of d with proposition i added
 top : (i d : ℕ) → i < 4 → d < 2 ^ i → (truth d i ≡ false) × (truth (2 ^ i + d) i ≡ true)
@@ -95,9 +92,6 @@ module _ (f : ℕ → ℕ) where
             ]);
       }
 
-  pub first-few : {k : ℕ} {first : List ℕ} → FirstKnown k f first → (d : ℕ) → d < 2 ^ k → get_or first d 0 ≤ 32767
-  first-few {k} F d l = omega (arith, F.is d l, min_where-top (truth d) f 32767 k)
-
   -- a proposition that is in none of the sets asks nothing
   first_of_more : (k m d : ℕ) → k ≤ m → m ≤ 4 → d < 2 ^ k → first_of m f d ≡ first_of k f d
   first_of_more k m d h l b = min_where-fewer (truth d) f 32767 k m h (λ j a c.
@@ -116,15 +110,11 @@ first-fewer f g k m F h l e = record {
       (λ p c. refl) e;
 }
 
--- from when on p is known, by a row of its scenario; the remainder changes nothing, since observations are events
-pub known_in_row : (Γ : Network) (σ : List ℕ) (s : ℕ) {frame : Frame} {row : List ℕ} → WellFormed Γ → Framed Γ frame
-    → RowIn Γ σ s row → (p : ℕ) → p < frame.signals
-    → cond (present frame s (get_or frame.observations p 0 % 16))
-    (get_or row (get_or frame.observations p 0 % 16) 0 + get_or frame.reactions p 0) 32767
-    ≡ known_in Γ σ s p
-known_in_row Γ σ s {frame} {row} W F R p l =
+-- from when on p is known, by a row of its scenario
+pub known_in_row : (Γ : Network) (σ : List ℕ) (s : ℕ) {row : List ℕ} → WellFormed Γ → RowIn Γ σ s row → (p : ℕ)
+    → p < Γ.signals → known_at Γ row s p ≡ known_in Γ σ s p
+known_in_row Γ σ s W R p l =
     let u = observation Γ p in
-    let inside : u < Γ.events = W.observed p (omega (arith, F.signals)) in
-    let seen : get_or frame.observations p 0 ≡ u = ap (λ (xs : List ℕ). get_or xs p 0) F.observations in
-    let place : get_or frame.observations p 0 % 16 ≡ u = omega (arith, W.events) in
-    rw (place, present-happens F s u, R.at u inside, F.reactions p (omega (arith, F.signals, W.signals)))
+    let inside : u < Γ.events = W.observed p l in
+    let place : u % 16 ≡ u = omega (arith, W.events) in
+    rw (place, R.at u inside)

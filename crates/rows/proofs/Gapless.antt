@@ -7,7 +7,7 @@ use lib.ListN.{length, get_or, drop, length-drop}
 use lib.Seq.{ext_get_or, get_or-take, get_or-drop, length-take-le}
 use Rattle.prelude.proofs.Bounded.{length-tabulate, get_d_tabulate}
 use Rattle.prelude.proofs.Cells.{cell_lt, row_of_lem, column_of}
-use Rattle.rows.specs.Rows.{gapless, row_of, Row}
+use Rattle.rows.specs.Rows.{gapless, row_of, Sixteen}
 
 -- four propositions have sixteen scenarios
 pub sixteen : (k : ℕ) → k ≤ 4 → 2 ^ k ≤ 16
@@ -34,7 +34,7 @@ module _ (t : List ℕ) (s : ℕ) where
   row_at u l = get_or-take 16 (drop (s * 16) t) u 0 l ∙ get_or-drop (s * 16) t u 0
 
   -- a row that was read is the table's
-  pub row_is : (row : List ℕ) → length t ≡ 256 → s < 16 → Row row (λ u. get_or t (s * 16 + u) 0) → row ≡ row_of t s
+  pub row_is : (row : List ℕ) → length t ≡ 256 → s < 16 → Sixteen row (λ u. get_or t (s * 16 + u) 0) → row ≡ row_of t s
   row_is row n l h =
       let size : length (row_of t s) ≡ 16 = length-take-le 16 (drop (s * 16) t) (simp length-drop (omega arith)) in
       ext_get_or 0 row (row_of t s) (h.sized ∙ sym size) (λ i b.

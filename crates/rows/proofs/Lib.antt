@@ -1,5 +1,4 @@
--- In reading order: numbers compared with a sign; numbers that are written; rows and tables; frames; first known times.
-pub mod Compare
+-- In reading order: numbers that are written; rows and tables; frames; first known times.
 pub mod Wrote
 pub mod Gapless
 pub mod Framed

@@ -10,7 +10,7 @@ use lib.Seq.{ext_get_or, get_or-set_same, get_or-set_other, get_or-drop, get_or-
 use Rattle.prelude.specs.Bounded.{tabulate}
 use Rattle.prelude.proofs.Tests.{eq_or_ne, lt_or_ge}
 use Rattle.prelude.proofs.Bounded.{length-tabulate, get_d_tabulate}
-use Rattle.rows.specs.Rows.{Row, Wrote}
+use Rattle.rows.specs.Rows.{Sixteen, Wrote}
 
 -- a place outside of a run is outside of each shorter run, and is not its last place
 apart : (a u i : ℕ) → i < a ⊎ a + (u + 1) ≤ i → i ≡ a + u → ⊥
@@ -52,7 +52,7 @@ module _ (f : ℕ → ℕ) where
   unwritten {o₀} {o} {u} h = h.other u (inr (omega arith))
 
   -- a whole row
-  pub row_of_wrote : {o₀ o : List ℕ} {u : ℕ} → Wrote o₀ o 0 u f → 16 ≤ u → length o₀ ≡ 16 → Row o f
+  pub row_of_wrote : {o₀ o : List ℕ} {u : ℕ} → Wrote o₀ o 0 u f → 16 ≤ u → length o₀ ≡ 16 → Sixteen o f
   row_of_wrote h l n = record { sized = h.sized ∙ n; is = λ k b. rw zero-add at (h.here k (omega arith)) }
 
   -- a run that follows on another

@@ -1,4 +1,3 @@
--- Read in this order: what rounds take of a network besides its constraints; how they keep tables; first known times.
-pub mod Framed
+-- Read in this order: how rounds keep tables; first known times.
 pub mod Rows
 pub mod Known

@@ -1,26 +1,23 @@
 -- Tables as the rounds keep them: a row of sixteen times for each scenario, of which the first n are those of the n
 -- events.
-use Rattle.std.specs.Prelude.{◌≡◌, false, cond, ◌⊎◌, List, ℕ, ◌+◌, ◌-◌, ◌*◌, ◌/◌, ◌%◌, ◌≤◌, ◌<◌, max, length, get_or}
+use Rattle.std.specs.Prelude.{◌≡◌, false, cond, ◌⊎◌, List, ℕ, ◌+◌, ◌*◌, ◌/◌, ◌%◌, ◌≤◌, ◌<◌, length, get_or}
 use Rattle.std.specs.Prelude.{take, drop}
 use Rattle.prelude.specs.Bounded.{tabulate}
 use Rattle.network.specs.Limits as L
-use Rattle.network.specs.Build.{no_label}
-use Rattle.network.specs.Scenario.{satisfies}
+use Rattle.network.specs.Build.{scenarios, cells}
+use Rattle.network.specs.Happens.{happens}
 use Rattle.network.specs.Strategy.{time}
-use Rattle.network.specs.declared.Label.{Label}
 use Rattle.network.specs.declared.Network.{Network}
-use Rattle.rows.specs.declared.Frame.{Frame}
-use Rattle.rows.specs.Framed.{present}
 
 -- the strategy that a table holds: n events in c scenarios, without gaps
 unfoldable pub gapless : ℕ → ℕ → List ℕ → List ℕ
 gapless n c t = tabulate (n * c) (λ i. get_or t (i / n * 16 + i % n) 0)
 
 -- the same as it is handed out: with a blank in each cell without its event
-unfoldable pub handed : Frame → List ℕ → List ℕ
-handed frame t =
-    let n = frame.events in
-    tabulate (n * frame.scenarios) (λ i. cond (present frame (i / n) (i % n)) (get_or t (i / n * 16 + i % n) 0) L.blank)
+unfoldable pub handed : Network → List ℕ → List ℕ
+handed Γ t =
+    let n = Γ.events in
+    tabulate (cells Γ) (λ i. cond (happens Γ (i / n) (i % n)) (get_or t (i / n * 16 + i % n) 0) L.blank)
 
 -- the row of scenario s
 abbrev pub row_of : List ℕ → ℕ → List ℕ
@@ -31,7 +28,7 @@ pub record RowIn (Γ : Network) (σ : List ℕ) (s : ℕ) (row : List ℕ) : Typ
   pub at : (u : ℕ) → u < Γ.events → get_or row u 0 ≡ time Γ.events σ s u
 
 -- sixteen numbers
-pub record Row (xs : List ℕ) (f : ℕ → ℕ) : Type 0 where
+pub record Sixteen (xs : List ℕ) (f : ℕ → ℕ) : Type 0 where
   pub sized : length xs ≡ 16
   pub is : (u : ℕ) → u < 16 → get_or xs u 0 ≡ f u
 
@@ -39,27 +36,15 @@ pub record Row (xs : List ℕ) (f : ℕ → ℕ) : Type 0 where
 abbrev pub Few : ℕ → List ℕ → Type 0
 Few m xs = (u : ℕ) → u < 16 → get_or xs u 0 ≤ m
 
--- what a round is given: times that a horizon may allow, and zeros behind the n events and where an event does not
--- happen, by its label
-pub record Times (n : ℕ) (labels : List Label) (c : ℕ) (t : List ℕ) : Type 0 where
+-- what a round is given: times that a horizon may allow, and zeros behind the events and where an event does not happen
+pub record Times (Γ : Network) (t : List ℕ) : Type 0 where
   pub sized : length t ≡ 256
-  pub few : (s u : ℕ) → s < c → u < 16 → get_or t (s * 16 + u) 0 ≤ L.horizon
-  pub beyond : (s u : ℕ) → s < c → n ≤ u → u < 16 → get_or t (s * 16 + u) 0 ≡ 0
-  pub absent : (s u : ℕ) → s < c → u < 16 → satisfies s (get_or labels u no_label) ≡ false → get_or t (s * 16 + u) 0 ≡ 0
-
--- of a frame's network
-abbrev pub FrameTimes : Frame → List ℕ → Type 0
-FrameTimes frame t = Times frame.events frame.labels frame.scenarios t
+  pub few : (s u : ℕ) → s < scenarios Γ → u < 16 → get_or t (s * 16 + u) 0 ≤ L.horizon
+  pub beyond : (s u : ℕ) → s < scenarios Γ → Γ.events ≤ u → u < 16 → get_or t (s * 16 + u) 0 ≡ 0
+  pub absent : (s u : ℕ) → s < scenarios Γ → u < 16 → happens Γ s u ≡ false → get_or t (s * 16 + u) 0 ≡ 0
 
 -- n numbers are written from place a on, and the rest is unaltered
 pub record Wrote (o o' : List ℕ) (a n : ℕ) (f : ℕ → ℕ) : Type 0 where
   pub sized : length o' ≡ length o
   pub here : (u : ℕ) → u < n → get_or o' (a + u) 0 ≡ f u
   pub other : (i : ℕ) → i < a ⊎ a + n ≤ i → get_or o' i 0 ≡ get_or o i 0
-
--- the row after is stored as row s of t; two rows are raised by it: to how far it is over the row before, and to it
-pub record Stored (t t' : List ℕ) (s : ℕ) (before after : ℕ → ℕ) (climb climb' highest highest' : List ℕ)
-    : Type 0 where
-  pub wrote : Wrote t t' (s * 16) 16 after
-  pub climb_is : Row climb' (λ u. max (get_or climb u 0) (after u - before u))
-  pub highest_is : Row highest' (λ u. max (get_or highest u 0) (after u))

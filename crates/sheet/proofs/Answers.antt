@@ -9,12 +9,12 @@ use borrow.Author.Tests.{ltb-false}
 use lib.ListN.{length}
 use Rattle.prelude.specs.Checks.{first_failing_lem, Hold}
 use Rattle.refusal.specs.declared.Cause.TheVariants as C
+use Rattle.refusal.specs.declared.Refusal.{Refusal}
+use Rattle.std.specs.Prelude.{Result, Ok, Err}
 use Rattle.network.specs.declared.Network.{Network}
-use Rattle.sheet.specs.Reading.{longest, Progress, Stop, Go, stop_or, and_then, follows, read_end, answered, read}
+use Rattle.sheet.specs.Reading.{longest, Progress, Go, stop_or, and_then, follows, read_end, answered, read}
 use Rattle.sheet.specs.Place.{NoMore, tests}
 use Rattle.sheet.specs.Fault.{FirstFault, Fault}
-use Rattle.sheet.specs.declared.Outcome.{Outcome}
-use Rattle.sheet.specs.declared.Outcome.TheVariants.{Accepted, Refused}
 use Rattle.sheet.proofs.Whole.{to_cases, to_end, by_length}
 use Rattle.sheet.proofs.Over.{all_hold}
 use Rattle.sheet.proofs.Comes.{At, Comes, stops, sections_come}
@@ -22,8 +22,8 @@ use Rattle.sheet.proofs.Comes.{At, Comes, stops, sections_come}
 module _ (sheet : List ℕ) where
   -- at its end: the first fault, or none
   abbrev Ends : Progress → Type 0
-  Ends (Stop r) = FirstFault sheet r
-  Ends (Go Γ at k) = (j : ℕ) → Hold (tests sheet j)
+  Ends (Err r) = FirstFault sheet r
+  Ends (Ok p) = (j : ℕ) → Hold (tests sheet j)
 
   end_comes : (Γ : Network) (at k : ℕ) → At sheet NoMore Γ at k → Ends (read_end sheet Γ at k)
   end_comes Γ at k a = by_bytes (follows sheet at) refl
@@ -36,20 +36,20 @@ module _ (sheet : List ℕ) where
           (rw a.is (record { over = refl; end = ltb-false at (length sheet) e })) a.pass
 
   then_ends : (p : Progress) → Comes sheet (λ at. NoMore) p → Ends (and_then p (read_end sheet))
-  then_ends (Stop r) c = c
-  then_ends (Go Γ at k) c = end_comes Γ at k c
+  then_ends (Err r) c = c
+  then_ends (Ok p) c = end_comes p.network p.at p.line c
 
   -- of the whole sheet
-  abbrev pub Answers : Outcome → Type 0
-  Answers (Refused r) = Fault sheet r
-  Answers Accepted = (length sheet ≤ longest) × ((j : ℕ) → Hold (tests sheet j))
+  abbrev pub Answers : Result Network Refusal → Type 0
+  Answers (Err r) = Fault sheet r
+  Answers (Ok Γ) = (length sheet ≤ longest) × ((j : ℕ) → Hold (tests sheet j))
 
-  pub answers : Answers (read sheet).outcome
+  pub answers : Answers (read sheet)
   answers =
-      by_length sheet (λ p. Answers (answered p).outcome)
+      by_length sheet (λ p. Answers (answered p))
       (λ h. inl (h, refl))
       (λ h. ended (to_end sheet) h (then_ends (to_cases sheet) (sections_come sheet)))
     where
-      ended : (p : Progress) → length sheet ≤ longest → Ends p → Answers (answered p).outcome
-      ended (Stop r) l e = inr (l, e)
-      ended (Go Γ at k) l e = (l, e)
+      ended : (p : Progress) → length sheet ≤ longest → Ends p → Answers (answered p)
+      ended (Err r) l e = inr (l, e)
+      ended (Ok p) l e = (l, e)

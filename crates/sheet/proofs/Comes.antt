@@ -7,6 +7,7 @@ use mathlib.Core.Option.{Option, none, some}
 use mathlib.Core.List.{List}
 use Prim.Native.Nat.{ℕ, zero, suc, ◌<◌}
 use native.Mathlib.Omega.{arith}
+use Rattle.std.specs.Prelude.{Ok, Err}
 use Rattle.prelude.specs.Checks.{first_failing_lem, Hold, FirstFails}
 use Rattle.prelude.proofs.Checks.{hold, first_fails}
 use Rattle.prelude.proofs.Tests.{lt_or_ge}
@@ -19,7 +20,7 @@ use Rattle.line.specs.Tests.{Tests, second_number}
 use Rattle.line.specs.Sections.{with_line}
 use Rattle.line.specs.declared.Section.{Section}
 use Rattle.line.specs.declared.Section.TheVariants.{Events, Signals, Rules, Reactions, Cases}
-use Rattle.sheet.specs.Reading.{Progress, Stop, Go, stop_or, and_then, read_entries_lem, read_section_lem}
+use Rattle.sheet.specs.Reading.{Progress, Go, stop_or, and_then, read_entries_lem, read_section_lem}
 use Rattle.sheet.specs.Reading.{read_horizon_lem}
 use Rattle.sheet.specs.Reading.{follows, read_optional_lem}
 use Rattle.sheet.specs.Place.{Expected, Horizon, Heading, Entry, NoMore, behind, entries, Place, tests_at}
@@ -37,8 +38,8 @@ module _ (sheet : List ℕ) where
 
   -- the reading has come so far, to where this is expected, or it has stopped at the first fault
   abbrev pub Comes : (ℕ → Expected) → Progress → Type 0
-  Comes d (Stop r) = FirstFault sheet r
-  Comes d (Go Γ at k) = At (d at) Γ at k
+  Comes d (Err r) = FirstFault sheet r
+  Comes d (Ok p) = At (d p.at) p.network p.at p.line
 
   -- what is expected behind a section that ends here
   abbrev next_of : Section → ℕ → Expected
@@ -112,8 +113,8 @@ module _ (sheet : List ℕ) where
 
   then_comes : (d e : ℕ → Expected) (p : Progress) (f : Network → ℕ → ℕ → Progress) → Comes d p
       → ((Γ : Network) (at k : ℕ) → At (d at) Γ at k → Comes e (f Γ at k)) → Comes e (and_then p f)
-  then_comes d e (Stop r) f c g = c
-  then_comes d e (Go Γ at k) f c g = g Γ at k c
+  then_comes d e (Err r) f c g = c
+  then_comes d e (Ok p) f c g = g p.network p.at p.line c
 
   -- the last two sections may be absent: where bytes follow they are expected, and otherwise no more
   reactions_come : (Γ : Network) (at k : ℕ) → At (next_of Rules at) Γ at k

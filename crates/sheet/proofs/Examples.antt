@@ -10,12 +10,13 @@ use lib.ListN.{replicate}
 use Rattle.prelude.specs.Bytes.{ascii}
 use Rattle.text.specs.Lines.{line_feed}
 use Rattle.text.specs.Number.{is_number, in_range}
+use Rattle.std.specs.Prelude.{Ok, Err}
 use Rattle.refusal.specs.Refusal.{number_of}
 use Rattle.line.specs.Tests.{section_tests, event_tests, signal_tests, ends_tests, rule_tests, letter_tests}
 use Rattle.line.specs.Tests.{reaction_tests}
 use Rattle.line.specs.Tests.{placed_tests, label_tests}
 use Rattle.line.specs.Labelling.{whole_tests}
-use Rattle.sheet.specs.Reading.{Progress, Stop, Go, progress}
+use Rattle.sheet.specs.Reading.{Progress, progress}
 
 -- lines of text, each with its line feed
 abbrev lines : List String → List ℕ
@@ -188,8 +189,8 @@ examples =
 
 -- whether reading ends so
 abbrev ends : Progress → ℕ → ℕ → Bool
-ends (Stop r) n k = eqb (number_of r.cause) n && eqb r.line k
-ends (Go Γ at j) n k = eqb 0 n && eqb 0 k
+ends (Err r) n k = eqb (number_of r.cause) n && eqb r.line k
+ends (Ok p) n k = eqb 0 n && eqb 0 k
 
 abbrev all_end : List Example → Bool
 all_end [] = true

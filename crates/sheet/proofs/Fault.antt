@@ -10,14 +10,14 @@ use lib.Dec.{leb}
 use lib.ListN.{length}
 use Rattle.prelude.proofs.Checks.{fails-not-hold, first_fails_unique}
 use Rattle.prelude.proofs.Tests.{lt_or_ge, eq_or_ne, or-true, and-true}
+use Rattle.std.specs.Prelude.{Result, Ok, Err}
 use Rattle.refusal.specs.Refusal.{number_of}
 use Rattle.refusal.specs.declared.Cause.{Cause}
 use Rattle.refusal.specs.declared.Refusal.{Refusal}
+use Rattle.network.specs.declared.Network.{Network}
 use Rattle.sheet.specs.Reading.{read}
 use Rattle.sheet.specs.Place.{place, tests}
 use Rattle.sheet.specs.Fault.{FirstFault, Fails, Fault}
-use Rattle.sheet.specs.declared.Outcome.{Outcome}
-use Rattle.sheet.specs.declared.Outcome.TheVariants.{Accepted, Refused}
 use Rattle.sheet.proofs.Order.{first_fails_between, first_fails_lowest, tests_in_order}
 use Rattle.sheet.proofs.Order.{is_of_line, first_fails_of_line, tests_of_line}
 use Rattle.sheet.proofs.Over.{over_holds, lines-inside}
@@ -52,9 +52,9 @@ module _ (sheet : List ℕ) where
   fault_unique r q (inr f) (inl g) = absurd (omega (arith, f.0, g.0))
   fault_unique r q (inr f) (inr g) = first-fault_unique r q f.1 g.1
 
-  no_fault : (r : Refusal) → Answers sheet Accepted → Fault sheet r → ⊥
-  no_fault r a (inl f) = omega (arith, f.0, a.0)
-  no_fault r a (inr f) = fails-not-hold (tests sheet f.1.above) r.cause f.1.fault (a.1 f.1.above)
+  no_fault : (r : Refusal) (Γ : Network) → Answers sheet (Ok Γ) → Fault sheet r → ⊥
+  no_fault r Γ a (inl f) = omega (arith, f.0, a.0)
+  no_fault r Γ a (inr f) = fails-not-hold (tests sheet f.1.above) r.cause f.1.fault (a.1 f.1.above)
 
   -- so "on one line the lowest number" decides
   pub fault-lowest : (r : Refusal) (f : FirstFault sheet r) (d : Cause) → Fails (tests sheet f.above) d
@@ -91,9 +91,9 @@ module _ (sheet : List ℕ) where
       ]
 
 -- a sheet is refused with its fault and with no other refusal
-pub refused_iff : (sheet : List ℕ) (r : Refusal) → ((read sheet).outcome ≡ Refused r) ↔ Fault sheet r
-refused_iff sheet r = (λ e. rw e at (answers sheet), λ f. by_outcome (read sheet).outcome (answers sheet) f)
+pub refused_iff : (sheet : List ℕ) (r : Refusal) → (read sheet ≡ Err r) ↔ Fault sheet r
+refused_iff sheet r = (λ e. rw e at (answers sheet), λ f. by-answer (read sheet) (answers sheet) f)
   where
-    by_outcome : (o : Outcome) → Answers sheet o → Fault sheet r → o ≡ Refused r
-    by_outcome (Refused q) a f = ap Refused (fault_unique sheet q r a f)
-    by_outcome Accepted a f = absurd (no_fault sheet r a f)
+    by-answer : (o : Result Network Refusal) → Answers sheet o → Fault sheet r → o ≡ Err r
+    by-answer (Err q) a f = ap Err (fault_unique sheet q r a f)
+    by-answer (Ok Γ) a f = absurd (no_fault sheet r Γ a f)

@@ -1,8 +1,7 @@
 -- What a line holds that passes by itself: there is room for it, with the last label all labels may be tested, and it
 -- is what the line adds. Assumes nothing.
 use mathlib.Core.Path.{◌≡◌, refl, ap}
-use mathlib.Core.Bool.{cond}
-use mathlib.Core.List.{List, []}
+use mathlib.Core.List.{List}
 use Prim.Native.Nat.{ℕ, zero, suc, ◌-◌, ◌<◌}
 use native.Mathlib.Omega.{arith}
 use borrow.Author.Tests.{eqb-true, ne_eqb}
@@ -10,50 +9,24 @@ use lib.Dec.{eqb}
 use lib.ListN.{length}
 use Rattle.text.specs.Lines.{fields, line_at}
 use Rattle.text.proofs.Fields.{only-field}
-use Rattle.network.specs.Limits as L
 use Rattle.network.specs.Build.{with_event}
 use Rattle.network.specs.declared.Network.{Network}
-use Rattle.line.specs.Tests.{Tests, event_tests}
-use Rattle.line.specs.Labelling.{Read, whole_tests}
+use Rattle.line.specs.Tests.{event_tests}
 use Rattle.line.specs.Sections.{own_tests, entry_of, added, with_line}
 use Rattle.line.specs.declared.Section.{Section}
 use Rattle.line.specs.declared.Section.TheVariants.{Events, Signals, Rules, Reactions, Cases}
 use Rattle.line.specs.declared.entry.Entry.{Entry}
-use Rattle.line.specs.declared.entry.Entry.TheVariants as E
 use Rattle.line.proofs.Checks.{all_hold}
 use Rattle.line.proofs.LabelRefusals.{later_tests}
+use Rattle.sheet.specs.Turn.{Room, Testable, tests_behind}
 use Rattle.sheet.proofs.ReadLine.{Passes}
 use Rattle.sheet.proofs.Stages.{and_more-is}
 use Rattle.sheet.proofs.ReactionStage.{reacting_signal}
 use Rattle.sheet.proofs.LabelStage.{placed, label-read}
 use Rattle.sheet.proofs.EntriesLeft.{Before}
 
--- there is room for what a line holds
-abbrev pub Room : Entry → Network → Type 0
-Room E.Event Γ = Γ.events < L.events
-Room (E.Signal b u) Γ = Γ.signals < L.signals
-Room (E.Rule c) Γ = Γ.rules < L.rules
-Room (E.Reaction p m) Γ = p < L.signals
-Room (E.Label u ℓ) Γ = u < L.events
-
--- with a label, all labels may be tested
-abbrev pub Testable : Entry → Network → Type 0
-Testable E.Event Δ = Unit {0}
-Testable (E.Signal b u) Δ = Unit {0}
-Testable (E.Rule c) Δ = Unit {0}
-Testable (E.Reaction p m) Δ = Unit {0}
-Testable (E.Label u ℓ) Δ = Read Δ
-
 pub testable_same : {x y : Entry} {Γ Δ : Network} → x ≡ y → Γ ≡ Δ → Testable x Γ → Testable y Δ
 testable_same e d t = rw (← e, ← d) t
-
--- what is tested behind a line which holds this, where so many lines are left with it: the last label tests all
-abbrev pub tests_behind : Entry → ℕ → Network → Tests
-tests_behind E.Event left Δ = []
-tests_behind (E.Signal b u) left Δ = []
-tests_behind (E.Rule c) left Δ = []
-tests_behind (E.Reaction p m) left Δ = []
-tests_behind (E.Label u ℓ) left Δ = cond (eqb left 1) (whole_tests Δ) []
 
 module _ (sheet : List ℕ) (Γ : Network) (at k : ℕ) where
   abbrev fs : List (List ℕ)
@@ -78,7 +51,8 @@ module _ (sheet : List ℕ) (Γ : Network) (at k : ℕ) where
   testable_of Cases (suc m) g h p = label-read sheet Γ at k m g p
 
   pub later-is : (s : Section) (left : ℕ) → 0 < left
-      → later_tests sheet Γ s (left - 1) fs ≡ tests_behind (entry_of sheet s Γ fs) left (with_line sheet s Γ at fs)
+      → later_tests sheet Γ s (left - 1) fs
+      ≡ tests_behind (entry_of sheet s Γ fs) (eqb left 1) (with_line sheet s Γ at fs)
   later-is Events left h = refl
   later-is Signals left h = refl
   later-is Rules left h = refl

@@ -6,71 +6,74 @@ use mathlib.Core.List.{List}
 use Prim.Native.Nat.{ℕ, ◌+◌, ◌-◌, ◌≤◌, ◌<◌}
 use native.Mathlib.Omega.{arith}
 use lib.ListN.{length, drop}
+use lib.Dec.{eqb}
+use Rattle.std.specs.Prelude.{Ok, Err}
 use Rattle.prelude.specs.Checks.{first_failing_lem}
 use Rattle.text.specs.Lines.{fields, line_at}
 use Rattle.text.proofs.Lines.{line-inside}
 use Rattle.refusal.specs.Refusal.{refusal}
 use Rattle.refusal.specs.declared.Cause.{Cause}
-use Rattle.network.specs.Limits as L
 use Rattle.network.specs.WellFormed.{ToCome}
 use Rattle.network.specs.declared.Network.{Network}
 use Rattle.names.specs.Found.{NamesIn}
-use Rattle.line.specs.Sections.{own_tests, entry_of, added, with_line}
+use Rattle.line.specs.Sections.{own_tests, added, with_line}
 use Rattle.line.specs.declared.Section.{Section}
 use Rattle.line.specs.declared.entry.Entry.{Entry}
-use Rattle.line.specs.declared.entry.EntryLine.TheVariants as R
+use Rattle.line.specs.declared.entry.Line.{Line}
 use Rattle.line.proofs.LabelRefusals.{later_tests, line_fails, line-holds}
-use Rattle.line.proofs.Answered.{entry_answer-refused, entry_answer_lem, answer_at, entry_at_lem}
+use Rattle.line.proofs.Refusals.{answer-err, answer-ok}
+use Rattle.line.proofs.Answered.{held_at, answer_at, entry_at_lem}
 use Rattle.sheet.specs.Reading.{Progress, Stop}
 use Rattle.sheet.specs.Stage.{Stage}
 use Rattle.sheet.proofs.ReadLine.{refusal_at, passes}
 use Rattle.sheet.proofs.Stages.{and_more-is}
-use Rattle.sheet.proofs.Held.{Room, Testable, tests_behind, testable_same, room_of, testable_of, later-is, adds}
+use Rattle.sheet.specs.Turn.{Room, Testable, tests_behind}
+use Rattle.sheet.proofs.Held.{testable_same, room_of, testable_of, later-is, adds}
 use Rattle.sheet.proofs.EntriesLeft.{EntriesLeft, reads-stop, reads_on}
 
 -- the events of the network are named by parts of the sheet
 pub names_in : {sheet : List ℕ} {t : ToCome} {Γ : Network} {at k : ℕ} → Stage sheet t Γ at k
-    → NamesIn sheet Γ.events Γ.starts Γ.lengths
+    → NamesIn sheet Γ
 names_in {t = t} {Γ} g = record {
-  few = omega (arith, g.forming.events, and_more-is Γ.events t.events);
+  few_events = omega (arith, g.forming.events, and_more-is Γ.events t.events);
+  few_signals = omega (arith, g.forming.signals, and_more-is Γ.signals t.signals);
   inside = g.named.inside;
 }
-
-pub few_signals : {sheet : List ℕ} {t : ToCome} {Γ : Network} {at k : ℕ} → Stage sheet t Γ at k → Γ.signals ≤ L.signals
-few_signals {t = t} {Γ} g = omega (arith, g.forming.signals, and_more-is Γ.signals t.signals)
 
 module _ {sheet : List ℕ} {s : Section} {p : Progress} {left : ℕ} {Γ : Network} {at k : ℕ}
     (here : EntriesLeft sheet s p left Γ at k) (more : 0 < left) where
   abbrev own : Option Cause
   own = refusal_at sheet at k (own_tests sheet s Γ)
 
-  pub entry_stop : (c : Cause) → answer_at sheet s Γ at ≡ R.Refused c → Stop (refusal c k) ≡ p
+  pub entry_stop : (c : Cause) → answer_at sheet s Γ at ≡ Err c → Stop (refusal c k) ≡ p
   entry_stop c e =
       reads-stop left Γ at k c here more
       (line_fails sheet Γ (drop at sheet) s (left - 1) c
-      (entry_answer-refused own (entry_of sheet s Γ (fields (line_at sheet at)))
-      (length (line_at sheet at)) c (sym (entry_at_lem sheet s Γ at) ∙ e)))
+      (answer-err own (held_at sheet s Γ at) c (sym (entry_at_lem sheet s Γ at) ∙ e)))
 
   pub record EntryTurn (x : Entry) (n : ℕ) : Type 0 where
     pub room : Room x Γ
     pub testable : Testable x (added x Γ at n)
     pub inside : at + n + 1 ≤ length sheet
-    pub stop : (c : Cause) → first_failing_lem (tests_behind x left (added x Γ at n)) ≡ some c → Stop (refusal c k) ≡ p
-    pub next : first_failing_lem (tests_behind x left (added x Γ at n)) ≡ none
+    pub stop : (c : Cause) → first_failing_lem (tests_behind x (eqb left 1) (added x Γ at n)) ≡ some c
+        → Stop (refusal c k) ≡ p
+    pub next : first_failing_lem (tests_behind x (eqb left 1) (added x Γ at n)) ≡ none
         → EntriesLeft sheet s p (left - 1) (added x Γ at n) (at + n + 1) (k + 1)
 
-  pub entry_turn : (x : Entry) (n : ℕ) → answer_at sheet s Γ at ≡ R.Holds x n → EntryTurn x n
-  entry_turn x n e =
+  pub entry_turn : (l : Line) → answer_at sheet s Γ at ≡ Ok l → EntryTurn l.entry l.length
+  entry_turn l e =
+      let x = l.entry in
+      let n = l.length in
       let fs = fields (line_at sheet at) in
-      let w = entry_answer_lem own (entry_of sheet s Γ fs) (length (line_at sheet at)) x n
-      (sym (entry_at_lem sheet s Γ at) ∙ e) in
+      let w = answer-ok own (held_at sheet s Γ at) l (sym (entry_at_lem sheet s Γ at) ∙ e) in
       let pass = passes sheet at k (own_tests sheet s Γ) w.0 in
-      let entry = w.1 in
-      let size = w.2 in
+      let entry = ap (λ (l : Line). l.entry) w.1 in
+      let size = ap (λ (l : Line). l.length) w.1 in
       let grown : with_line sheet s Γ at fs ≡ added x Γ at n = adds sheet Γ at k s pass ∙ rw (entry, size) in
-      let later : later_tests sheet Γ s (left - 1) fs ≡ tests_behind x left (added x Γ at n) =
-      later-is sheet Γ at k s left more ∙ ap (λ (y : Entry). tests_behind y left (with_line sheet s Γ at fs)) entry
-      ∙ ap (λ (Δ : Network). tests_behind x left Δ) grown in
+      let later : later_tests sheet Γ s (left - 1) fs ≡ tests_behind x (eqb left 1) (added x Γ at n) =
+      later-is sheet Γ at k s left more
+      ∙ ap (λ (y : Entry). tests_behind y (eqb left 1) (with_line sheet s Γ at fs)) entry
+      ∙ ap (λ (Δ : Network). tests_behind x (eqb left 1) Δ) grown in
       let whole = line-holds sheet Γ (drop at sheet) s (left - 1) w.0 ∙ ap first_failing_lem later in
       record {
         room = rw entry at (room_of sheet Γ at k s left here.stage more pass);

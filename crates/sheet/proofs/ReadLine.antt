@@ -1,5 +1,5 @@
 -- Laws of reading a line, and so many lines. Assumes nothing.
-use mathlib.Core.Path.{◌≡◌, refl, ap}
+use mathlib.Core.Path.{◌≡◌, refl, sym, ap}
 use mathlib.Core.Bool.{Bool, true, false}
 use mathlib.Core.Option.{Option, none, some}
 use mathlib.Core.List.{List, ◌∷◌}
@@ -17,11 +17,38 @@ use Rattle.network.specs.declared.Network.{Network}
 use Rattle.line.specs.Tests.{Tests, line_tests}
 use Rattle.line.specs.Sections.{tests_of, with_line}
 use Rattle.line.specs.declared.Section.{Section}
-use Rattle.sheet.specs.Reading.{Progress, Stop, Go, stop_or, and_then, read_line, read_entries_lem}
+use Rattle.sheet.specs.Reading.{Progress, Stop, Go, on_line, stop_or, and_then, read_line, read_entries_lem}
+use Rattle.sheet.specs.declared.section.Reached.{Reached}
+use Rattle.std.specs.Prelude.{Result, Ok, Err}
 
 -- a refusal is no network
 pub stop-not-go {ℓ} : {A : Type ℓ} (r : Refusal) (Γ : Network) (at k : ℕ) → Stop r ≡ Go Γ at k → A
 stop-not-go r Γ at k e = zero-is-one cc
+
+-- what a line's answer with its number says of the answer
+pub on_line-ok : {A : Type 0} (k : ℕ) (r : Result A Cause) (x : A) → ◌≡◌ {A = Result A Refusal} (Ok x) (on_line k r)
+    → r ≡ Ok x
+on_line-ok k (Ok y) x e = let same : x ≡ y = cc in ap Ok (sym same)
+on_line-ok k (Err c) x e = zero-is-one cc
+
+pub on_line-err : {A : Type 0} (k : ℕ) (r : Result A Cause) (d : Refusal)
+    → ◌≡◌ {A = Result A Refusal} (Err d) (on_line k r) → (c : Cause) × (r ≡ Err c) × (d ≡ refusal c k)
+on_line-err k (Ok y) d e = zero-is-one cc
+on_line-err k (Err c) d e = (c, refl, cc)
+
+-- a reading has come to one place
+go : Reached → Progress → Reached
+go d (Err r) = d
+go d (Ok p) = p
+
+pub go-same : (Γ Δ : Network) (at b k j : ℕ) → Go Γ at k ≡ Go Δ b j → (Γ ≡ Δ) × (at ≡ b) × (k ≡ j)
+unfolding go
+go-same Γ Δ at b k j e =
+    let same = ap (go (record { network = Γ; at = at; line = k })) e in (
+      ap (λ (p : Reached). p.network) same,
+      ap (λ (p : Reached). p.at) same,
+      ap (λ (p : Reached). p.line) same,
+    )
 
 -- what follows a section that was read
 pub record Came (p : Progress) (next : Network → ℕ → ℕ → Progress) (q : Progress) : Type 0 where
@@ -33,8 +60,8 @@ pub record Came (p : Progress) (next : Network → ℕ → ℕ → Progress) (q 
 
 pub came : (p : Progress) (next : Network → ℕ → ℕ → Progress) (Γ : Network) (at k : ℕ)
     → and_then p next ≡ Go Γ at k → Came p next (Go Γ at k)
-came (Stop r) next Γ at k e = stop-not-go r Γ at k e
-came (Go Δ b j) next Γ at k e = record { network = Δ; at = b; line = j; first = refl; then = e }
+came (Err r) next Γ at k e = stop-not-go r Γ at k e
+came (Ok p) next Γ at k e = record { network = p.network; at = p.at; line = p.line; first = refl; then = e }
 
 module _ (sheet : List ℕ) (at k : ℕ) (ts : List (List ℕ) → Tests) where
   abbrev fs : List (List ℕ)
@@ -85,10 +112,8 @@ module _ (sheet : List ℕ) (s : Section) (P : ℕ → Network → ℕ → ℕ �
   pub entries-keep : Keeps → (m : ℕ) (Γ Δ : Network) (at k b j : ℕ) → P m Γ at k → read_entries_lem sheet s m Γ at k
       ≡ Go Δ b j → P 0 Δ b j
   entries-keep keep zero Γ Δ at k b j h e =
-      let network : Γ ≡ Δ = cc in
-      let place : at ≡ b = cc in
-      let line : k ≡ j = cc in
-      rw (← network, ← place, ← line) h
+      let same = go-same Γ Δ at b k j e in
+      rw (← same.0, ← same.1, ← same.2) h
   entries-keep keep (suc m) Γ Δ at k b j h e =
       let w = went sheet at k (tests_of sheet s m Γ)
       (λ fs. read_entries_lem sheet s m (with_line sheet s Γ at fs) (after_line sheet at) (suc k)) Δ b j e in

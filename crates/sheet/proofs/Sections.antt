@@ -14,36 +14,36 @@ use Rattle.refusal.specs.declared.Cause.TheVariants as C
 use Rattle.network.specs.Limits as L
 use Rattle.network.specs.Build.{empty}
 use Rattle.network.specs.declared.Network.{Network}
-use Rattle.line.specs.Tests.{second_number}
+use Rattle.line.specs.Tests.{line_tests, second_number}
 use Rattle.line.specs.Sections.{Heading, heading_of_lem, horizon_heading, heading_tests}
-use Rattle.line.specs.Answers.{section_answer, heading_at}
+use Rattle.line.specs.Answers.{passing, heading_at}
+use Rattle.line.specs.declared.heading.CountLine.{CountLine}
 use Rattle.line.specs.declared.Section.{Section}
-use Rattle.line.proofs.Answered.{section-answer-refused, section-answer}
-use Rattle.line.specs.declared.Section.TheVariants.{Events, Signals, Rules, Reactions, Cases}
-use Rattle.line.specs.declared.HeadingLine.TheVariants as S
-use Rattle.sheet.specs.Reading.{Progress, Stop, Go, and_then, read_line, read_entries_lem, read_section_lem}
+use Rattle.line.proofs.Refusals.{answer-err, answer-ok}
+use Rattle.std.specs.Prelude.{Ok, Err}
+use Rattle.sheet.specs.Reading.{Progress, Stop, Go, read_line, read_entries_lem, read_section_lem}
 use Rattle.sheet.specs.Reading.{read_horizon_lem}
-use Rattle.sheet.specs.Reading.{read_optional_lem, read_end, longest, answered, read}
+use Rattle.sheet.specs.Reading.{longest, answered, read}
 use Rattle.sheet.specs.Stage.{to_come, whole, Stage}
 use Rattle.sheet.proofs.ReadLine.{refusal_at, passes, read_line-stop, read_line-on}
-use Rattle.sheet.proofs.Whole.{too_long, in_length}
+use Rattle.sheet.proofs.Whole.{to_end, too_long, in_length}
 use Rattle.sheet.proofs.Passing.{counted}
 use Rattle.sheet.proofs.Stages.{stage_section}
 
 -- the line at a place of the sheet, whose remaining part is given
 module _ (sheet : List ℕ) (at k : ℕ) (h : Heading) (rest : List ℕ) (is : rest ≡ drop at sheet) where
-  section-at : heading_at rest h
-      ≡ section_answer (refusal_at sheet at k (heading_tests h)) (second_number (fields (line_at sheet at)))
-      (length (line_at sheet at))
+  abbrev said_at : CountLine
+  said_at = record { count = second_number (fields (line_at sheet at)); length = length (line_at sheet at) }
+
+  section-at : heading_at rest h ≡ passing (line_tests (drop at sheet) (heading_tests h)) said_at
   section-at = ap (λ (l : List ℕ). heading_at l h) is
 
   module _ (next : List (List ℕ) → Progress) where
-    pub section-stop : (c : Cause) → heading_at rest h ≡ S.Refused c
+    pub section-stop : (c : Cause) → heading_at rest h ≡ Err c
         → Stop (refusal c k) ≡ read_line sheet at k (heading_tests h) next
     section-stop c e =
         sym (read_line-stop sheet at k (heading_tests h) next c
-        (section-answer-refused (refusal_at sheet at k (heading_tests h)) (second_number (fields (line_at sheet at)))
-        (length (line_at sheet at)) c (sym section-at ∙ e)))
+        (answer-err (refusal_at sheet at k (heading_tests h)) said_at c (sym section-at ∙ e)))
 
     -- the line passes, with count m and of length n
     pub record SectionRead (m n : ℕ) : Type 0 where
@@ -55,14 +55,15 @@ module _ (sheet : List ℕ) (at k : ℕ) (h : Heading) (rest : List ℕ) (is : r
       pub after : after_line sheet at ≡ at + n + 1
       pub goes_on : read_line sheet at k (heading_tests h) next ≡ next (fields (line_at sheet at))
 
-    pub section-read : (m n : ℕ) → heading_at rest h ≡ S.Count m n → SectionRead m n
-    section-read m n e =
-        let w = section-answer (refusal_at sheet at k (heading_tests h)) (second_number (fields (line_at sheet at)))
-        (length (line_at sheet at)) m n (sym section-at ∙ e) in
+    pub section-read : (l : CountLine) → heading_at rest h ≡ Ok l → SectionRead l.count l.length
+    section-read l e =
+        let m = l.count in
+        let n = l.length in
+        let w = answer-ok (refusal_at sheet at k (heading_tests h)) said_at l (sym section-at ∙ e) in
         let pass = passes sheet at k (heading_tests h) w.0 in
         let c = counted h (fields (line_at sheet at)) pass.accepted in
-        let count = w.1 in
-        let size = w.2 in
+        let count = ap (λ (l : CountLine). l.count) w.1 in
+        let size = ap (λ (l : CountLine). l.length) w.1 in
         let after : after_line sheet at ≡ at + n + 1 = omega arith in
         record {
           ends = pass.ends;
@@ -79,7 +80,7 @@ module _ (sheet : List ℕ) (s : Section) (at k : ℕ) (rest : List ℕ) (is : r
   abbrev lines : List (List ℕ) → Progress
   lines fs = read_entries_lem sheet s (second_number fs) Γ (after_line sheet at) (suc k)
 
-  pub section_stops : (c : Cause) → heading_at rest (heading_of_lem Γ.events s) ≡ S.Refused c → Stop (refusal c k)
+  pub section_stops : (c : Cause) → heading_at rest (heading_of_lem Γ.events s) ≡ Err c → Stop (refusal c k)
       ≡ read_section_lem sheet s Γ at k
   section_stops c e = section-stop sheet at k (heading_of_lem Γ.events s) rest is lines c e
 
@@ -89,20 +90,21 @@ module _ (sheet : List ℕ) (s : Section) (at k : ℕ) (rest : List ℕ) (is : r
     pub goes : read_entries_lem sheet s m Γ (at + n + 1) (k + 1) ≡ read_section_lem sheet s Γ at k
     pub stage : Stage sheet (whole s) Γ at k → Stage sheet (to_come s m) Γ (at + n + 1) (k + 1)
 
-  pub section_goes : (m n : ℕ) → heading_at rest (heading_of_lem Γ.events s) ≡ S.Count m n → SectionGoes m n
-  section_goes m n e =
-      let w = section-read sheet at k (heading_of_lem Γ.events s) rest is lines m n e in
+  pub section_goes : (l : CountLine) → heading_at rest (heading_of_lem Γ.events s) ≡ Ok l
+      → SectionGoes l.count l.length
+  section_goes l e =
+      let w = section-read sheet at k (heading_of_lem Γ.events s) rest is lines l e in
       let count = w.count in
       let after = w.after in
       record {
         inside = w.inside;
         goes = rw (← count, ← after, add-one k) (sym w.goes_on);
-        stage = λ g. rw (← after, add-one k) (stage_section sheet s m w.ends w.least w.most g);
+        stage = λ g. rw (← after, add-one k) (stage_section sheet s l.count w.ends w.least w.most g);
       }
 
 -- the first line
 module _ (sheet : List ℕ) where
-  pub horizon_stops : (c : Cause) → heading_at sheet horizon_heading ≡ S.Refused c
+  pub horizon_stops : (c : Cause) → heading_at sheet horizon_heading ≡ Err c
       → Stop (refusal c 1) ≡ read_horizon_lem sheet
   horizon_stops c e =
       section-stop sheet 0 1 horizon_heading sheet refl (λ fs. Go (empty (second_number fs)) (after_line sheet 0) 2) c e
@@ -112,11 +114,11 @@ module _ (sheet : List ℕ) where
     pub inside : n + 1 ≤ length sheet
     pub goes : Go (empty m) (n + 1) 2 ≡ read_horizon_lem sheet
 
-  pub horizon_goes : (m n : ℕ) → heading_at sheet horizon_heading ≡ S.Count m n
-      → HorizonGoes m n
-  horizon_goes m n e =
+  pub horizon_goes : (l : CountLine) → heading_at sheet horizon_heading ≡ Ok l → HorizonGoes l.count l.length
+  horizon_goes l e =
+      let n = l.length in
       let w = section-read sheet 0 1 horizon_heading sheet refl
-      (λ fs. Go (empty (second_number fs)) (after_line sheet 0) 2) m n e in
+      (λ fs. Go (empty (second_number fs)) (after_line sheet 0) 2) l e in
       let count = w.count in
       let after : n + 1 ≡ after_line sheet 0 = omega (arith, w.after) in
       record {
@@ -128,12 +130,8 @@ module _ (sheet : List ℕ) where
 
 -- the whole sheet
 module _ (sheet : List ℕ) where
-  pub read_too_long : longest < length sheet → answered (Stop (refusal C.TooLong 0)) ≡ read sheet
-  read_too_long h = ap answered (sym (too_long sheet h))
+  pub read_too_long : longest < length sheet → read sheet ≡ Err (refusal C.TooLong 0)
+  read_too_long h = ap answered (too_long sheet h)
 
-  pub read_whole : (a b c d e : Progress) → length sheet ≤ longest → a ≡ read_horizon_lem sheet → b
-      ≡ and_then a (read_section_lem sheet Events)
-      → c ≡ and_then b (read_section_lem sheet Signals) → d ≡ and_then c (read_section_lem sheet Rules)
-      → e ≡ and_then (and_then d (read_optional_lem sheet Reactions)) (read_optional_lem sheet Cases)
-      → answered (and_then e (read_end sheet)) ≡ read sheet
-  read_whole a b c d e h i j k l m = rw (in_length sheet h, m, l, k, j, i)
+  pub read_to_end : length sheet ≤ longest → (p : Progress) → to_end sheet ≡ p → read sheet ≡ answered p
+  read_to_end h p e = ap answered (in_length sheet h ∙ e)

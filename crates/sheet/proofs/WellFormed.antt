@@ -15,26 +15,30 @@ use Rattle.refusal.specs.Refusal.{refusal}
 use Rattle.refusal.specs.declared.Cause.{Cause}
 use Rattle.network.specs.Limits as L
 use Rattle.network.specs.Build.{empty}
-use Rattle.network.specs.WellFormed.{WellFormed, Named}
+use Rattle.network.specs.WellFormed.{WellFormed, Named, ToCome}
 use Rattle.network.specs.declared.Network.{Network}
 use Rattle.line.specs.Tests.{second_number}
 use Rattle.line.specs.Sections.{heading_of_lem, horizon_heading, heading_tests}
 use Rattle.network.proofs.Strategy.{reaction-empty}
 use Rattle.line.specs.declared.Section.{Section}
 use Rattle.line.specs.declared.Section.TheVariants.{Events, Signals, Rules, Reactions, Cases}
-use Rattle.sheet.specs.Reading.{Progress, Stop, Go, stop_or, and_then, read_entries_lem, read_section_lem}
+use Rattle.sheet.specs.Reading.{Progress, Go, stop_or, and_then, read_entries_lem, read_section_lem}
 use Rattle.sheet.specs.Reading.{read_horizon_lem}
 use Rattle.sheet.specs.Reading.{follows, read_optional_lem, end_tests, read_end, progress, read, answered}
+use Rattle.sheet.specs.Reading.{network_in, network_of, Accepts}
 use Rattle.sheet.specs.Stage.{to_come, whole, Stage}
-use Rattle.sheet.specs.Reached.{Ready}
-use Rattle.sheet.specs.declared.Outcome.TheVariants.{Accepted}
-use Rattle.sheet.proofs.ReadLine.{stop-not-go, came, went, entries-keep}
+use Rattle.std.specs.Prelude.{Ok, Err}
+use Rattle.sheet.proofs.ReadLine.{stop-not-go, go-same, came, went, entries-keep}
 use Rattle.sheet.proofs.Whole.{to_events, to_signals, to_rules, to_reactions, to_cases, within-length}
 use Rattle.sheet.proofs.Arrays.{arrays-empty}
 use Rattle.sheet.proofs.Passing.{counted}
 use Rattle.sheet.proofs.Stages.{stage_section, stage_absent}
 use Rattle.sheet.proofs.LabelStage.{label-empty}
 use Rattle.sheet.proofs.EntriesLeft.{Before, stage_keeps}
+
+-- where a section may go on, the sheet is at this stage
+abbrev pub Ready : List ℕ → ToCome → Progress → Type 0
+Ready sheet t p = (Γ : Network) (at k : ℕ) → p ≡ Go Γ at k → Stage sheet t Γ at k
 
 module _ (sheet : List ℕ) where
   pub stage_empty : (h at k : ℕ) → h ≤ L.horizon → at ≤ length sheet → k ≤ suc at
@@ -67,15 +71,10 @@ module _ (sheet : List ℕ) where
       Γ at k (sym i ∙ e) in
       let fs = fields (line_at sheet 0) in
       let c = counted horizon_heading fs w.passed.accepted in
-      let network : empty (second_number fs) ≡ Γ = (by_go w.then).0 in
-      let place : after_line sheet 0 ≡ at = (by_go w.then).1 in
-      let line : 2 ≡ k = (by_go w.then).2 in
-      rw (← network, ← place, ← line)
+      let same = go-same (empty (second_number fs)) Γ (after_line sheet 0) at 2 k w.then in
+      rw (← same.0, ← same.1, ← same.2)
       (stage_empty (second_number fs) (after_line sheet 0) 2 c.most (line-inside sheet 0 w.passed.ends)
       (omega arith))
-    where
-      by_go : {Γ Δ : Network} {a b j k : ℕ} → Go Γ a j ≡ Go Δ b k → (Γ ≡ Δ) × (a ≡ b) × (j ≡ k)
-      by_go e = (cc, cc, cc)
 
   pub section_ready : (s : Section) (p q : Progress) → q ≡ and_then p (read_section_lem sheet s)
       → Ready sheet (whole s) p
@@ -113,17 +112,27 @@ module _ (sheet : List ℕ) where
     where
       by-refusal : (o : Option Cause) → stop_or k o (Go Γ at k) ≡ Go Δ b j → Γ ≡ Δ
       by-refusal (some c) e = stop-not-go (refusal c k) Δ b j e
-      by-refusal none e = cc
+      by-refusal none e = (go-same Γ Δ at b k j e).0
 
   -- the sections one behind the other
-  sections_ready : Ready sheet (to_come Cases 0) (to_cases sheet)
+  pub events_ready : Ready sheet (whole Events) (read_horizon_lem sheet)
+  events_ready = horizon_ready (read_horizon_lem sheet) refl
+
+  pub signals_ready : Ready sheet (whole Signals) (to_events sheet)
+  signals_ready = section_ready Events (read_horizon_lem sheet) (to_events sheet) refl events_ready
+
+  pub rules_ready : Ready sheet (whole Rules) (to_signals sheet)
+  rules_ready = section_ready Signals (to_events sheet) (to_signals sheet) refl signals_ready
+
+  pub reactions_ready : Ready sheet (whole Reactions) (to_rules sheet)
+  reactions_ready = section_ready Rules (to_signals sheet) (to_rules sheet) refl rules_ready
+
+  pub cases_ready : Ready sheet (whole Cases) (to_reactions sheet)
+  cases_ready = optional_ready Reactions (to_rules sheet) (to_reactions sheet) refl (λ Γ at k g. g) reactions_ready
+
+  pub sections_ready : Ready sheet (to_come Cases 0) (to_cases sheet)
   sections_ready =
-      optional_ready Cases (to_reactions sheet) (to_cases sheet) refl (λ Γ at k g. stage_absent sheet g)
-      (optional_ready Reactions (to_rules sheet) (to_reactions sheet) refl (λ Γ at k g. g)
-      (section_ready Rules (to_signals sheet) (to_rules sheet) refl
-      (section_ready Signals (to_events sheet) (to_signals sheet) refl
-      (section_ready Events (read_horizon_lem sheet) (to_events sheet) refl
-      (horizon_ready (read_horizon_lem sheet) refl)))))
+      optional_ready Cases (to_reactions sheet) (to_cases sheet) refl (λ Γ at k g. stage_absent sheet g) cases_ready
 
   read_stage : (Γ : Network) (at k : ℕ) → progress sheet ≡ Go Γ at k → (b : ℕ) × (j : ℕ)
       × Stage sheet (to_come Cases 0) Γ b j
@@ -137,12 +146,15 @@ pub read_well_formed : (sheet : List ℕ) (Γ : Network) (at k : ℕ) → progre
 read_well_formed sheet Γ at k e =
     let g = (read_stage sheet Γ at k e).2 in (g.forming, g.named)
 
--- the same of the reader's answer
-pub accepted_well_formed : (sheet : List ℕ) → (read sheet).outcome ≡ Accepted
-    → WellFormed (read sheet).network × Named sheet (read sheet).network
+-- the same of the reader's answer: where it is a network, that is the sheet's, and it is well formed
+pub accepts : (sheet : List ℕ) (Γ : Network) → read sheet ≡ Ok Γ → Accepts sheet × (network_of sheet ≡ Γ)
+accepts sheet Γ e = (rw e refl, rw e refl)
+
+pub accepted_well_formed : (sheet : List ℕ) → Accepts sheet
+    → WellFormed (network_of sheet) × Named sheet (network_of sheet)
 accepted_well_formed sheet e = by-progress (progress sheet) refl e
   where
-    by-progress : (p : Progress) → progress sheet ≡ p → (answered p).outcome ≡ Accepted
-        → WellFormed (answered p).network × Named sheet (answered p).network
-    by-progress (Stop r) h e = zero-is-one cc
-    by-progress (Go Γ at k) h e = read_well_formed sheet Γ at k h
+    by-progress : (p : Progress) → progress sheet ≡ p → answered p ≡ Ok (network_in (answered p))
+        → WellFormed (network_in (answered p)) × Named sheet (network_in (answered p))
+    by-progress (Err r) h e = zero-is-one cc
+    by-progress (Ok p) h e = read_well_formed sheet p.network p.at p.line h

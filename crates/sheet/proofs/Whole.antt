@@ -2,19 +2,20 @@
 -- to its end. The last two sections may be absent. Assumes nothing.
 use mathlib.Core.Path.{◌≡◌, sym, ◌∙◌, ap}
 use mathlib.Core.Logic.{inl, inr}
-use mathlib.Core.Bool.{Bool, true, false, cond}
 use mathlib.Core.List.{List}
 use Prim.Native.Nat.{ℕ, ◌≤◌, ◌<◌}
-use borrow.Author.Tests.{lt-leb, le-leb}
+use borrow.Author.Tests.{lt-leb, le-leb, lt-ltb, le-ltb}
 use lib.ListN.{length}
+use Rattle.std.specs.Prelude.{Ok, Err}
 use Rattle.prelude.proofs.Tests.{lt_or_ge}
 use Rattle.refusal.specs.Refusal.{refusal}
-use Rattle.refusal.specs.declared.Cause.TheVariants.{TooLong}
+use Rattle.refusal.specs.declared.Cause.TheVariants.{TooLong, TrailingBytes}
+use Rattle.refusal.specs.declared.Refusal.{Refusal}
 use Rattle.network.specs.declared.Network.{Network}
-use Rattle.line.specs.declared.Section.{Section}
 use Rattle.line.specs.declared.Section.TheVariants.{Events, Signals, Rules, Reactions, Cases}
 use Rattle.sheet.specs.Reading.{longest, Progress, Stop, Go, and_then, read_horizon_lem, read_section_lem, read_end}
-use Rattle.sheet.specs.Reading.{follows, read_optional_lem, progress}
+use Rattle.sheet.specs.Reading.{read_optional_lem, progress}
+use Rattle.sheet.specs.declared.section.Reached.{Reached}
 use Rattle.sheet.proofs.ReadLine.{stop-not-go}
 
 module _ (sheet : List ℕ) where
@@ -59,23 +60,43 @@ module _ (sheet : List ℕ) where
         | inr h ↦ (h, sym (in_length h) ∙ e)
       ]
 
--- the last two sections, where the reading has come to a place behind the rules
+-- one step of the reading behind another
+pub went_on : (p : Progress) (next : Network → ℕ → ℕ → Progress) (x : Reached) (q : Progress) → p ≡ Ok x
+    → next x.network x.at x.line ≡ q → and_then p next ≡ q
+went_on p next x q e f = ap (λ (r : Progress). and_then r next) e ∙ f
+
+-- where one stops, the whole does
+module _ (sheet : List ℕ) (r : Refusal) where
+  pub stopped-horizon : read_horizon_lem sheet ≡ Err r → to_end sheet ≡ Err r
+  stopped-horizon e = rw e
+
+  pub stopped_events : to_events sheet ≡ Err r → to_end sheet ≡ Err r
+  stopped_events e =
+      ap (λ (p : Progress). and_then (and_then (and_then (and_then (and_then p (read_section_lem sheet Signals))
+      (read_section_lem sheet Rules)) (read_optional_lem sheet Reactions)) (read_optional_lem sheet Cases))
+      (read_end sheet)) e
+
+  pub stopped_signals : to_signals sheet ≡ Err r → to_end sheet ≡ Err r
+  stopped_signals e =
+      ap (λ (p : Progress). and_then (and_then (and_then (and_then p (read_section_lem sheet Rules))
+      (read_optional_lem sheet Reactions)) (read_optional_lem sheet Cases)) (read_end sheet)) e
+
+  pub stopped_rules : to_rules sheet ≡ Err r → to_end sheet ≡ Err r
+  stopped_rules e =
+      ap (λ (p : Progress). and_then (and_then (and_then p (read_optional_lem sheet Reactions))
+      (read_optional_lem sheet Cases)) (read_end sheet)) e
+
+  pub stopped_reactions : to_reactions sheet ≡ Err r → to_end sheet ≡ Err r
+  stopped_reactions e =
+      ap (λ (p : Progress). and_then (and_then p (read_optional_lem sheet Cases)) (read_end sheet)) e
+
+  pub stopped_cases : to_cases sheet ≡ Err r → to_end sheet ≡ Err r
+  stopped_cases e = ap (λ (p : Progress). and_then p (read_end sheet)) e
+
+-- the end of the sheet
 module _ (sheet : List ℕ) (Γ : Network) (at k : ℕ) where
-  optional_absent : (s : Section) → follows sheet at ≡ false → read_optional_lem sheet s Γ at k ≡ Go Γ at k
-  optional_absent s e = ap (λ (b : Bool). cond b (read_section_lem sheet s Γ at k) (Go Γ at k)) e
+  pub end_stops : at < length sheet → read_end sheet Γ at k ≡ Err (refusal TrailingBytes k)
+  end_stops h = rw (lt-ltb at (length sheet) h)
 
-  optional_there : (s : Section) → follows sheet at ≡ true → read_optional_lem sheet s Γ at k
-      ≡ read_section_lem sheet s Γ at k
-  optional_there s e = ap (λ (b : Bool). cond b (read_section_lem sheet s Γ at k) (Go Γ at k)) e
-
-  module _ (p : Progress) (here : p ≡ Go Γ at k) where
-    pub last-absent : follows sheet at ≡ false
-        → p ≡ and_then (and_then p (read_optional_lem sheet Reactions)) (read_optional_lem sheet Cases)
-    last-absent e =
-        rw here
-        (sym (ap (λ (q : Progress). and_then q (read_optional_lem sheet Cases)) (optional_absent Reactions e)
-        ∙ optional_absent Cases e))
-
-    pub last_there : follows sheet at ≡ true
-        → and_then p (read_section_lem sheet Reactions) ≡ and_then p (read_optional_lem sheet Reactions)
-    last_there e = rw here (sym (optional_there Reactions e))
+  pub end_goes : length sheet ≤ at → read_end sheet Γ at k ≡ Go Γ at k
+  end_goes h = rw (le-ltb at (length sheet) h)

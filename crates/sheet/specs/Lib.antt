@@ -1,7 +1,7 @@
--- The sheet. Read in this order: the whole; what is expected on each line, and the first line at fault; and what holds
--- at every line.
+-- The sheet. Read in this order: the whole; what is expected on each line, and the first line at fault; what holds
+-- at every line; and a line's turn in the reader's loop.
 pub mod Reading
 pub mod Place
 pub mod Fault
 pub mod Stage
-pub mod Reached
+pub mod Turn

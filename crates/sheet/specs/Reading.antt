@@ -1,6 +1,7 @@
 -- The whole sheet: its sections in order, and the first line at fault (01, The sheet and Refused sheets; 02, points
 -- 3 and 6).
-use Rattle.std.specs.Prelude.{Bool, true, false, not, cond, List, [], ◌∷◌, ℕ, zero, suc, ltb, leb, length, drop}
+use Rattle.std.specs.Prelude.{◌≡◌, Bool, true, false, not, cond, List, [], ◌∷◌, ℕ, zero, suc, ltb, leb, length, drop}
+use Rattle.std.specs.Prelude.{Result, Ok, Err}
 use Rattle.std.proofs.Math.Option.{Option, none, some}
 use Rattle.prelude.specs.Checks.{first_failing_lem}
 use Rattle.text.specs.Lines.{line_at, after_line, fields}
@@ -14,21 +15,30 @@ use Rattle.line.specs.Tests.{Tests, line_tests, second_number}
 use Rattle.line.specs.Sections.{heading_of_lem, horizon_heading, heading_tests, tests_of, with_line}
 use Rattle.line.specs.declared.Section.{Section}
 use Rattle.line.specs.declared.Section.TheVariants.{Events, Signals, Rules, Reactions, Cases}
-use Rattle.sheet.specs.declared.Outcome.TheVariants.{Accepted, Refused}
-use Rattle.sheet.specs.declared.Reading.{Reading}
+use Rattle.sheet.specs.declared.section.Reached.{Reached}
 
 -- "longer than 4,096 bytes"
 abbrev pub longest : ℕ
 longest = 4096
 
 -- the sheet has come so far: refused, or a network, the place of the next line and its number
-pub data Progress : Type 0 where
-  Stop : Refusal → Progress
-  Go : Network → ℕ → ℕ → Progress
+abbrev pub Progress : Type 0
+Progress = Result Reached Refusal
+
+abbrev pub Stop : Refusal → Progress
+Stop r = Err r
+
+abbrev pub Go : Network → ℕ → ℕ → Progress
+Go Γ at k = Ok (record { network = Γ; at = at; line = k })
 
 abbrev pub and_then : Progress → (Network → ℕ → ℕ → Progress) → Progress
-and_then (Stop r) next = Stop r
-and_then (Go Γ at k) next = next Γ at k
+and_then (Err r) next = Err r
+and_then (Ok p) next = next p.network p.at p.line
+
+-- what a line says, or why it is refused, with its number
+abbrev pub on_line : {A : Type 0} → ℕ → Result A Cause → Result A Refusal
+on_line k (Err c) = Err (refusal c k)
+on_line k (Ok x) = Ok x
 
 -- refused on line k, or what follows
 abbrev pub stop_or : ℕ → Option Cause → Progress → Progress
@@ -88,10 +98,22 @@ module _ (sheet : List ℕ) where
             read_end
       ]
 
--- as the reader answers it
-abbrev pub answered : Progress → Reading
-answered (Stop r) = record { outcome = Refused r; network = empty 0 }
-answered (Go Γ at k) = record { outcome = Accepted; network = Γ }
+-- what a sheet is read into, or why it is refused
+abbrev pub answered : Progress → Result Network Refusal
+answered (Err r) = Err r
+answered (Ok p) = Ok p.network
 
-abbrev pub read : List ℕ → Reading
+abbrev pub read : List ℕ → Result Network Refusal
 read sheet = answered (progress sheet)
+
+-- the network of a sheet that is accepted; for one that is refused an empty one stands here
+abbrev pub network_in : Result Network Refusal → Network
+network_in (Err r) = empty 0
+network_in (Ok Γ) = Γ
+
+abbrev pub network_of : List ℕ → Network
+network_of sheet = network_in (read sheet)
+
+-- the sheet is accepted
+abbrev pub Accepts : List ℕ → Type 0
+Accepts sheet = read sheet ≡ Ok (network_of sheet)

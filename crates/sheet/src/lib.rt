@@ -1,58 +1,38 @@
 // The sheet: bytes to a network, or a refusal with its line.
 #![tactic(auto)]
 
-ghost use Rattle.std.specs.Prelude.{◌≡◌};
+ghost use Rattle.std.specs.Prelude.{◌≡◌, MatchResult};
 ghost use Rattle.sheet.specs.Reading.{read};
 
 mod section;
 
 use line::Section;
-use network::Network;
+use network::accepted::Accepted;
+use network::formed::Formed;
 use refusal::{Cause, Refusal};
 
 // The most bytes of a sheet.
 pub const LONGEST: usize = 4096;
 
-#[derive(Clone, Copy)]
-pub enum Outcome {
-    Accepted,
-    Refused(Refusal),
-}
-
-// The network of an accepted sheet; an empty one stands beside a refusal.
-#[derive(Clone, Copy)]
-pub struct Reading {
-    pub outcome: Outcome,
-    pub network: Network,
-}
-
-// How far the reader has come: refused, or the place of the next line and its number, with the network so far.
-#[derive(Clone, Copy)]
-enum Step {
-    Refused(Refusal),
-    Next { at: usize, line: u16 },
-}
-
-#[derive(Clone, Copy)]
-struct Reached {
-    step: Step,
-    network: Network,
-}
-
-// The whole sheet.
-pub fn read(sheet: &[u8]) -> Reading
-    ensures { result ≡ read sheet.now }
+// The whole sheet: what it is read into, or why it is refused and on which line.
+pub fn read(sheet: &[u8]) -> Result<Accepted<'_>, Refusal>
+    ensures { MatchResult result (λ a. (a.sheet.now ≡ sheet.now) × (read sheet.now ≡ Ok a.formed.network))
+        (λ r. read sheet.now ≡ Err r) }
 {
     if LONGEST < sheet.len() {
-        return section::rejected(Refusal {
-            cause: Cause::TooLong,
-            line: 0,
-        });
+        return Err(Refusal::without_line(Cause::TooLong));
     }
-    let horizon = section::read_horizon(sheet);
-    let events = section::read_after(Section::Events, sheet, horizon);
-    let signals = section::read_after(Section::Signals, sheet, events);
-    let rules = section::read_after(Section::Rules, sheet, signals);
-    let last = section::read_last(sheet, rules);
-    section::end_of(sheet, last)
+    let horizon = section::read_horizon(sheet)?;
+    let events = section::read_section(Section::Events, sheet, horizon)?;
+    let signals = section::read_section(Section::Signals, sheet, events)?;
+    let rules = section::read_section(Section::Rules, sheet, signals)?;
+    let reactions = section::read_optional(Section::Reactions, sheet, rules)?;
+    let cases = section::read_optional(Section::Cases, sheet, reactions)?;
+    if cases.at < sheet.len() {
+        return Err(Refusal::at(Cause::TrailingBytes, cases.line));
+    }
+    let formed = Formed {
+        network: cases.network,
+    };
+    Ok(Accepted { sheet, formed })
 }

@@ -6,151 +6,145 @@
 ghost use Rattle.std.specs.Prelude.{◌≡◌, ◌*◌, ◌≤◌, length};
 ghost use Rattle.network.specs.Limits as L;
 ghost use Rattle.network.specs.Build.{cells};
-ghost use Rattle.network.specs.WellFormed.{WellFormed};
-ghost use Rattle.rows.specs.Rows.{FrameTimes};
-ghost use Rattle.rounds.specs.Compiled.{Compiled, Usable};
+ghost use Rattle.rows.specs.Rows.{Times};
 ghost use Rattle.solver.specs.Solved.{SolvedIs};
-ghost use Rattle.solver.specs.Run.{RunIs, Kept};
+ghost use Rattle.solver.specs.Run.{RunIs, Onward};
 
+use bounds::list::BoundList;
+use guess::{Next, Pace, Turn, Watch};
+use leap::pace;
+use leap::pass::Stretch;
 use network::Network;
-use rounds::Effect;
-use rows::Frame;
+use network::formed::Formed;
+use rounds::{Compiled, Effect};
+use rows::Table;
 
-// The answer, with the count of rounds.
-#[derive(Clone, Copy)]
-pub enum Solved {
-    // The table holds the least solution.
-    Consistent { rounds: u32 },
-    // No strategy solves the network.
-    Inconsistent { rounds: u32 },
+// That no strategy solves the network, and after how many rounds that was known.
+#[derive(Clone, Copy, PartialEq, Eq)]
+pub struct Inconsistent {
+    pub rounds: u32,
 }
 
-// How a run ended, and after how many rounds: the last raised nothing; it took a time over its limit; the budget is
-// used up. A turn makes one round, and may pass over others.
+// How a run ends: its last round raised nothing; it took a time over its limit; the budget is used up.
+#[derive(Clone, Copy, PartialEq, Eq)]
+pub enum End {
+    Rests,
+    Passes,
+    Spent,
+}
+
+// How a run ended, and after how many rounds. A turn makes one round, and may pass over others.
 #[derive(Clone, Copy)]
-pub enum Ended {
-    Rests { rounds: u32, turns: u32 },
-    Passes { rounds: u32, turns: u32 },
-    Spent { rounds: u32, turns: u32 },
+pub struct Ended {
+    pub end: End,
+    pub rounds: u32,
+    pub turns: u32,
 }
 
 // More rounds than any run takes: one more than the cells have room for.
 pub const BUDGET: u32 = Network::CELLS as u32 * Network::HORIZON as u32 + 1;
 
-fn cells_of(frame: Frame) -> usize
-    requires { frame.scenarios ≤ L.cases }
-    ensures { (result ≡ frame.scenarios * L.events) × (result ≤ L.cells) }
+// Does what is to be done after a turn, and says how many rounds that passed over, of those that are left.
+fn pursue(stretch: &mut Stretch<'_>, next: Next, watch: &mut Watch, turns: u32, left: u32) -> u32
+    ensures { (result ≤ left) × (stretch.new.compiled.now ≡ stretch.old.compiled.now)
+        × Onward stretch.old.compiled.now.frame.network stretch.old.base stretch.new.base stretch.old.rounds
+        stretch.new.rounds result }
 {
-    frame.scenarios * Network::EVENTS
-}
-
-// The table that periods are counted from, and in which round it was reached: where it is to be kept anew, a, reached
-// here.
-fn keep(
-    anew: bool,
-    a: &[u16; Network::CELLS],
-    base: &mut [u16; Network::CELLS],
-    at: u32,
-    here: u32,
-    cells: usize,
-) -> u32
-    requires { (cells ≤ L.cells) × (length base.old ≡ L.cells) }
-    ensures { Kept a.now base.old base.new cells at here result }
-{
-    if !anew {
-        return at;
+    match next {
+        Next::GoOn => 0,
+        Next::Keep => {
+            stretch.keep();
+            0
+        }
+        Next::Leap => {
+            let made = stretch.pass_over(left);
+            watch.tried(turns, made);
+            made
+        }
     }
-    moves::copy(a, base, cells);
-    here
 }
 
 // At most `budget` rounds from what a holds. Where no limit is passed, a then holds what they reached.
-pub fn run(
-    a: &mut [u16; Network::CELLS],
-    budget: u32,
-    frame: Frame,
-    counts: &[usize; Network::CASES],
-    lists: &[u16; bounds::LIST],
-) -> Ended
-    requires { Usable frame counts.now lists.now × FrameTimes frame a.old }
-    ensures { (length a.new ≡ L.cells) ×
-        ((Γ : Network) → Compiled Γ frame counts.now lists.now
-        → RunIs Γ budget a.old a.new result) }
+pub fn run(compiled: &Compiled, a: &mut Table, budget: u32) -> Ended
+    requires { Times compiled.now.frame.network a.old }
+    ensures { (length a.new ≡ L.cells) × RunIs compiled.now.frame.network budget a.old a.new result }
 {
-    let cells = cells_of(frame);
-    let mut b: [u16; Network::CELLS] = [0; Network::CELLS];
-    let mut base = *a;
-    let mut at: u32 = 0;
-    let mut mark: [u16; Network::CELLS] = [0; Network::CELLS];
-    let mut w = guess::first_watch();
-    let mut since: [u16; Network::CELLS] = [0; Network::CELLS];
-    let mut v = guess::first_pace();
+    let cells = compiled.frame.cells();
+    let mut stretch = Stretch::new(compiled, a);
+    let mut b = [0; Network::CELLS];
+    let mut watch = Watch::new();
+    let mut pace = Pace::new();
     let mut turns: u32 = 0;
     let mut rounds: u32 = 0;
+    // no plain count: a turn may pass over rounds
     while rounds < budget {
         rounds += 1;
-        turns = std::num::wrapping_add_u32(turns, 1);
-        match rounds::round(a, &mut b, frame, counts, lists) {
-            Effect::Passes => return Ended::Passes {
-                rounds: rounds,
-                turns: turns,
+        turns += 1;
+        match compiled.round(&stretch.now, &mut b) {
+            Effect::Passes => return Ended {
+                end: End::Passes,
+                rounds,
+                turns,
             },
-            Effect::Rests => return Ended::Rests {
-                rounds: rounds,
-                turns: turns,
-            },
+            Effect::Rests => {
+                *a = stretch.now;
+                return Ended {
+                    end: End::Rests,
+                    rounds,
+                    turns,
+                };
+            }
             Effect::Rises => {}
         }
-        w = guess::watch(w, turns, rounds, rounds - at, &mut mark, a, &b, cells);
-        v = guess::follow(v, turns, &mut since, a, &b, cells);
-        moves::copy(&b, a, cells);
-        at = keep(w.keep, a, &mut base, at, rounds, cells);
-        let made = leap::pass::pass_over(
-            w.leaps,
-            &mut base,
-            a,
-            rounds - at,
-            budget - rounds,
-            frame,
-            counts,
-            lists,
-        );
-        rounds += made;
-        at += made;
-        w = guess::after_tries(w, turns, made);
-        let p = v.period;
-        let last = leap::pace::finish(a, &since, p, budget - rounds, frame, counts, lists);
-        if 0 < last {
-            rounds += last;
-            return Ended::Passes {
-                rounds: rounds,
-                turns: turns,
-            };
+        let turn = Turn {
+            number: turns,
+            before: &stretch.now[..cells],
+            after: &b[..cells],
+        };
+        let next = watch.after(&turn, rounds, stretch.rounds + 1);
+        let period = pace.follow(&turn);
+        stretch.advance(&b);
+        rounds += pursue(&mut stretch, next, &mut watch, turns, budget - rounds);
+        if let Some(p) = period {
+            if let Some(last) = pace::finish(
+                compiled,
+                &stretch.now,
+                &pace.since,
+                p,
+                budget - rounds,
+            ) {
+                return Ended {
+                    end: End::Passes,
+                    rounds: rounds + last,
+                    turns,
+                };
+            }
         }
     }
-    Ended::Spent {
-        rounds: rounds,
-        turns: turns,
+    *a = stretch.now;
+    Ended {
+        end: End::Spent,
+        rounds,
+        turns,
     }
 }
 
 // The least solution into the first cells of the table, or that there is none; the count of rounds either way.
-pub fn solve(network: Network, table: &mut [u16]) -> Solved
-    requires { WellFormed network × (cells network ≤ length table.old) }
-    ensures { SolvedIs network table.old table.new result }
+pub fn solve(formed: &Formed, table: &mut [u16]) -> Result<u32, Inconsistent>
+    requires { cells formed.now.network ≤ length table.old }
+    ensures { SolvedIs formed.now.network table.old table.new result }
 {
-    let frame = rows::frame_of(network);
-    let mut counts: [usize; Network::CASES] = [0; Network::CASES];
-    let mut lists: [u16; bounds::LIST] = [0; bounds::LIST];
-    rounds::compile::compile(network, frame, &mut counts, &mut lists);
-    let mut a: [u16; Network::CELLS] = [0; Network::CELLS];
-    let ended = run(&mut a, BUDGET, frame, &counts, &lists);
-    match ended {
-        Ended::Passes { rounds, turns: _ } => Solved::Inconsistent { rounds: rounds },
-        Ended::Spent { rounds, turns: _ } => Solved::Inconsistent { rounds: rounds },
-        Ended::Rests { rounds, turns: _ } => {
-            rows::copy_out(&a, frame, table);
-            Solved::Consistent { rounds: rounds }
+    let mut lists = [BoundList::empty(); Network::CASES];
+    let compiled = Compiled::of(formed, &mut lists);
+    let mut a = [0; Network::CELLS];
+    let ended = run(&compiled, &mut a, BUDGET);
+    match ended.end {
+        End::Rests => {
+            compiled.frame.copy_out(&a, table);
+            Ok(ended.rounds)
         }
+        End::Passes | End::Spent => Err(Inconsistent {
+            rounds: ended.rounds,
+        }),
     }
 }

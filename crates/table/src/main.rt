@@ -8,9 +8,8 @@ fn main(rt: HostRuntime) -> io::Result<()> {
     let mut sheet = [0u8; opening::SHEET_BYTES + 1];
     let mut table = [0u16; opening::TABLE_MINUTES];
     let n = files::read_full(&mut rt.stdin(), &mut sheet)?;
-    let minutes = report::solve(&rt, b"", &sheet[..n], &mut table)?;
-    if 0 < minutes {
-        report::list(&rt, b"", &sheet[..n], &table[..minutes])?;
+    match report::solve(&rt, "", &sheet[..n], &mut table)? {
+        Some(minutes) => report::list(&rt, "", &sheet[..n], &table[..minutes]),
+        None => Ok(()),
     }
-    Ok(())
 }

@@ -6,140 +6,105 @@
 // `tally_turns` answers with the rounds made one by one. A sheet that is refused gets 0.
 #![tactic(auto)]
 
-ghost use Rattle.std.specs.Prelude.{◌+◌, ◌*◌};
-ghost use Rattle.rounds.specs.Compiled.{Usable};
+ghost use Rattle.std.specs.Prelude.{◌≡◌, ℕ};
+ghost use Rattle.bounds.specs.Listed.{case};
 
+use bounds::list::BoundList;
+use bounds::lists::Lists;
 use network::Network;
-use rounds::Effect;
-use rows::Frame;
-use solver::{BUDGET, Ended};
+use rounds::{Compiled, Effect};
+use rows::Table;
+use solver::{BUDGET, End};
 
-// Rounds, turns and the sum.
+// Rounds and turns, and the sum of the table, where there is one.
 #[derive(Clone, Copy)]
 struct Count {
     rounds: u32,
     turns: u32,
-    sum: u32,
+    sum: Option<u32>,
 }
 
-// Where there is no table.
-const NONE: u32 = 4294967295;
-
-fn wide(x: u16) -> u32 {
-    x as u32
+impl Count {
+    // The rounds, and behind them the sum.
+    fn answer(self) -> u64 {
+        u64::from(self.rounds) + 4294967296 * u64::from(self.sum.unwrap_or(u32::MAX))
+    }
 }
 
 // The sum of the sums of the times on the way, so that exchanged times show.
-fn sum_of(t: &[u16; Network::CELLS]) -> u32 {
+fn sum_of(t: &Table) -> u32 {
     let mut one: u32 = 0;
     let mut two: u32 = 0;
-    let mut i: usize = 0;
-    while i < Network::CELLS {
-        one = std::num::wrapping_add_u32(one, wide(t[i]));
-        two = std::num::wrapping_add_u32(two, one);
-        i += 1;
+    for time in t {
+        one = one.wrapping_add(u32::from(*time));
+        two = two.wrapping_add(one);
     }
     two
 }
 
-fn by_leaps(frame: Frame, counts: &[usize; Network::CASES], lists: &[u16; bounds::LIST]) -> Count
-    requires { Usable frame counts.now lists.now }
-{
-    let mut a: [u16; Network::CELLS] = [0; Network::CELLS];
-    let ended = solver::run(&mut a, BUDGET, frame, counts, lists);
-    match ended {
-        Ended::Rests { rounds, turns } => Count {
-            rounds: rounds,
-            turns: turns,
-            sum: sum_of(&a),
-        },
-        Ended::Passes { rounds, turns } => Count {
-            rounds: rounds,
-            turns: turns,
-            sum: NONE,
-        },
-        Ended::Spent { rounds, turns } => Count {
-            rounds: rounds,
-            turns: turns,
-            sum: NONE,
+fn by_leaps(compiled: &Compiled) -> Count {
+    let mut a = [0; Network::CELLS];
+    let ended = solver::run(compiled, &mut a, BUDGET);
+    Count {
+        rounds: ended.rounds,
+        turns: ended.turns,
+        sum: match ended.end {
+            End::Rests => Some(sum_of(&a)),
+            End::Passes | End::Spent => None,
         },
     }
 }
 
-fn by_rounds(frame: Frame, counts: &[usize; Network::CASES], lists: &[u16; bounds::LIST]) -> Count
-    requires { Usable frame counts.now lists.now }
-{
-    let cells = frame.scenarios * Network::EVENTS;
-    let mut a: [u16; Network::CELLS] = [0; Network::CELLS];
-    let mut b: [u16; Network::CELLS] = [0; Network::CELLS];
-    let mut rounds: u32 = 0;
-    while rounds < BUDGET {
-        rounds += 1;
-        match rounds::round(&a, &mut b, frame, counts, lists) {
+fn by_rounds(compiled: &Compiled) -> Count {
+    let cells = compiled.frame.cells();
+    let mut a = [0; Network::CELLS];
+    let mut b = [0; Network::CELLS];
+    for made in 0..BUDGET {
+        let rounds = made + 1;
+        match compiled.round(&a, &mut b) {
             Effect::Passes => return Count {
-                rounds: rounds,
+                rounds,
                 turns: rounds,
-                sum: NONE,
+                sum: None,
             },
             Effect::Rests => return Count {
-                rounds: rounds,
+                rounds,
                 turns: rounds,
-                sum: sum_of(&a),
+                sum: Some(sum_of(&a)),
             },
-            Effect::Rises => {}
+            Effect::Rises => moves::copy(&b[..cells], &mut a),
         }
-        moves::copy(&b, &mut a, cells);
     }
     Count {
-        rounds: rounds,
-        turns: rounds,
-        sum: NONE,
+        rounds: BUDGET,
+        turns: BUDGET,
+        sum: None,
     }
 }
 
-// Reads, compiles and runs, in one of the two ways.
-fn tally(sheet: &[u8], plain: bool) -> Count {
-    let reading = sheet::read(sheet);
-    let outcome = reading.outcome;
-    let network = reading.network;
-    match outcome {
-        sheet::Outcome::Refused(_) => Count {
-            rounds: 0,
-            turns: 0,
-            sum: 0,
-        },
-        sheet::Outcome::Accepted => {
-            let frame = rows::frame_of(network);
-            let mut counts: [usize; Network::CASES] = [0; Network::CASES];
-            let mut lists: [u16; bounds::LIST] = [0; bounds::LIST];
-            rounds::compile::compile(network, frame, &mut counts, &mut lists);
-            if plain {
-                return by_rounds(frame, &counts, &lists);
-            }
-            by_leaps(frame, &counts, &lists)
-        }
-    }
-}
-
-fn pair(low: u32, high: u32) -> u64 {
-    low as u64 + 4294967296 * (high as u64)
+// What rounds are made of, if the sheet is accepted, with lists that are lent and hold nothing yet.
+fn compiled<'a>(sheet: &[u8], lists: &'a mut Lists) -> Option<Compiled<'a>>
+    requires { (s : ℕ) → (case lists.old s).count ≡ 0 }
+{
+    let accepted = sheet::read(sheet).ok()?;
+    Some(Compiled::of(&accepted.formed, lists))
 }
 
 #[unsafe(no_mangle)]
 pub extern "C" fn tally_leaping(sheet: &[u8]) -> u64 {
-    let t = tally(sheet, false);
-    pair(t.rounds, t.sum)
+    let mut lists = [BoundList::empty(); Network::CASES];
+    compiled(sheet, &mut lists).map_or(0, |compiled| by_leaps(&compiled).answer())
 }
 
 #[unsafe(no_mangle)]
 pub extern "C" fn tally_plain(sheet: &[u8]) -> u64 {
-    let t = tally(sheet, true);
-    pair(t.rounds, t.sum)
+    let mut lists = [BoundList::empty(); Network::CASES];
+    compiled(sheet, &mut lists).map_or(0, |compiled| by_rounds(&compiled).answer())
 }
 
 // How many rounds the leaping run made one by one.
 #[unsafe(no_mangle)]
 pub extern "C" fn tally_turns(sheet: &[u8]) -> u64 {
-    let t = tally(sheet, false);
-    t.turns as u64
+    let mut lists = [BoundList::empty(); Network::CASES];
+    compiled(sheet, &mut lists).map_or(0, |compiled| u64::from(by_leaps(&compiled).turns))
 }

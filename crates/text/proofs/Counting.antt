@@ -1,13 +1,11 @@
--- Laws of digits that are counted off place by place. A weight is taken off some times more, and at most nine times in
--- all (`off_more`, `off_few`). With one place more the number made is the same and no zero leads, whether the place's
--- digit is left out or put behind the others (`place_none`, `place_one`). With the ones behind them the digits are the
--- number as it is written (`digits_last`), since digits without a leading zero are those of their value. Assumes
--- nothing.
+-- Laws of digits that are counted off place by place. With a digit put behind the others the number made is the same
+-- and no zero leads (`place_one`). With the ones behind them the digits are the number as it is written
+-- (`digits_last`), since digits without a leading zero are those of their value. Assumes nothing.
 use mathlib.Core.Path.{◌≡◌, refl, sym, ◌∙◌, ap}
 use mathlib.Core.Bool.{true, not}
 use mathlib.Core.List.{List, [], ◌∷◌, ◌++◌}
-use Prim.Native.Nat.{ℕ, ◌+◌, ◌-◌, ◌*◌, ◌≤◌, ◌<◌}
-use native.Mathlib.Nat.{add-mul, mul_assoc, mul_left_comm, lt_of_mul-lt-mul_right}
+use Prim.Native.Nat.{ℕ, ◌+◌, ◌*◌, ◌≤◌, ◌<◌}
+use native.Mathlib.Nat.{add-mul, mul_assoc, mul_left_comm}
 use native.Mathlib.Numerals.{add-one}
 use native.Mathlib.Omega.{arith}
 use borrow.Author.Tests.{eqb-false, ne_eqb, not-true}
@@ -25,14 +23,6 @@ use Rattle.text.specs.declared.Places.{Places}
 use Rattle.text.proofs.Decimal.{decimal_digit}
 use Rattle.text.proofs.RoundTrip.{value_from-append, every_append, last-digit}
 use Rattle.text.proofs.RoundTrip.{is_natural-first, is_natural-decimal, decimal-value_from}
-
--- k more of the weights are taken off, which are x
-pub off_more : (k x d w l v : ℕ) → x ≡ k * w → x ≤ l → d * w + l ≡ v → (d + k) * w + (l - x) ≡ v
-off_more k x d w l v t h e = omega (arith, add-mul d k w)
-
--- of less than ten weights at most nine are taken off
-pub off_few : (d w l v : ℕ) → d * w + l ≡ v → v < 10 * w → d ≤ 9
-off_few d w l v e h = let t : d < 10 = lt_of_mul-lt-mul_right w (omega arith) in omega arith
 
 -- a digit put behind those that stand in front
 text-more : (bytes : List ℕ) (count d : ℕ) → length bytes ≡ 5 → count < 5
@@ -72,16 +62,6 @@ made_more v d w l k e = omega (arith, add-mul (10 * v) d w, mul_assoc 10 v w, mu
 
 module _ (w : ℕ) (bytes : List ℕ) (p : Places) (c : Counted) (above : PlacesAre (10 * w) bytes p)
     (off : CountedOff p.left w c) where
-  -- the digit is a zero, and none stands before it
-  pub place_none : c.digit ≡ 0 → p.count ≡ 0 → Placed w bytes p bytes (record { count = 0; left = c.left })
-  place_none z n =
-      let kept : 0 * w + c.left ≡ p.left = rw z at off.whole in
-      record {
-        are = record { sized = above.sized; leading = refl; rest = off.rest };
-        kept = rw n (made_more 0 0 w c.left p.left kept);
-        few = omega arith;
-      }
-
   -- the digit is put behind those above
   pub place_one : p.count < 5 → (c.digit ≡ 0 → p.count ≡ 0 → ⊥)
       → Placed w bytes p (set bytes p.count (48 + c.digit)) (record { count = p.count + 1; left = c.left })

@@ -3,7 +3,7 @@
 -- digits that are counted off; lines as they are written and as they are read; fields by their number; examples.
 pub mod Lines
 pub mod Fields
-pub mod Cutting
+pub mod Splitting
 pub mod ReadNumber
 pub mod ReadAs
 pub mod Decimal

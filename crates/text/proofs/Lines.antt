@@ -2,15 +2,17 @@
 -- nothing.
 use mathlib.Core.Path.{◌≡◌, refl, sym, ap}
 use mathlib.Core.Logic.{inl, inr}
-use mathlib.Core.Bool.{true, false}
+use mathlib.Core.Bool.{Bool, true, false, not, cond}
 use mathlib.Core.List.{List, [], ◌∷◌, ◌++◌}
 use Prim.Native.Nat.{ℕ, suc, ◌+◌, ◌-◌, ◌≤◌, ◌<◌}
 use native.Mathlib.Numerals.{add-one}
 use native.Mathlib.Omega.{arith}
-use borrow.Author.Tests.{eq-eqb, ne_eqb, eqb-true, eqb-false}
+use borrow.Author.Tests.{eq-eqb, ne_eqb, eqb-true, eqb-false, lt-ltb, le-ltb}
 use lib.Dec.{eqb}
 use lib.ListN.{length, get_or, take, drop, length-drop, drop_of_length-le}
 use lib.Seq.{drop-cons, take_all}
+use Rattle.std.specs.Prelude.{Some, None, unwrap_or, nat_lt}
+use Rattle.std.specs.List.{position, position_or_len}
 use Rattle.prelude.specs.Bytes.{is_in, same}
 use Rattle.prelude.proofs.Tests.{either, clash}
 use Rattle.text.specs.Lines.{line_feed, up_to, ends_at, after_line}
@@ -87,30 +89,6 @@ module _ (d : ℕ) where
   is_in-behind [] rest = rw (eq-eqb d d refl)
   is_in-behind (b ∷ s) rest = elim (either (eqb d b)) [ inl e ↦ rw e | inr e ↦ rw e (is_in-behind s rest) ]
 
-  -- a scan for d at i
-  module _ (s : List ℕ) (i : ℕ) where
-    pub up_to_hit : i < length s → get_or s i 0 ≡ d → length (up_to d (drop i s)) ≡ 0
-    up_to_hit h e = rw (drop_here s i h, eq-eqb (get_or s i 0) d e, up_to)
-
-    pub up_to_miss : i < length s → (get_or s i 0 ≡ d → ⊥)
-        → length (up_to d (drop i s)) ≡ suc (length (up_to d (drop (i + 1) s)))
-    up_to_miss h e = rw (drop_here s i h, ne_eqb (get_or s i 0) d e, up_to)
-
-    pub up_to_end : length s ≤ i → length (up_to d (drop i s)) ≡ 0
-    up_to_end h = rw (drop-end s i h)
-
--- a comparison at i
-module _ (a b : List ℕ) (i : ℕ) where
-  pub same_hit : i < length a → i < length b → get_or a i 0 ≡ get_or b i 0
-      → same (drop i a) (drop i b) ≡ same (drop (i + 1) a) (drop (i + 1) b)
-  same_hit h g e = rw (drop_here a i h, drop_here b i g, eq-eqb (get_or a i 0) (get_or b i 0) e)
-
-  pub same_miss : i < length a → i < length b → (get_or a i 0 ≡ get_or b i 0 → ⊥) → same (drop i a) (drop i b) ≡ false
-  same_miss h g e = rw (drop_here a i h, drop_here b i g, ne_eqb (get_or a i 0) (get_or b i 0) e)
-
-  pub same_end : length a ≤ i → length b ≤ i → same (drop i a) (drop i b) ≡ true
-  same_end h g = rw (drop-end a i h, drop-end b i g)
-
 -- lists of two lengths differ
 pub same_length : (a b : List ℕ) → (length a ≡ length b → ⊥) → same a b ≡ false
 same_length [] [] n = absurd (n refl)
@@ -136,3 +114,32 @@ module _ (rest : List ℕ) (e : ℕ) (is : e ≡ length (up_to line_feed rest)) 
 -- a line that ends lies inside its bytes, with its line feed
 pub line-inside : (s : List ℕ) (at : ℕ) → ends_at s at ≡ true → after_line s at ≤ length s
 line-inside s at e = omega (arith, up_to_lt_of_is_in line_feed (drop at s) e, length-drop at s)
+
+-- the place of the first d is the length of what stands before it
+module _ (d : ℕ) where
+  first_turn : (t : Bool) (b n : ℕ) (s : List ℕ) → n ≡ length (up_to d s)
+      → cond (not t) (1 + n) 0 ≡ length {A = ℕ} (elim t [ true ↦ [] | false ↦ b ∷ up_to d s ])
+  first_turn true b n s e = refl
+  first_turn false b n s e = omega (arith, e)
+
+  pub position-up_to : (s : List ℕ) → position_or_len (λ b. eqb b d) s ≡ length (up_to d s)
+  position-up_to [] = refl
+  position-up_to (b ∷ s) =
+      first_turn (eqb b d) b (position_or_len (λ c. eqb c d) s) s (position-up_to s)
+
+  -- so `find` gives it where d stands in s, and none elsewhere
+  found : (t : Bool) (n m : ℕ) → n ≤ m → (t ≡ false → n ≡ m) → (t ≡ true → n < m)
+      → cond (nat_lt n m) (Some n) None ≡ cond t (Some n) None
+  found true n m h f g = rw (lt-ltb n m (g refl))
+  found false n m h f g = rw (le-ltb n m (omega (arith, f refl)))
+
+  pub find-is : (s : List ℕ) → position (λ b. eqb b d) s ≡ cond (is_in d s) (Some (length (up_to d s))) None
+  find-is s =
+      rw (position-up_to s)
+      (found (is_in d s) (length (up_to d s)) (length s) (up_to_le d s)
+      (λ e. ap length (up_to_eq_of_not-is_in d s e)) (up_to_lt_of_is_in d s))
+
+  pub until-is : (s : List ℕ) → unwrap_or (position (λ b. eqb b d) s) (length s) ≡ length (up_to d s)
+  until-is s =
+      rw (find-is s)
+      (elim (either (is_in d s)) [ inl e ↦ rw e | inr e ↦ rw e (ap length (sym (up_to_eq_of_not-is_in d s e))) ])

@@ -1,36 +1,28 @@
--- Laws of numbers as they are read: digit by digit (`digits_hit`, `digits_miss`, `digits_end`), and by the length and
--- the first bytes (`natural-..`, `number-..`). Assumes nothing.
-use mathlib.Core.Path.{◌≡◌, refl, ◌∙◌, ap}
+-- Laws of numbers as they are read: digit by digit (`digits_hit`), and by the sign (`number_..`). Assumes nothing.
+use mathlib.Core.Path.{◌≡◌, ◌∙◌, ap}
 use mathlib.Core.Logic.{inl, inr}
-use mathlib.Core.Bool.{true, false, and-true, and-false, or-true}
+use mathlib.Core.Bool.{true, false, and-true, and-false}
 use mathlib.Core.List.{List, [], ◌∷◌}
-use Prim.Native.Nat.{ℕ, suc, ◌+◌, ◌-◌, ◌*◌, ◌≤◌, ◌<◌}
+use Prim.Native.Nat.{ℕ, ◌+◌, ◌-◌, ◌*◌, ◌≤◌, ◌<◌}
 use native.Mathlib.Omega.{arith}
-use borrow.Author.Tests.{eq-eqb, ne_eqb, le-leb, lt-leb}
+use borrow.Author.Tests.{eq-eqb, ne_eqb, le-leb}
 use lib.ListN.{length, get_or, drop}
+use Rattle.std.specs.Prelude.{Option, Some, None}
 use Rattle.prelude.specs.Bytes.{every}
-use Rattle.prelude.proofs.Tests.{zero-is-one, either, lt_or_ge, eq_or_ne}
+use Rattle.prelude.proofs.Tests.{either, lt_or_ge, eq_or_ne}
 use Rattle.text.specs.Number.{is_digit, is_natural, value_from, is_number, is_negative}
-use Rattle.text.specs.ReadNumber.{capped, sized, read_digits_lem, read_natural_lem, read_number_lem}
-use Rattle.text.specs.declared.Natural.{Natural}
-use Rattle.text.specs.declared.Natural.TheVariants as Nat
+use Rattle.text.specs.ReadNumber.{capped, sized, read_natural_lem, read_number_lem}
 use Rattle.text.specs.declared.Number.{Number}
-use Rattle.text.specs.declared.Number.TheVariants as Num
-use Rattle.text.proofs.Lines.{drop_here, drop-end}
+use Rattle.text.specs.declared.Number.TheVariants.{Plus, Minus}
+use Rattle.text.proofs.Lines.{drop_here}
 
 pub le_value_from : (v : ℕ) (s : List ℕ) → v ≤ value_from v s
 le_value_from v [] = omega arith
 le_value_from v (b ∷ s) = omega (arith, le_value_from (10 * v + (b - 48)) s)
 
--- a byte that is a digit, or lies before or behind the digits
+-- a byte that is a digit
 pub is_digit-true : (b : ℕ) → 48 ≤ b → b ≤ 57 → is_digit b ≡ true
 is_digit-true b h g = rw (le-leb 48 b h, le-leb b 57 g)
-
-pub is_digit-low : (b : ℕ) → b < 48 → is_digit b ≡ false
-is_digit-low b h = rw (lt-leb 48 b h)
-
-pub is_digit-high : (b : ℕ) → 57 < b → is_digit b ≡ false
-is_digit-high b h = rw (le-leb 48 b (omega arith), lt-leb b 57 h)
 
 module _ (most : ℕ) where
   -- a size may be capped early: what comes after only adds
@@ -44,7 +36,7 @@ module _ (most : ℕ) where
       ]
 
   -- the digits s behind others of size v
-  abbrev pub digits_from : ℕ → List ℕ → Natural
+  abbrev pub digits_from : ℕ → List ℕ → Option ℕ
   digits_from v s = sized (every is_digit s) (capped most (value_from v s))
 
   module _ (v : ℕ) (s : List ℕ) (i : ℕ) where
@@ -52,77 +44,30 @@ module _ (most : ℕ) where
         → digits_from v (drop i s) ≡ digits_from (capped most (10 * v + (get_or s i 0 - 48))) (drop (i + 1) s)
     digits_hit h l g = rw (drop_here s i h, is_digit-true (get_or s i 0) l g, capped-from)
 
-    pub digits_miss : i < length s → is_digit (get_or s i 0) ≡ false → digits_from v (drop i s) ≡ Nat.IllFormed
-    digits_miss h e = rw (drop_here s i h, e)
+abbrev pub plus : Option ℕ → Option Number
+plus None = None
+plus (Some v) = Some (Plus v)
 
-    pub digits_end : length s ≤ i → v ≤ most + 1 → digits_from v (drop i s) ≡ Nat.Size v
-    digits_end h l = rw (drop-end s i h) (ap Nat.Size (omega arith))
-
-  -- a number with no sign: by its length and its first digit
-  pub natural_empty : (f : List ℕ) → length f ≡ 0 → read_natural_lem most f ≡ Nat.IllFormed
-  natural_empty [] h = refl
-  natural_empty (b ∷ s) h = absurd (omega arith)
-
-  pub natural_one : (f : List ℕ) → length f ≡ 1 → read_natural_lem most f ≡ read_digits_lem most f
-  natural_one [] h = absurd (omega arith)
-  natural_one (b ∷ s) h = let e : length s ≡ 0 = omega arith in rw (eq-eqb (length s) 0 e, or-true, and-true)
-
-  pub natural_first : (f : List ℕ) → 0 < length f → (get_or f 0 0 ≡ 48 → ⊥)
-      → read_natural_lem most f ≡ read_digits_lem most f
-  natural_first [] h n = absurd (omega arith)
-  natural_first (b ∷ s) h n = rw (ne_eqb b 48 n, and-true)
-
-  pub natural_zero : (f : List ℕ) → (length f ≡ 1 → ⊥) → get_or f 0 0 ≡ 48 → read_natural_lem most f ≡ Nat.IllFormed
-  natural_zero [] h e = refl
-  natural_zero (b ∷ s) h e = rw (eq-eqb b 48 e, ne_eqb (length s) 0 (λ z. h (ap suc z)), and-false)
-
-  pub natural_some : (f : List ℕ) (v : ℕ) → read_natural_lem most f ≡ Nat.Size v → 0 < length f
-  natural_some [] v e = zero-is-one cc
-  natural_some (b ∷ s) v e = omega arith
-
--- the sign, by the first byte
-is_negative-true : (f : List ℕ) → 0 < length f → get_or f 0 0 ≡ 45 → is_negative f ≡ true
-is_negative-true [] h e = absurd (omega arith)
-is_negative-true (b ∷ s) h e = eq-eqb b 45 e
-
-is_negative-false : (f : List ℕ) → (get_or f 0 0 ≡ 45 → ⊥) → is_negative f ≡ false
-is_negative-false [] n = refl
-is_negative-false (b ∷ s) n = ne_eqb b 45 n
-
-abbrev pub plus : Natural → Number
-plus Nat.IllFormed = Num.IllFormed
-plus (Nat.Size v) = Num.Plus v
-
-abbrev pub minus : Natural → Number
-minus Nat.IllFormed = Num.IllFormed
-minus (Nat.Size v) = Num.Minus v
+abbrev pub minus : Option ℕ → Option Number
+minus None = None
+minus (Some v) = Some (Minus v)
 
 module _ (most : ℕ) (f : List ℕ) where
-  pub number_plus : (get_or f 0 0 ≡ 45 → ⊥) → read_number_lem most f ≡ plus (read_natural_lem most f)
+  pub number_plus : is_negative f ≡ false → read_number_lem most f ≡ plus (read_natural_lem most f)
   unfolding read_number_lem is_number
-  number_plus n =
-      rw (is_negative-false f n, and-true)
-      (elim (either (is_natural f)) [ inl t ↦ rw t | inr t ↦ rw t ])
+  number_plus n = rw (n, and-true) (elim (either (is_natural f)) [ inl t ↦ rw t | inr t ↦ rw t ])
 
-  pub number_minus_zero : 0 < length f → get_or f 0 0 ≡ 45 → get_or f 1 0 ≡ 48 → read_number_lem most f ≡ Num.IllFormed
+  pub number_minus_zero : is_negative f ≡ true → get_or f 1 0 ≡ 48 → read_number_lem most f ≡ None
   unfolding read_number_lem is_number
-  number_minus_zero h e z = rw (is_negative-true f h e, eq-eqb (get_or f 1 0) 48 z, and-false)
+  number_minus_zero e z = rw (e, eq-eqb (get_or f 1 0) 48 z, and-false)
 
-  pub number_minus : 0 < length f → get_or f 0 0 ≡ 45 → (get_or f 1 0 ≡ 48 → ⊥)
+  pub number_minus : is_negative f ≡ true → (get_or f 1 0 ≡ 48 → ⊥)
       → read_number_lem most f ≡ minus (read_natural_lem most (drop 1 f))
   unfolding read_number_lem is_number
-  number_minus h e n =
-      rw (is_negative-true f h e, ne_eqb (get_or f 1 0) 48 n, and-true)
+  number_minus e n =
+      rw (e, ne_eqb (get_or f 1 0) 48 n, and-true)
       (elim (either (is_natural (drop 1 f))) [ inl t ↦ rw t | inr t ↦ rw t ])
 
-  pub number_minus_ill : 0 < length f → get_or f 0 0 ≡ 45 → read_natural_lem most (drop 1 f) ≡ Nat.IllFormed
-      → read_number_lem most f ≡ Num.IllFormed
-  number_minus_ill h e i =
-      elim (eq_or_ne (get_or f 1 0) 48) [ inl z ↦ number_minus_zero h e z | inr n ↦ number_minus h e n ∙ ap minus i ]
-
-  pub number-empty : length f ≡ 0 → read_number_lem most f ≡ Num.IllFormed
-  number-empty h = number_plus (none f h) ∙ ap plus (natural_empty most f h)
-    where
-      none : (g : List ℕ) → length g ≡ 0 → get_or g 0 0 ≡ 45 → ⊥
-      none [] h e = omega arith
-      none (b ∷ s) h e = omega arith
+  pub number_minus_ill : is_negative f ≡ true → read_natural_lem most (drop 1 f) ≡ None → read_number_lem most f ≡ None
+  number_minus_ill e i =
+      elim (eq_or_ne (get_or f 1 0) 48) [ inl z ↦ number_minus_zero e z | inr n ↦ number_minus e n ∙ ap minus i ]

@@ -1,8 +1,7 @@
 -- Where the fields of a line stand: "a field is handed back as the part of the sheet between its commas" (01, The
 -- sheet).
-use Rattle.std.specs.Prelude.{◌≡◌, List, [], ◌∷◌, ℕ, zero, suc, ◌+◌, ◌-◌, ◌<◌, length, get_or, take, drop}
-use Rattle.text.specs.Lines.{fields, field}
-use Rattle.text.specs.declared.Cuts.{Cuts}
+use Rattle.std.specs.Prelude.{◌≡◌, List, [], ◌∷◌, ℕ, zero, suc, ◌+◌, ◌<◌, length, get_or}
+use Rattle.text.specs.Lines.{fields}
 
 -- where field k ends: behind its own bytes, and the bytes and the comma of each field before it
 abbrev pub end_of : ℕ → List (List ℕ) → ℕ
@@ -15,13 +14,8 @@ abbrev pub start_of : ℕ → List (List ℕ) → ℕ
 start_of zero fs = 0
 start_of (suc k) fs = end_of k fs + 1
 
--- c counts the fields of l, and holds where the first five end
-pub record CutsAre (l : List ℕ) (c : Cuts) : Type 0 where
-  pub counted : c.count ≡ length (fields l)
-  pub sized : length c.ends ≡ 5
-  pub ended : (k : ℕ) → k < c.count → k < 5 → get_or c.ends k 0 ≡ end_of k (fields l)
-
--- r is field k of l, as the part of l from its start to its end
-pub record FieldIs (l : List ℕ) (k : ℕ) (r : List ℕ) : Type 0 where
-  pub text : r ≡ field k (fields l)
-  pub part : r ≡ take (end_of k (fields l) - start_of k (fields l)) (drop (start_of k (fields l)) l)
+-- l has n fields, and they end there
+pub record EndsAre (n : ℕ) (l ends : List ℕ) : Type 0 where
+  pub counted : length (fields l) ≡ n
+  pub sized : length ends ≡ n
+  pub ended : (k : ℕ) → k < n → get_or ends k 0 ≡ end_of k (fields l)

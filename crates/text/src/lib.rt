@@ -1,115 +1,34 @@
 // Lines, fields and decimal numbers. What each function answers is defined in specs/.
 #![tactic(auto)]
 
-ghost use Rattle.std.specs.Prelude.{◌≡◌, ◌+◌, ◌-◌, ◌*◌, ◌≤◌, ◌<◌, length, set};
-ghost use Rattle.prelude.specs.Bytes.{same};
+ghost use Rattle.std.specs.Prelude.{◌≡◌, ◌==◌, ◌+◌, ◌-◌, ◌*◌, ◌≤◌, ◌<◌, position, length};
 ghost use Rattle.text.specs.Lines.{up_to};
-ghost use Rattle.text.specs.Cuts.{CutsAre, FieldIs};
+ghost use Rattle.text.specs.Number as N;
 ghost use Rattle.text.specs.ReadNumber.{capped, read_digits_lem, read_natural_lem, read_number_lem};
 ghost use Rattle.text.specs.Spelled.{DigitsAre};
 ghost use Rattle.text.specs.Places.{CountedOff, PlacesAre, Placed};
+
+pub mod split;
+
+// The place of the first byte d.
+pub fn find(s: &[u8], d: u8) -> Option<usize>
+    ensures { result ≡ position (λ b. b == d) s.now }
+{
+    s.iter().position(|&b| b == d)
+}
 
 // Where the first byte d stands, or the length where there is none.
 pub fn until(s: &[u8], d: u8) -> usize
     ensures { result ≡ length (up_to d s.now) }
 {
-    let mut i = 0;
-    while i < s.len() {
-        if s[i] == d {
-            return i;
-        }
-        i += 1;
-    }
-    i
+    find(s, d).unwrap_or(s.len())
 }
 
-// Whether two slices hold the same bytes.
-pub fn equal(a: &[u8], b: &[u8]) -> bool
-    ensures { result ≡ same a.now b.now }
-{
-    if a.len() != b.len() {
-        return false;
-    }
-    let mut i = 0;
-    while i < a.len() {
-        if a[i] != b[i] {
-            return false;
-        }
-        i += 1;
-    }
-    true
-}
-
-// How many fields a line has, and where the first five of them end.
-#[derive(Clone, Copy)]
-pub struct Cuts {
-    pub count: usize,
-    pub ends: [usize; 5],
-}
-
-// The end of field k put in, where there is room for it.
-fn put_end(ends: &mut [usize; 5], k: usize, at: usize)
-    requires { length ends.old ≡ 5 }
-    ensures { ends.new ≡ set ends.old k at }
-{
-    if k < 5 {
-        ends[k] = at;
-    }
-}
-
-// One pass over a line.
-pub fn cut(line: &[u8]) -> Cuts
-    ensures { CutsAre line.now result }
-{
-    let mut ends = [0usize; 5];
-    let mut count: usize = 0;
-    let mut i = 0;
-    while i < line.len() {
-        if line[i] == b',' {
-            put_end(&mut ends, count, i);
-            count += 1;
-        }
-        i += 1;
-    }
-    put_end(&mut ends, count, i);
-    Cuts {
-        count: count + 1,
-        ends,
-    }
-}
-
-// Field k of the line, as a part of the line.
-pub fn field(line: &[u8], cuts: Cuts, k: usize) -> &[u8]
-    requires { CutsAre line.now cuts × (k < cuts.count) × (k < 5) }
-    ensures { FieldIs line.now k result.now }
-{
-    let ends = cuts.ends;
-    let end = ends[k];
-    if k == 0 {
-        return &line[..end];
-    }
-    let start = ends[k - 1] + 1;
-    &line[start..end]
-}
-
-// What digits are: no number, or its size.
-#[derive(Clone, Copy)]
-enum Natural {
-    IllFormed,
-    Size(u32),
-}
-
+// A number by its sign; there is no `-0`.
 #[derive(Clone, Copy)]
 pub enum Number {
-    IllFormed,
     Plus(u32),
     Minus(u32),
-}
-
-fn wide(b: u8) -> u32
-    ensures { result ≡ b }
-{
-    b as u32
 }
 
 // The size after one more digit.
@@ -117,76 +36,57 @@ fn next_size(v: u32, b: u8, most: u32) -> u32
     requires { (v ≤ most + 1) × (most ≤ 65535) × (48 ≤ b) × (b ≤ 57) }
     ensures { result ≡ capped most (10 * v + (b - 48)) }
 {
-    let w = 10 * v + wide(b - b'0');
-    if w <= most {
-        return w;
-    }
-    most + 1
+    (10 * v + u32::from(b - b'0')).min(most + 1)
 }
 
 // The size of digits one behind the other.
-fn read_digits(f: &[u8], most: u32) -> Natural
+fn read_digits(f: &[u8], most: u32) -> Option<u32>
     requires { most ≤ 65535 }
     ensures { result ≡ read_digits_lem most f.now }
 {
     let mut v: u32 = 0;
-    let mut i = 0;
-    while i < f.len() {
-        let b = f[i];
-        if b < b'0' {
-            return Natural::IllFormed;
-        }
-        if b'9' < b {
-            return Natural::IllFormed;
+    for &b in f {
+        if !b.is_ascii_digit() {
+            return None;
         }
         v = next_size(v, b, most);
-        i += 1;
     }
-    Natural::Size(v)
+    Some(v)
 }
 
-// A number with no sign.
-fn read_natural(f: &[u8], most: u32) -> Natural
+// The size of a number with no sign.
+fn read_natural(f: &[u8], most: u32) -> Option<u32>
     requires { most ≤ 65535 }
     ensures { result ≡ read_natural_lem most f.now }
 {
-    if f.len() == 0 {
-        return Natural::IllFormed;
+    match f {
+        [] => None,
+        [b'0', _, ..] => None,
+        _ => read_digits(f, most),
     }
-    if f.len() == 1 {
-        return read_digits(f, most);
-    }
-    if f[0] == b'0' {
-        return Natural::IllFormed;
-    }
-    read_digits(f, most)
+}
+
+// Whether a field begins with the sign.
+fn is_negative(f: &[u8]) -> bool
+    ensures { result ≡ N.is_negative f.now }
+{
+    matches!(f, [b'-', ..])
 }
 
 // A number with its sign; a size over `most` is given as one more than `most`, so that any count of digits is exact.
-pub fn read_number(f: &[u8], most: u32) -> Number
+pub fn read_number(f: &[u8], most: u32) -> Option<Number>
     requires { most ≤ 65535 }
     ensures { result ≡ read_number_lem most f.now }
 {
-    if f.len() == 0 {
-        return Number::IllFormed;
+    if !is_negative(f) {
+        let v = read_natural(f, most)?;
+        return Some(Number::Plus(v));
     }
-    if f[0] != b'-' {
-        let n = read_natural(f, most);
-        return match n {
-            Natural::IllFormed => Number::IllFormed,
-            Natural::Size(v) => Number::Plus(v),
-        };
+    let v = read_natural(&f[1..], most)?;
+    if f[1] == b'0' {
+        return None;
     }
-    let n = read_natural(&f[1..], most);
-    match n {
-        Natural::IllFormed => Number::IllFormed,
-        Natural::Size(v) => {
-            if f[1] == b'0' {
-                return Number::IllFormed;
-            }
-            Number::Minus(v)
-        }
-    }
+    Some(Number::Minus(v))
 }
 
 // The decimal digits of v: the first `count` of bytes.
@@ -264,6 +164,7 @@ pub fn spell(v: u16) -> Digits
     let hundreds = place(&mut bytes, thousands, 100);
     let tens = place(&mut bytes, hundreds, 10);
     let count = tens.count;
+    // What the tens leave is below ten.
     bytes[count] = b'0' + tens.left as u8;
     Digits {
         bytes,

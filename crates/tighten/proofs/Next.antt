@@ -2,119 +2,93 @@
 -- tightest of the first key from there on that one has; where there is no such number, none has a key from there on.
 -- Assumes nothing.
 use mathlib.Core.Path.{◌≡◌, refl, sym, ◌∙◌, ap}
-use mathlib.Core.Logic.{inl, inr}
-use mathlib.Core.Bool.{Bool}
 use mathlib.Core.Option.{some}
-use mathlib.Core.List.{List}
+use mathlib.Core.List.{List, map}
 use Prim.Native.Nat.{ℕ, ◌*◌, ◌/◌, ◌≤◌, ◌<◌}
 use native.Mathlib.Omega.{arith}
-use borrow.Author.Tests.{le-leb, leb-true}
-use lib.Dec.{leb}
 use lib.ListN.{length, get_or, length-map}
 use Rattle.prelude.specs.Lists.{In, Each}
-use Rattle.prelude.proofs.Minima.{LeastAt, min_where_le, min_where_attained}
 use Rattle.prelude.proofs.Mapped.{get_d_map}
 use Rattle.prelude.proofs.Lists.{in_place, each_in}
 use Rattle.prelude.proofs.Gather.{Silent}
 use Rattle.network.specs.Build.{no_constraint}
 use Rattle.network.specs.declared.Constraint.{Constraint}
 use Rattle.network.proofs.Signed.{le_biased}
-use Rattle.tighten.specs.declared.Encodings.{Encodings}
 use Rattle.tighten.specs.Tightest.{rank, tightest}
-use Rattle.tighten.specs.Encoding.{per_key, encoded, decoded, top, least_below}
-use Rattle.tighten.specs.Fronts.{EncodingsAre}
+use Rattle.tighten.specs.Encoding.{per_key, encoded, decoded, top}
+use Rattle.tighten.proofs.Least.{LeastFrom, AllBelow}
 use Rattle.tighten.proofs.Regular.{Regular, encoded_lt, rank-encoded, decoded-encoded}
 use Rattle.tighten.proofs.Tight.{TightestAt, none-tightest, tightest_unique}
-use Rattle.tighten.proofs.Fronts.{front_at}
 
-module _ {xs : List Constraint} (r : Encodings) (regular : Each Regular xs no_constraint) (are : EncodingsAre xs r)
-  where
-    -- the numbers in the list
-    abbrev number : ℕ → ℕ
-    number i = get_or r.list i 0
+module _ {xs : List Constraint} (regular : Each Regular xs no_constraint) where
+  -- the numbers, and that of one that is among them
+  abbrev pub numbers : List ℕ
+  numbers = map encoded xs
 
-    counted : r.count ≡ length xs
-    counted = are.held.counted ∙ length-map xs encoded
+  number_is : {y : Constraint} (w : In y xs no_constraint) → get_or numbers w.place 0 ≡ encoded y
+  number_is w = get_d_map encoded no_constraint 0 xs w.place w.place_lt ∙ ap encoded w.is
 
-    number_is : (i : ℕ) → i < r.count → number i ≡ encoded (get_or xs i no_constraint)
-    number_is i h =
-        front_at are.held i 0 h ∙ get_d_map encoded no_constraint 0 xs i (omega (arith, counted))
+  listed : {y : Constraint} (w : In y xs no_constraint) → w.place < length numbers
+  listed w = omega (arith, w.place_lt, length-map xs encoded)
 
-    module _ (key : ℕ) where
-      -- the least number from the key on
-      abbrev pub least_from : ℕ
-      least_from = least_below r.count number (key * per_key)
+  pub none_left : (key : ℕ) → AllBelow numbers (key * per_key) → (n : ℕ) → Silent (tightest xs) key n
+  none_left key f n = record {
+    silent = λ k h l. none-tightest xs k (λ y w p. omega (arith, f w.place (listed w), number_is w, p));
+  }
 
-      -- whether the number at i counts
-      abbrev from : ℕ → Bool
-      from i = leb (key * per_key) (number i)
+  module _ (key v : ℕ) (f : LeastFrom numbers (key * per_key) v) where
+    -- none with a key from there on has a lesser number
+    least-upper : (y : Constraint) → In y xs no_constraint → key ≤ rank y → v ≤ encoded y
+    least-upper y w h =
+        omega (arith, number_is w, f.least w.place (listed w) (omega (arith, number_is w)))
 
-      -- none with a key from there on has a lesser number
-      least-upper : (y : Constraint) → In y xs no_constraint → key ≤ rank y → least_from ≤ encoded y
-      least-upper y w h =
-          let l : w.place < r.count = omega (arith, counted, w.place_lt) in
-          let e = number_is w.place l ∙ ap encoded w.is in
-          let counts = le-leb (key * per_key) (number w.place) (omega (arith, e)) in
-          omega (arith, e, min_where_le from number top r.count w.place l counts)
+    -- the one with the least number
+    next : Constraint
+    next = get_or xs f.place no_constraint
 
-      pub none_left : least_from ≡ top → (n : ℕ) → Silent (tightest xs) key n
-      none_left e n = record {
-        silent =
-            λ k h l.
-            none-tightest xs k
-            (λ y w p. omega (arith, least-upper y w (omega (arith, p)), encoded_lt (each_in Regular regular w)));
-      }
+    stands : In next xs no_constraint
+    unfolding next
+    stands = in_place xs f.place (omega (arith, f.place_lt, length-map xs encoded))
 
-      module _ (h : least_from ≡ top → ⊥) where
-        at : LeastAt from number top r.count least_from
-        at = elim (min_where_attained from number top r.count) [ inl e ↦ absurd (h e) | inr a ↦ a ]
+    next_regular : Regular next
+    next_regular = each_in Regular regular stands
 
-        -- the one with the least number
-        next : Constraint
-        next = get_or xs at.place no_constraint
+    is-least : encoded next ≡ v
+    unfolding next
+    is-least =
+        sym (get_d_map encoded no_constraint 0 xs f.place (omega (arith, f.place_lt, length-map xs encoded))) ∙ f.is
 
-        stands : In next xs no_constraint
-        unfolding next
-        stands = in_place xs at.place (omega (arith, counted, at.place_lt))
+    next-is : decoded v ≡ next
+    next-is = ap decoded (sym is-least) ∙ decoded-encoded next_regular
 
-        next_regular : Regular next
-        next_regular = each_in Regular regular stands
+    rank_is : rank next ≡ v / per_key
+    rank_is = sym (rank-encoded next_regular) ∙ ap (λ (v : ℕ). v / per_key) is-least
 
-        is-least : encoded next ≡ least_from
-        unfolding next
-        is-least = sym (number_is at.place at.place_lt) ∙ at.is
+    pub least_lt : v < top
+    least_lt = omega (arith, is-least, encoded_lt next_regular)
 
-        next-is : decoded least_from ≡ next
-        next-is = ap decoded (sym is-least) ∙ decoded-encoded next_regular
+    -- its key is the first from there on that one has
+    pub least-from : key ≤ v / per_key
+    least-from = omega (arith, f.from)
 
-        rank_is : rank next ≡ least_from / per_key
-        rank_is = sym (rank-encoded next_regular) ∙ ap (λ (v : ℕ). v / per_key) is-least
+    pub none_before : Silent (tightest xs) key (v / per_key)
+    none_before = record {
+      silent =
+          λ k h l.
+          none-tightest xs k
+          (λ y w p. omega (arith, least-upper y w (omega (arith, p)), rank-encoded (each_in Regular regular w)));
+    }
 
-        pub least_lt : least_from < top
-        least_lt = omega (arith, is-least, encoded_lt next_regular)
+    -- and it is the tightest of the key
+    next-tightest : TightestAt xs (rank next) next
+    next-tightest = record {
+      stands = stands;
+      key = refl;
+      least = λ y w p.
+          let q = each_in Regular regular w in
+          le_biased next.bound y.bound next_regular.encodable.bound q.encodable.bound
+          (omega (arith, least-upper y w (omega (arith, p, rank_is, least-from)), is-least, p));
+    }
 
-        -- its key is the first from there on that one has
-        pub least-from : key ≤ least_from / per_key
-        least-from = omega (arith, at.is, leb-true (key * per_key) (number at.place) at.counted)
-
-        pub none_before : Silent (tightest xs) key (least_from / per_key)
-        none_before = record {
-          silent =
-              λ k h l.
-              none-tightest xs k
-              (λ y w p. omega (arith, least-upper y w (omega (arith, p)), rank-encoded (each_in Regular regular w)));
-        }
-
-        -- and it is the tightest of the key
-        next-tightest : TightestAt xs (rank next) next
-        next-tightest = record {
-          stands = stands;
-          key = refl;
-          least = λ y w p.
-              let q = each_in Regular regular w in
-              le_biased next.bound y.bound next_regular.encodable.bound q.encodable.bound
-              (omega (arith, least-upper y w (omega (arith, p, rank_is, least-from)), is-least, p));
-        }
-
-        pub next-upper : tightest xs (least_from / per_key) ≡ some (decoded least_from)
-        next-upper = rw (next-is, ← rank_is) (tightest_unique regular next-tightest)
+    pub next-upper : tightest xs (v / per_key) ≡ some (decoded v)
+    next-upper = rw (next-is, ← rank_is) (tightest_unique regular next-tightest)

@@ -1,8 +1,8 @@
 -- An upper bound as one number, so that a search for the next key and its least limit compares numbers only: its key,
 -- and behind it its limit plus 10,080, which is not negative.
-use Rattle.std.specs.Prelude.{ℕ, ◌+◌, ◌*◌, ◌/◌, ◌%◌, ◌<◌, ℤ, leb}
+use Rattle.std.specs.Prelude.{List, filter, ℕ, ◌+◌, ◌*◌, ◌/◌, ◌%◌, ◌<◌, min, leb, ℤ, Option}
+use Rattle.std.specs.List.{reduce}
 use Rattle.network.specs.Biased.{biased, unbiased}
-use Rattle.prelude.specs.Bounded.{min_where}
 use Rattle.network.specs.WellFormed.{InLimits}
 use Rattle.network.specs.declared.Label.{Label}
 use Rattle.network.specs.declared.Constraint.{Constraint}
@@ -38,6 +38,6 @@ floor_after_lem v = (v / per_key + 1) * per_key
 abbrev pub top : ℕ
 top = 2147483648
 
--- the least of f 0, .., f (n - 1) that is at least lo, or `top` where there is none
-abbrev pub least_below : ℕ → (ℕ → ℕ) → ℕ → ℕ
-least_below n f lo = min_where n (λ i. leb lo (f i)) f top
+-- the least of the numbers that are at least lo, if there is one
+abbrev pub least_of : List ℕ → ℕ → Option ℕ
+least_of numbers lo = reduce min (filter (λ v. leb lo v) numbers)

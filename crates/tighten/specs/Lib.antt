@@ -4,4 +4,4 @@ pub mod Upper
 pub mod Remaining
 pub mod Tightest
 pub mod Encoding
-pub mod Fronts
+pub mod Fitting

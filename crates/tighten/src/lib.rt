@@ -3,39 +3,77 @@
 // behind it its limit: the next one is the least number behind the last key.
 #![tactic(auto)]
 
-ghost use Rattle.std.specs.Prelude.{◌≡◌, [], ◌∷◌, map, ◌+◌, ◌≤◌, ◌<◌, length, get_or};
+ghost use Rattle.std.specs.Prelude.{◌≡◌, List, [], ◌∷◌, ◌++◌, map, ℕ, ◌+◌, ◌≤◌, ◌<◌, length, take};
 ghost use Rattle.network.specs.Limits as L;
-ghost use Rattle.network.specs.WellFormed.{WellFormed};
-ghost use Rattle.tighten.specs.Upper.{upper, uppers, uppers_of};
+ghost use Rattle.network.specs.declared.Constraint.{Constraint};
+ghost use Rattle.tighten.specs.Upper.{uppers, uppers_of};
 ghost use Rattle.tighten.specs.Tightest.{remaining_of};
+ghost use Rattle.tighten.specs.Fitting.{fitting};
 ghost use Rattle.tighten.specs.Encoding as E;
-ghost use Rattle.tighten.specs.Fronts.{Added, EncodingsAre, UppersAre};
 
+use network::formed::Formed;
 use network::{Constraint, Kind, Label, Network};
+use std::marker::Model;
 
-// The first `count` upper bounds are those that remain, where they fit a sheet.
-#[derive(Clone, Copy)]
+// What stands in an array behind its upper bounds.
+const NONE: Constraint = Constraint {
+    kind: Kind::Max,
+    from: 0,
+    to: 0,
+    bound: 0,
+    label: Label::DASH,
+};
+
+// Upper bounds that fit a sheet. Contracts see them as their list.
+#[derive(Drop)]
 pub struct UpperBounds {
-    pub fits: bool,
-    pub count: usize,
-    pub uppers: [Constraint; Network::RULES],
-}
-
-// Upper bounds as numbers: the first `count` of the list.
-#[derive(Clone, Copy)]
-struct Encodings {
+    array: [Constraint; Network::RULES],
     count: usize,
-    list: [u32; Network::BOUNDS],
 }
 
-// The upper bound `max,from,to,bound,label` as a number.
-fn encode(from: usize, to: usize, bound: i32, label: Label) -> u32
-    requires { E.Encodable from to bound label }
-    ensures { result ≡ E.encoded (upper from to bound label) }
+impl Model for UpperBounds {
+    ghost Value = { List Constraint };
+
+    ghost view = { λ u. take u.count u.array };
+
+    ghost invariant = { λ u. u.count ≤ L.rules };
+}
+
+impl UpperBounds {
+    fn new() -> Self
+        ensures { result ≡ [] }
+    {
+        UpperBounds {
+            array: [NONE; Network::RULES],
+            count: 0,
+        }
+    }
+
+    pub fn as_slice(&self) -> &[Constraint]
+        ensures { result.now ≡ self.now }
+    {
+        &self.array[..self.count]
+    }
+
+    // One upper bound more.
+    fn push(&mut self, upper: Constraint)
+        requires { length self.old < L.rules }
+        ensures { self.new ≡ self.old ++ upper ∷ [] }
+    {
+        self.array[self.count] = upper;
+        self.count += 1;
+    }
+}
+
+// The upper bound of a constraint as a number.
+fn encode(c: &Constraint) -> u32
+    requires { E.Encodable c.now.from c.now.to c.now.bound c.now.label }
+    ensures { result ≡ E.encoded c.now }
 {
-    let ends = from as u32 * 16 + to as u32;
-    let key = (ends * 16 + label.positive as u32) * 16 + label.negative as u32;
-    key * 32768 + network::biased(bound) as u32
+    // The ends are below 16.
+    let ends = c.from as u32 * 16 + c.to as u32;
+    let key = (ends * 16 + u32::from(c.label.positive)) * 16 + u32::from(c.label.negative);
+    key * 32768 + u32::from(network::biased(c.bound))
 }
 
 // The upper bound that a number stands for: each part of its key is a digit in base 16 in front of the 32,768 numbers
@@ -55,67 +93,85 @@ fn decode(number: u32) -> Constraint
     }
 }
 
-// One number more.
-fn add(list: &mut [u32; Network::BOUNDS], count: usize, number: u32) -> usize
-    requires { (length list.old ≡ L.bounds) × (count < L.bounds) }
-    ensures { Added list.old count (number ∷ []) list.new result }
-{
-    list[count] = number;
-    count + 1
+// Upper bounds as numbers. Contracts see them as their list.
+#[derive(Drop)]
+struct Encodings {
+    array: [u32; Network::BOUNDS],
+    count: usize,
 }
 
-// The numbers of a rule: "a `min` swaps its ends and negates its limit, and a `fix` becomes both".
-fn add_rule(list: &mut [u32; Network::BOUNDS], count: usize, rule: Constraint) -> usize
-    requires { (length list.old ≡ L.bounds) × (count + 2 ≤ L.bounds)
-        × E.Encodable rule.from rule.to rule.bound rule.label }
-    ensures { Added list.old count (map E.encoded (uppers rule.kind rule))
-        list.new result }
-{
-    let kind = rule.kind;
-    let label = rule.label;
-    let upper = encode(rule.from, rule.to, rule.bound, label);
-    let lower = encode(rule.to, rule.from, -rule.bound, label);
-    match kind {
-        Kind::Max => add(list, count, upper),
-        Kind::Min => add(list, count, lower),
-        Kind::Fix => {
-            let next = add(list, count, upper);
-            add(list, next, lower)
+impl Model for Encodings {
+    ghost Value = { List ℕ };
+
+    ghost view = { λ e. take e.count e.array };
+
+    ghost invariant = { λ e. e.count ≤ L.bounds };
+}
+
+impl Encodings {
+    fn new() -> Self
+        ensures { result ≡ [] }
+    {
+        Encodings {
+            array: [0; Network::BOUNDS],
+            count: 0,
         }
     }
-}
 
-// The numbers of all rules.
-fn encodings_of(network: Network) -> Encodings
-    requires { WellFormed network }
-    ensures { EncodingsAre (uppers_of network) result }
-{
-    let mut list = [0u32; Network::BOUNDS];
-    let mut count = 0;
-    for c in 0..network.rules {
-        count = add_rule(&mut list, count, network.constraints[c]);
+    // One number more.
+    fn push(&mut self, number: u32)
+        requires { length self.old < L.bounds }
+        ensures { self.new ≡ self.old ++ number ∷ [] }
+    {
+        self.array[self.count] = number;
+        self.count += 1;
     }
-    Encodings { count, list }
-}
 
-// More than the number of any upper bound.
-const TOP: u32 = 2147483648;
-
-// The least of the first `count` numbers that is at least the floor, or TOP where there is none.
-fn least_from(list: &[u32; Network::BOUNDS], count: usize, floor: u32) -> u32
-    requires { count ≤ L.bounds }
-    ensures { result ≡ E.least_below count (λ i. get_or list.now i 0) floor }
-{
-    let mut least = TOP;
-    for i in 0..count {
-        let v = list[i];
-        if floor <= v {
-            if v < least {
-                least = v;
+    // The numbers of a rule: "a `min` swaps its ends and negates its limit, and a `fix` becomes both".
+    fn push_rule(&mut self, rule: &Constraint)
+        requires { (length self.old + 2 ≤ L.bounds)
+            × E.Encodable rule.now.from rule.now.to rule.now.bound rule.now.label }
+        ensures { self.new ≡ self.old ++ map E.encoded (uppers rule.now.kind rule.now) }
+    {
+        let swapped = Constraint {
+            kind: Kind::Max,
+            from: rule.to,
+            to: rule.from,
+            bound: -rule.bound,
+            label: rule.label,
+        };
+        match rule.kind {
+            Kind::Max => self.push(encode(rule)),
+            Kind::Min => self.push(encode(&swapped)),
+            Kind::Fix => {
+                self.push(encode(rule));
+                self.push(encode(&swapped));
             }
         }
     }
-    least
+
+    // The numbers of all rules.
+    fn of(formed: &Formed) -> Self
+        ensures { result ≡ map E.encoded (uppers_of formed.now.network) }
+    {
+        let network = &formed.network;
+        let mut encodings = Encodings::new();
+        for c in 0..network.rules {
+            encodings.push_rule(&network.constraints[c]);
+        }
+        encodings
+    }
+
+    // The least number that is at least the floor.
+    fn least_from(&self, floor: u32) -> Option<u32>
+        ensures { result ≡ E.least_of self.now floor }
+    {
+        self.array[..self.count]
+            .iter()
+            .copied()
+            .filter(|v| floor <= *v)
+            .min()
+    }
 }
 
 // The least number behind all those with the key of this one.
@@ -126,35 +182,19 @@ fn floor_after(number: u32) -> u32
     (number / 32768 + 1) * 32768
 }
 
-// The upper bounds that remain, one key after the other; one more than a sheet may have shows that they do not fit.
-pub fn remaining(network: Network) -> UpperBounds
-    requires { WellFormed network }
-    ensures { UppersAre (remaining_of network) result }
+// The upper bounds that remain, one key after the other, or None where a sheet may not have so many.
+pub fn remaining(formed: &Formed) -> Option<UpperBounds>
+    ensures { result ≡ fitting (remaining_of formed.now.network) }
 {
-    let encodings = encodings_of(network);
-    let list = encodings.list;
-    // What stands behind the first `count` is of no account.
-    let mut uppers = network.constraints;
-    let mut count = 0;
+    let encodings = Encodings::of(formed);
+    let mut remaining = UpperBounds::new();
     let mut floor = 0;
-    loop {
-        let least = least_from(&list, encodings.count, floor);
-        if least == TOP {
-            return UpperBounds {
-                fits: true,
-                count,
-                uppers,
-            };
+    while let Some(least) = encodings.least_from(floor) {
+        if remaining.as_slice().len() == Network::RULES {
+            return None;
         }
-        if count == Network::RULES {
-            return UpperBounds {
-                fits: false,
-                count,
-                uppers,
-            };
-        }
-        uppers[count] = decode(least);
-        count += 1;
+        remaining.push(decode(least));
         floor = floor_after(least);
     }
+    Some(remaining)
 }

@@ -11,108 +11,89 @@ mod house;
 mod small;
 mod trial;
 
-ghost use Rattle.std.specs.Prelude.{◌≤◌, length};
-
-use std::io;
 use std::rt::Files;
-
-// Where the piece of the text that begins at `at` ends: at the next byte d, or with the text.
-fn end_of(text: &[u8], at: usize, d: u8) -> usize
-    requires { at ≤ length text.now }
-    ensures { (at ≤ result) × (result ≤ length text.now) }
-{
-    at + text::until(&text[at..], d)
-}
-
-// One byte more than a listing may have, so that a longer one is seen to be longer.
-fn listed(rt: &(impl Files + Print), sheet: &[u8], lst: &[u8]) -> io::Result<()> {
-    let mut printed = [0u8; opening::PRINTED_BYTES + 1];
-    let n = files::read(rt, lst, &mut printed)?;
-    back::tell(rt, sheet, &printed[..n])
-}
-
-fn tabled(rt: &(impl Files + Print), sheet: &[u8], tab: &[u8]) -> io::Result<()> {
-    let mut bytes = [0u8; 1024];
-    let n = files::read(rt, tab, &mut bytes)?;
-    trial::tell(rt, sheet, &bytes[..n])
-}
-
-// Takes the page of the last house form before this trial, and answers that of the last behind it. A listing that is
-// handed in is read back, also an empty one; otherwise there is a table.
-fn told(
-    rt: &(impl Files + Print),
-    sheet: &[u8],
-    tab: &[u8],
-    lst: &[u8],
-    last: house::Page,
-) -> io::Result<house::Page> {
-    base::read(rt, sheet)?;
-    let next = house::tell(rt, sheet, last)?;
-    if files::is_there(rt, lst) {
-        listed(rt, sheet, lst)?;
-    } else {
-        tabled(rt, sheet, tab)?;
-    }
-    Ok(next)
-}
-
-// One byte more than a sheet may have.
-fn from_files(
-    rt: &(impl Files + Print),
-    csv: &[u8],
-    tab: &[u8],
-    lst: &[u8],
-    last: house::Page,
-) -> io::Result<house::Page> {
-    let mut sheet = [0u8; opening::SHEET_BYTES + 1];
-    let n = files::read(rt, csv, &mut sheet)?;
-    told(rt, &sheet[..n], tab, lst, last)
-}
+use std::{io, str};
 
 // The last digit of a number.
 fn digit(n: usize) -> u8 {
     b'0' + (n % 10) as u8
 }
 
-// The sheet in data/NNN.csv, and the listing in data/NNN.lst or the table in data/NNN.tab, where there is one.
+// The trial of this number has the sheet NNN.csv in data/, and the listing NNN.lst or the table NNN.tab, where there is
+// one.
+fn name(number: usize, kind: [u8; 3]) -> [u8; 7] {
+    let a = digit(number / 100);
+    let b = digit(number / 10);
+    let c = digit(number);
+    let [x, y, z] = kind;
+    [a, b, c, b'.', x, y, z]
+}
+
+// A name that is not UTF-8 would be that of no file.
+fn path(name: &[u8; 7]) -> &str {
+    str::from_utf8(name).unwrap_or("")
+}
+
+// One byte more than a listing may have, so that a longer one is seen to be longer.
+fn listed(rt: &(impl Files + Print), sheet: &[u8], lst: &str) -> io::Result<()> {
+    let mut printed = [0u8; opening::PRINTED_BYTES + 1];
+    let n = files::read(rt, lst, &mut printed)?;
+    back::tell(rt, sheet, &printed[..n])
+}
+
+fn tabled(rt: &(impl Files + Print), sheet: &[u8], tab: &str) -> io::Result<()> {
+    let mut bytes = [0u8; 1024];
+    let n = files::read(rt, tab, &mut bytes)?;
+    trial::tell(rt, sheet, &bytes[..n])
+}
+
+// Takes the page of the last house form before this trial, and leaves that of the last behind it. A listing that is
+// handed in is read back, also an empty one; otherwise there is a table.
+fn told(
+    rt: &(impl Files + Print),
+    sheet: &[u8],
+    number: usize,
+    last: &mut house::Page,
+) -> io::Result<()> {
+    base::read(rt, sheet)?;
+    house::tell(rt, sheet, last)?;
+    let lst = name(number, *b"lst");
+    if files::is_there(rt, path(&lst)) {
+        listed(rt, sheet, path(&lst))
+    } else {
+        tabled(rt, sheet, path(&name(number, *b"tab")))
+    }
+}
+
+// A trial: its number and title, and what its files make. One byte more than a sheet may have.
 fn numbered(
     rt: &(impl Files + Print),
     number: usize,
     title: &[u8],
-    last: house::Page,
-) -> io::Result<house::Page> {
-    let a = digit(number / 100);
-    let b = digit(number / 10);
-    let c = digit(number);
-    let name = [a, b, c, b' '];
-    let csv = [a, b, c, b'.', b'c', b's', b'v'];
-    let tab = [a, b, c, b'.', b't', b'a', b'b'];
-    let lst = [a, b, c, b'.', b'l', b's', b't'];
-    report::print(rt, &name)?;
-    report::print(rt, title)?;
-    report::print(rt, b"\n")?;
-    from_files(rt, &csv, &tab, &lst, last)
+    last: &mut house::Page,
+) -> io::Result<()> {
+    print!(rt; "{number:03} ")?;
+    rt.write_all(title)?;
+    println!(rt; "")?;
+    let mut sheet = [0u8; opening::SHEET_BYTES + 1];
+    let n = files::read(rt, path(&name(number, *b"csv")), &mut sheet)?;
+    told(rt, &sheet[..n], number, last)
 }
 
-// Each line is the title of a trial.
+// Each line is the title of a trial; numbers have three digits.
 fn trials(rt: &(impl Files + Print), titles: &[u8]) -> io::Result<()> {
     let mut last = [0u8; opening::SHEET_BYTES];
-    let mut number = 1;
-    let mut at = 0;
-    while at < titles.len() {
-        let end = end_of(titles, at, b'\n');
-        let next = numbered(rt, number, &titles[at..end], last)?;
-        last = next;
-        number += 1;
-        at = end + 1;
+    let lines = titles.strip_suffix(b"\n").unwrap_or(titles);
+    for (number, title) in (1..1000).zip(lines.split(|b| *b == b'\n')) {
+        numbered(rt, number, title, &mut last)?;
     }
     Ok(())
 }
 
 fn main(rt: HostRuntime) -> io::Result<()> {
     let mut text = [0u8; 65536];
-    let n = files::read(&rt, b"titles.txt", &mut text)?;
+    let n = files::read(&rt, "titles.txt", &mut text)?;
     trials(&rt, &text[..n])?;
-    let k = files::read(&rt, b"small.csv", &mut text)?;
+    let k = files::read(&rt, "small.csv", &mut text)?;
     small::all(&rt, &text[..k])
 }

@@ -1,10 +1,9 @@
 // What each request's file makes of a sheet and of a table, the one that is handed in or the solver's.
 ghost use Rattle.std.specs.Prelude.{◌≤◌, length};
-ghost use Rattle.network.specs.WellFormed.{WellFormed};
 
+use crate::due::Asked;
 use crate::{back, base, due};
-use network::Network;
-use sheet::Outcome;
+use network::accepted::Accepted;
 use std::io;
 
 // A table of bytes, two a minute.
@@ -19,38 +18,34 @@ fn handed_in(rt: &impl Print, sheet: &[u8], bytes: &[u8]) -> io::Result<()>
 }
 
 // The solver's table.
-fn solved(rt: &impl Print, sheet: &[u8], network: Network) -> io::Result<()>
-    requires { WellFormed network }
-{
-    let mut table = [0u16; opening::TABLE_MINUTES];
-    let n = report::solve(rt, b"solved ", sheet, &mut table)?;
-    if 0 < n {
-        report::list(rt, b"listed ", sheet, &table[..n])?;
-        back::again(rt, sheet, &table[..n])?;
-        due::play(rt, sheet, network, &table[..n])?;
-        due::ask(rt, sheet, network, &table[..n])?;
-    }
-    Ok(())
-}
-
-// Where the sheet is accepted.
-fn solve(rt: &impl Print, sheet: &[u8]) -> io::Result<()> {
-    let reading = sheet::read(sheet);
-    let outcome = reading.outcome;
-    let network = reading.network;
-    match outcome {
-        Outcome::Accepted => solved(rt, sheet, network),
-        Outcome::Refused(_) => Ok(()),
+fn solved(rt: &impl Print, accepted: &Accepted) -> io::Result<()> {
+    let sheet = accepted.sheet;
+    let mut minutes = [0u16; opening::TABLE_MINUTES];
+    match report::solve(rt, "solved ", sheet, &mut minutes)? {
+        Some(n) => {
+            let table = &minutes[..n];
+            report::list(rt, "listed ", sheet, table)?;
+            back::again(rt, sheet, table)?;
+            let asked = Asked {
+                accepted: *accepted,
+                table,
+            };
+            asked.play(rt)?;
+            asked.ask(rt)
+        }
+        None => Ok(()),
     }
 }
 
-// A table that is handed in, or the solver's. Where none is handed in, there are no bytes.
+// A table that is handed in, or the solver's, where the sheet is accepted. Where none is handed in, there are no bytes.
 pub fn tell(rt: &impl Print, sheet: &[u8], bytes: &[u8]) -> io::Result<()>
     requires { length bytes.now ≤ 1024 }
 {
-    if 0 < bytes.len() {
-        handed_in(rt, sheet, bytes)
-    } else {
-        solve(rt, sheet)
+    if !bytes.is_empty() {
+        return handed_in(rt, sheet, bytes);
+    }
+    match sheet::read(sheet) {
+        Ok(accepted) => solved(rt, &accepted),
+        Err(_) => Ok(()),
     }
 }

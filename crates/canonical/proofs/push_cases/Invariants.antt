@@ -1,9 +1,6 @@
 -- `canonical::push_cases` meets its contract: nothing where none is listed. Otherwise the invariant: behind the
--- section's first line, the lines of the events below u are written. The measure is the count of events left. Assumes
--- nothing.
-use mathlib.Core.Path.{◌≡◌}
-use Prim.Native.Nat.{◌-◌}
-use Rattle.page.proofs.Join.{Joining}
+-- section's first line, the lines of the events below u are written. Assumes nothing.
+use Rattle.page.proofs.Pushing.{Pushing}
 use Rattle.canonical.specs.Listed.{labelled_at}
 use Rattle.canonical.specs.Most.{most_case}
 use Rattle.canonical.proofs.Gathered.{line_by}
@@ -11,10 +8,7 @@ use Rattle.canonical.proofs.CaseLines.{line_of}
 use Rattle.canonical.proofs.push_cases.Given as goal
 
 abbrev pub invariant-loop-u : goal.invariant-loop-u
-invariant-loop-u l = Joining most_case (λ i. line_by (line_of l.sheet l.network) (labelled_at l.network i))
-    l.network.events l.initial.page l.initial.next l.u l.page
-    l.next
-    × (l.u-end ≡ l.network.events)
-
-abbrev pub decreases-loop-u : goal.decreases-loop-u
-decreases-loop-u l = l.network.events - l.u
+invariant-loop-u l =
+    let Γ = l.accepted.formed.network in
+    Pushing most_case (λ i. line_by (line_of l.accepted.sheet.now Γ) (labelled_at Γ i)) Γ.events l.initial.page l.u
+    l.page

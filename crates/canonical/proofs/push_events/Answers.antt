@@ -3,29 +3,28 @@ use mathlib.Core.List.{List, [], ◌∷◌, ◌++◌}
 use Prim.Native.Nat.{ℕ}
 use native.Mathlib.Omega.{arith}
 use Rattle.text.specs.Lines.{line_feed, line}
-use Rattle.page.proofs.Append.{append_both, append_as}
-use Rattle.page.proofs.Join.{join-next, join-all}
+use Rattle.page.proofs.Pushed.{pushed_both, pushed_as}
+use Rattle.page.proofs.Pushing.{pushing-next, pushing-all}
 use Rattle.network.specs.Build.{name_of_lem}
 use Rattle.prelude.proofs.Mapped.{map-tabulate}
-use Rattle.canonical.proofs.Sections.{section_appended}
+use Rattle.canonical.proofs.Sections.{section_pushed}
 use Rattle.canonical.proofs.push_events.Goals as goal
 
 pub loop-u-preserved : goal.loop-u-preserved
-loop-u-preserved c = (
-  join-next c.loop-u.invariant.0 {j = 9} (omega arith)
-      (append_as
-      (ap (λ (t : List ℕ). t ++ line_feed ∷ []) c.name_of.ensures.0)
-      (append_both c.push_all-next.ensures c.push-next.ensures)
-      (omega (arith, c.name_of.ensures.1)))
-      (omega arith),
-  c.loop-u.invariant.1,
-)
+loop-u-preserved c =
+    pushing-next c.loop-u.invariant {j = 9} (omega arith)
+    (pushed_as
+    (ap (λ (t : List ℕ). t ++ line_feed ∷ []) c.name.ensures.0)
+    (pushed_both c.push_all.ensures c.push.ensures)
+    (omega (arith, c.name.ensures.1)))
+    (omega arith)
 
 pub returns : goal.returns
 returns c =
-    let args = c.args in
-    section_appended "events" _ args.network.events (λ i. line (name_of_lem args.network args.sheet.now i) [])
-    (map-tabulate (λ n. line n []) (name_of_lem args.network args.sheet.now) args.network.events)
-    c.push_count-next.ensures
-    (join-all c.loop-u.invariant.0 (omega arith))
-    (omega arith)
+    let sheet = c.args.accepted.now.sheet.now in
+    let Γ = c.args.accepted.now.formed.network in
+    section_pushed "events" _ Γ.events (λ i. line (name_of_lem Γ sheet i) [])
+    (map-tabulate (λ n. line n []) (name_of_lem Γ sheet) Γ.events)
+    c.push_count.ensures
+    (pushing-all c.loop-u.invariant (omega arith))
+    (omega (arith, c.args.accepted.now.formed.well_formed.events))

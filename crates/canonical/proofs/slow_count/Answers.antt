@@ -1,28 +1,18 @@
-use mathlib.Core.Path.{sym, ◌∙◌}
+-- `canonical::slow_count` meets its contract: the chain counts the stated reactions that are listed. Assumes nothing.
+use mathlib.Core.Path.{◌≡◌, ◌∙◌}
+use mathlib.Core.Bool.{not}
 use native.Mathlib.Omega.{arith}
-use Rattle.canonical.proofs.SlowLines.{slow_more, slow_skip}
-use Rattle.canonical.proofs.slow_count.Goals.{then-reaction_of-ne-FASTEST, else-reaction_of-ne-FASTEST}
+use lib.Dec.{eqb}
+use lib.ListN.{take}
+use Rattle.std.proofs.Common.{rules, count_by}
+use Rattle.network.specs.Strategy.{reaction_of_lem}
+use Rattle.canonical.proofs.SlowLines.{slow_counted}
 use Rattle.canonical.proofs.slow_count.Goals as goal
 
-pub loop-p-preserved : goal.loop-p-preserved
-loop-p-preserved c =
-    let Γ = c.args.network in
-    let is = c.reaction_of.ensures in
-    let inv = c.loop-p.invariant in (
-      elim c.if-reaction_of-ne-FASTEST.branch [
-        | then-reaction_of-ne-FASTEST w ↦ omega (
-          arith,
-          inv.0,
-          slow_more Γ c.loop-p.p
-              (λ e. w.if-reaction_of-ne-FASTEST.true (is ∙ e)),
-        )
-        | else-reaction_of-ne-FASTEST w ↦ omega (
-          arith,
-          inv.0,
-          slow_skip Γ c.loop-p.p
-              (sym is ∙ w.if-reaction_of-ne-FASTEST.false),
-        )
-      ],
-      omega (arith, c.loop-p-test.true, inv.2),
-      inv.2,
-    )
+pub returns : goal.returns
+returns c =
+    let formed = c.args.formed.now in
+    let Γ = formed.network in
+    let counted : c.count.result
+    ≡ count_by (λ x. not (eqb (reaction_of_lem x) 1)) (take Γ.signals Γ.reactions) = search rules in
+    counted ∙ slow_counted Γ (omega (arith, formed.well_formed.signals, formed.well_formed.arrays.reactions))

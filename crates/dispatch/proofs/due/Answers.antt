@@ -1,19 +1,19 @@
 use mathlib.Core.Path.{sym, ◌∙◌, ap}
 use native.Mathlib.Omega.{arith}
-use Rattle.dispatch.specs.declared.Dispatched.TheVariants.{Events}
+use Rattle.std.proofs.Common.{Ok}
 use Rattle.dispatch.proofs.Core.{misnamed-on, hearing_on, heard-on, never_on}
 use Rattle.dispatch.proofs.due.Goals as goal
 
-pub returns-then-not-well_named : goal.returns-then-not-well_named
-returns-then-not-well_named c =
+pub returns-then-not-is_well_named : goal.returns-then-not-is_well_named
+returns-then-not-is_well_named c =
     let a = c.args in
-    misnamed-on a.network a.table.now a.minute a.said (sym c.well_named.ensures
-    ∙ c.if-not-well_named.true)
+    misnamed-on a.formed.now.network a.table.now a.minute a.said.mask (sym c.is_well_named.ensures
+    ∙ c.if-not-is_well_named.true)
 
 pub returns-then-has_heard : goal.returns-then-has_heard
 returns-then-has_heard c =
     let inv = c.loop-s.invariant in
-    ap Events c.due_in.ensures
+    ap Ok c.due_in.ensures
     ∙ heard-on inv (omega arith) (rw (← c.has_heard.ensures) c.if-has_heard.true)
 
 pub loop-s-preserved : goal.loop-s-preserved

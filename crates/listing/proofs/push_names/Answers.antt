@@ -1,11 +1,10 @@
 use native.Mathlib.Omega.{arith}
-use Rattle.network.proofs.Names.{part-from, name-short}
-use Rattle.page.proofs.Join.{join-next}
+use Rattle.network.proofs.Names.{name-short}
+use Rattle.page.proofs.Pushing.{pushing-next}
 use Rattle.listing.proofs.push_names.Goals as goal
 
 pub loop-u-preserved : goal.loop-u-preserved
-loop-u-preserved c =
-    let inv = c.loop-u.invariant in
-    let short =
-    name-short c.args.network c.args.sheet.now c.loop-u.u c.requires.1 (omega arith) in
-    (join-next inv.0 (omega arith) (rw part-from at c.push_field-next.ensures) (omega arith), inv.1)
+loop-u-preserved g c =
+    let accepted = c.args.accepted.now in
+    let short = name-short accepted.formed.network accepted.sheet.now c.loop-u.u accepted.named (omega arith) in
+    pushing-next c.loop-u.invariant (omega arith) (rw c.name.ensures.0 at c.push_field.ensures) (omega arith)

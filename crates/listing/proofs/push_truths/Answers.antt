@@ -1,25 +1,14 @@
-use mathlib.Core.Path.{◌≡◌, sym}
-use Prim.Native.Nat.{◌/◌, ◌^◌}
 use native.Mathlib.Omega.{arith}
-use Rattle.listing.specs.Line.{mark_of_lem}
-use Rattle.page.proofs.Append.{append_as}
-use Rattle.page.proofs.Join.{join-next, join-all}
-use Rattle.network.proofs.Scenario.{halved_more}
+use Rattle.page.proofs.Pushed.{pushed_as}
+use Rattle.page.proofs.Pushing.{pushing-next, pushing-all}
 use Rattle.listing.proofs.Truths.{scenario_text-some}
 use Rattle.listing.proofs.push_truths.Goals as goal
 
 pub loop-p-preserved : goal.loop-p-preserved
-loop-p-preserved c =
-    let s = c.args.s in
-    let right : mark_of_lem (s / 2 ^ c.loop-p.p) ≡ c.mark_of.result =
-    sym (rw (← c.loop-p.invariant.1) c.mark_of.ensures) in (
-      join-next c.loop-p.invariant.0 (omega arith) (rw (← right) at c.push-next.ensures) (omega arith),
-      rw c.loop-p.invariant.1 (halved_more s c.loop-p.p),
-    )
+loop-p-preserved g c =
+    pushing-next c.loop-p.invariant (omega arith) (rw c.mark_of.ensures at c.push-in-loop-p.ensures) (omega arith)
 
 pub returns : goal.returns
-returns c =
-    let args = c.args in
-    append_as (scenario_text-some args.s args.signals c.if-signals-eq0.false) (join-all c.loop-p.invariant.0
-    (omega arith))
-    (omega arith)
+returns g c =
+    pushed_as (scenario_text-some c.args.s c.args.signals c.if-signals-eq0.false)
+    (pushing-all c.loop-p.invariant (omega arith)) (omega arith)

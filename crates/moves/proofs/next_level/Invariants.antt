@@ -1,11 +1,9 @@
--- `next_level` meets its contract. The invariant: r is the least level above l of the first i cells. The measure is
--- what is left of the cells. Assumes nothing.
-use Prim.Native.Nat.{◌-◌, ◌≤◌}
-use Rattle.moves.specs.Levels.{NextLevel}
+-- `next_level` meets its contract. The invariant: of the rises so far, `next` is the least level above l. Assumes
+-- nothing.
+use Rattle.std.proofs.Common.{MatchOption}
+use Rattle.moves.specs.Levels.{Highest, NextLevel}
 use Rattle.moves.proofs.next_level.Given as goal
 
-abbrev pub invariant-loop-i : goal.invariant-loop-i
-invariant-loop-i l = (l.i ≤ l.cells) × NextLevel l.d l.l l.i l.r
-
-abbrev pub decreases-loop-i : goal.decreases-loop-i
-decreases-loop-i l = l.cells - l.i
+abbrev pub invariant-loop-rise : goal.invariant-loop-rise
+invariant-loop-rise l =
+    MatchOption l.next (Highest l.d l.l l.rise-index) (λ r. NextLevel l.d l.l l.rise-index r)

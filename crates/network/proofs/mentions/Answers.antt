@@ -4,4 +4,5 @@ use Rattle.network.proofs.mentions.Goals as goal
 
 pub returns : goal.returns
 returns c =
-    mentions-bits c.args.label c.args.p c.requires.0 c.requires.1 c.requires.2
+    rw c.from-letters.ensures
+    (mentions-bits c.args.label c.args.p c.requires.0 c.requires.1 c.requires.2)

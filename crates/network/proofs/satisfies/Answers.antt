@@ -7,12 +7,14 @@ pub returns-then-s-positive : goal.returns-then-s-positive
 returns-then-s-positive c =
     rw (
       ← satisfies-bits c.args.s c.args.label c.requires.0 c.requires.1 c.requires.2,
-      ne_eqb _ _ c.if-s-positive.true,
+      c.from-negative.ensures,
+      eq-eqb _ _ (rw c.from-positive.ensures at c.if-s-positive.true),
     )
 
-pub returns : goal.returns
-returns c =
+pub returns-else-s-positive : goal.returns-else-s-positive
+returns-else-s-positive c =
     rw (
       ← satisfies-bits c.args.s c.args.label c.requires.0 c.requires.1 c.requires.2,
-      eq-eqb _ _ c.if-s-positive.false,
+      c.from-positive.ensures,
+      ne_eqb _ _ (rw c.from-positive.ensures at c.if-s-positive.false),
     )

@@ -1,4 +1,4 @@
--- `dispatch::said` makes a mask of the list, and `events_due_on` answers by the mask: that is the answer by the list.
+-- `Said::of` makes a mask of the list, and `events_due_on` answers by the mask: that is the answer by the list.
 use mathlib.Core.Path.{◌∙◌, ap}
 use Rattle.calls.specs.Play.{events_due_on_lem}
 use Rattle.calls.proofs.Play.{events-due-said}
@@ -8,5 +8,5 @@ pub returns : goal.returns
 returns c =
     let a = c.args in
     c.events_due_on.ensures
-    ∙ ap (events_due_on_lem a.sheet.now a.table.now a.minute) c.said.ensures
+    ∙ ap (events_due_on_lem a.sheet.now a.table.now a.minute) c.of.ensures
     ∙ events-due-said a.sheet.now a.table.now a.minute a.heard.now

@@ -1,44 +1,38 @@
 -- `opening::events_due_on` meets its contract: where the table is handed in rightly and passes, the player answers.
 -- Assumes nothing.
-use mathlib.Core.Path.{sym, ◌∙◌}
-use Rattle.opening.proofs.Prologue.{right}
+use mathlib.Core.Path.{sym, ◌∙◌, ap}
+use Rattle.calls.specs.Play.{is_pass}
+use Rattle.opening.specs.Prologue.{of_unheard}
+use Rattle.opening.proofs.Prologue.{handed_on, right, lettered-read}
+use Rattle.opening.proofs.Leaves.{refused_by}
 use Rattle.opening.proofs.Playing.{due-refused, due_fails, due-answers}
 use Rattle.opening.proofs.events_due_on.Goals as goal
 
-pub returns-in-Refused : goal.returns-in-Refused
-returns-in-Refused c =
-    let args = c.args in
-    let read = c.handed_in-reading in
-    due-refused args.sheet.now args.table.now args.minute args.said read.result read.ensures
-    c.in-Refused.refusal c.in-Refused.is
+pub returns-in_err-accepted : goal.returns-in_err-accepted
+returns-in_err-accepted c =
+    rw (handed_on c.from_residual.result _ c.from_residual.ensures.1)
+    (due-refused _ _ _ _ _ c.in_err-accepted.ensures)
 
-pub check-verdict-requires : goal.check-verdict-requires
-check-verdict-requires c =
-    let args = c.args in
-    let read = c.handed_in-reading in
-    let r = right args.sheet.now args.table.now read.result read.ensures c.in_default.is in
-    (r.well_formed, r.sized)
+pub check-requires : goal.check-requires
+check-requires c = (right _ _ _ c.in_ok-accepted.ensures.1).1
 
 pub due-requires : goal.due-requires
 due-requires c =
-    let args = c.args in
-    let read = c.handed_in-reading in
-    let r = right args.sheet.now args.table.now read.result read.ensures
-    c.in_default.is in
-    (r.well_formed, r.sized, r.lettered)
-
-pub returns-in-Pass : goal.returns-in-Pass
-returns-in-Pass c =
-    let args = c.args in
-    let read = c.handed_in-reading in
-    rw (c.answer_to.ensures, c.due.ensures)
-    (due-answers args.sheet.now args.table.now args.minute args.said read.result read.ensures
-    c.in_default.is (sym c.check-verdict.ensures ∙ c.in-Pass.is))
+    let r = right _ _ _ c.in_ok-accepted.ensures.1 in
+    (r.1, lettered-read _ _ r.0)
 
 pub returns-in-Breach : goal.returns-in-Breach
 returns-in-Breach c =
-    let args = c.args in
-    let read = c.handed_in-reading in
     rw c.without_line.ensures
-    (due_fails args.sheet.now args.table.now args.minute args.said read.result read.ensures
-    c.in_default.is _ (sym c.check-verdict.ensures ∙ c.in-Breach.is))
+    (due_fails _ _ _ _ _ c.in_ok-accepted.ensures.1 (ap is_pass (sym c.check.ensures ∙ c.in-Breach.is)))
+
+pub returns-in-Ok : goal.returns-in-Ok
+returns-in-Ok c =
+    ap (refused_by of_unheard) (sym c.in-Ok.is ∙ c.due.ensures)
+    ∙ due-answers _ _ _ _ _ c.in_ok-accepted.ensures.1 (sym c.in_default.ensures)
+
+pub returns-in-Err : goal.returns-in-Err
+returns-in-Err c =
+    rw c.of_unheard.ensures
+    (ap (refused_by of_unheard) (sym c.in-Err.is ∙ c.due.ensures)
+    ∙ due-answers _ _ _ _ _ c.in_ok-accepted.ensures.1 (sym c.in_default.ensures))

@@ -1,29 +1,20 @@
--- `opening::write_house` meets its contract: the outcome of the reading, then whether the rows fit, then what the
--- writer did. Assumes nothing.
+-- `opening::write_house` meets its contract: the sheet, then whether the rows fit, then what the writer did. Assumes
+-- nothing.
 use mathlib.Core.Path.{sym, ◌∙◌}
-use borrow.Author.Tests.{not-false}
-use Rattle.calls.proofs.Call.{well_formed}
-use Rattle.opening.proofs.Leaves.{house-written}
+use Rattle.opening.proofs.Prologue.{handed_on}
+use Rattle.opening.proofs.Leaves.{house_refused, house-written}
 use Rattle.opening.proofs.write_house.Goals as goal
 
-pub remaining-rows-requires : goal.remaining-rows-requires
-remaining-rows-requires c =
-    let read = c.read-reading in
-    (well_formed c.args.sheet.now read.result read.ensures c.in_default.is).0
+pub returns-in_err-accepted : goal.returns-in_err-accepted
+returns-in_err-accepted c =
+    rw (handed_on c.from_residual.result _ c.from_residual.ensures.1)
+    (house_refused _ _ _ c.in_err-accepted.ensures)
 
 pub write-requires : goal.write-requires
-write-requires c =
-    let remaining = c.remaining-rows in
-    let w = well_formed c.args.sheet.now c.read-reading.result c.read-reading.ensures
-    c.in_default.is in
-    (w.0, w.1, remaining.ensures, not-false _ c.if-not-rows.false)
+write-requires c = sym c.in-Some.is ∙ c.remaining.ensures
 
 pub returns : goal.returns
 returns c =
-    let args = c.args in
-    let remaining = c.remaining-rows in
-    rw c.handed_out.ensures
-    (house-written args.sheet.now args.out.now c.read-reading.result c.read-reading.ensures
-    c.in_default.is
-    (sym remaining.ensures.fits ∙ not-false _ c.if-not-rows.false)
-    c.write.new.out c.write.result c.write.ensures)
+    let read = c.in_ok-accepted.ensures in
+    rw (c.ok_or.ensures.value, c.without_line-2.ensures)
+    (house-written _ _ _ read.1 _ (sym c.in-Some.is ∙ c.remaining.ensures) _ _ (rw read.0 at c.write.ensures))

@@ -1,21 +1,19 @@
 -- `opening::write_listing` meets its contract: where the table is handed in rightly, the writer writes or has no room.
 -- Assumes nothing.
-use Rattle.opening.proofs.Prologue.{right}
-use Rattle.opening.proofs.Leaves.{listing-written}
+use Rattle.opening.proofs.Prologue.{handed_on, right}
+use Rattle.opening.proofs.Leaves.{listing-refused, listing-written}
 use Rattle.opening.proofs.write_listing.Goals as goal
 
 pub write-requires : goal.write-requires
-write-requires c =
-    let args = c.args in
-    let read = c.handed_in-reading in
-    let r = right args.sheet.now args.table.now read.result read.ensures
-    c.in-Accepted.is in
-    (r.well_formed, r.named, r.sized)
+write-requires c = (right _ _ _ c.in_ok-accepted.ensures.1).1
 
-pub returns-in-Accepted : goal.returns-in-Accepted
-returns-in-Accepted c =
-    let args = c.args in
-    let read = c.handed_in-reading in
-    rw c.handed_out.ensures
-    (listing-written args.sheet.now args.table.now args.out.now read.result read.ensures
-    c.in-Accepted.is c.write.new.out c.write.result c.write.ensures)
+pub returns-in_err-accepted : goal.returns-in_err-accepted
+returns-in_err-accepted c =
+    rw (handed_on c.from_residual.result _ c.from_residual.ensures.1)
+    (listing-refused _ _ _ _ c.in_err-accepted.ensures)
+
+pub returns : goal.returns
+returns c =
+    let read = c.in_ok-accepted.ensures in
+    rw (c.ok_or.ensures.value, c.without_line.ensures)
+    (listing-written _ _ _ _ read.1 _ _ (rw read.0 at c.write.ensures))

@@ -1,16 +1,15 @@
+use mathlib.Core.Path.{◌≡◌}
 use native.Mathlib.Omega.{arith}
 use lib.ListN.{length-set}
+use Rattle.pairs.specs.Pairs.{pair_at}
 use Rattle.pairs.proofs.Packing.{unpack_step, short-more}
 use Rattle.pairs.proofs.unpack.Goals as goal
 
 pub loop-i-preserved : goal.loop-i-preserved
 loop-i-preserved c =
-    let args = c.args in (
-      omega arith,
-      simp length-set c.loop-i.invariant.1,
-      unpack_step args.bytes.now args.table.now c.loop-i.table c.loop-i.i c.minute.result
-          c.loop-i.invariant.2
-          (omega arith) c.minute.ensures,
-      short-more args.bytes.now c.loop-i.i c.minute.result c.loop-i.invariant.3 c.minute.ensures
-          (omega arith),
+    let here = c.loop-i in let bytes = c.args.bytes.now in let minute = c.from_le_bytes.result in
+    let is : minute ≡ pair_at bytes here.i = omega (arith, c.from_le_bytes.ensures) in (
+      simp length-set here.invariant.0,
+      unpack_step bytes c.args.table.now here.table here.i minute here.invariant.1 (omega arith) is,
+      short-more bytes here.i minute here.invariant.2 is (omega arith),
     )

@@ -1,12 +1,8 @@
 -- `readback::read_row` meets its contract: the texts are read one by one, each from behind the comma that ends the
--- field before it. The invariant, `Row_reading`: the texts below u are minutes and stand in their cells, and `at` is
--- the end of the field before text u. The measure is the count of events left. Assumes nothing.
-use Prim.Native.Nat.{◌-◌}
+-- field before it. The invariant, `Row_reading`: the texts before this one are minutes and stand in their cells, and
+-- `at` is the end of the field before this text. Assumes nothing.
 use Rattle.readback.proofs.Fielding.{Row_reading}
 use Rattle.readback.proofs.read_row.Given as goal
 
-abbrev pub invariant-loop-u : goal.invariant-loop-u
-invariant-loop-u l = Row_reading l.line l.events l.first l.initial.times l.times l.at l.u
-
-abbrev pub decreases-loop-u : goal.decreases-loop-u
-decreases-loop-u l = l.events - l.u
+abbrev pub invariant-loop-cell : goal.invariant-loop-cell
+invariant-loop-cell l = Row_reading l.line l.initial.row l.row l.at l.cell-index

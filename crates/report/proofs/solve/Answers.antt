@@ -6,12 +6,12 @@ use Rattle.report.proofs.solve.Goals as goal
 
 pub returns-clause-ok : goal.returns-clause-ok
 returns-clause-ok g c =
-    let written = c.solve_sheet-written in
+    let written = c.solve_sheet in
     part written.result written.new.table c.count.result c.count.ensures.ok
     (solving-counted c.args.sheet.now c.args.table.now written.ensures)
 
 pub returns-clause-err : goal.returns-clause-err
 returns-clause-err g c =
-    let written = c.solve_sheet-written in
+    let written = c.solve_sheet in
     untouched written.result written.new.table c.count.result c.count.ensures.err written.ensures
     (numbers.solver c.args.sheet.now c.args.table.now).keeps

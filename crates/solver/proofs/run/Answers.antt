@@ -1,83 +1,73 @@
-use Rattle.std.proofs.Common.{◌+◌, arith}
-use Rattle.rounds.proofs.Usable.{scenarios_in}
-use Rattle.rounds.proofs.Effects.{rounded_as}
-use Rattle.solver.proofs.Underway.{Underway, underway_turn, underway_leapt, all_of}
+use Rattle.std.proofs.Common.{◌≡◌, ◌+◌, ◌∙◌, arith}
+use Rattle.solver.proofs.Underway.{Underway, underway_on, all_there}
 use Rattle.solver.proofs.Underway.{ended_passing, ended_resting, ended-later, ended_spent}
-use Rattle.solver.proofs.run.Goals.{After-keep-at, After-pass_over-made}
+use Rattle.solver.proofs.run.Goals.{After-pursue-rounds}
 use Rattle.solver.proofs.run.Goals as goal
 
--- a turn up to what it passes over
-turned : (d : After-keep-at) → let args = d.args in
-    Underway args.frame args.counts.now args.lists.now args.a.now d.keep-at.new.base
-    d.copy.new.a d.keep-at.result (d.loop-rounds.rounds + 1)
+-- after a turn, with the rounds that it passed over
+same : (d : After-pursue-rounds) → d.pursue-rounds.new.stretch.compiled.now ≡ d.args.compiled.now
+same d = d.pursue-rounds.ensures.1 ∙ (d.advance.ensures.0 ∙ d.loop-rounds.invariant.4)
+
+turned : (d : After-pursue-rounds) → let after = d.pursue-rounds.new.stretch in
+    Underway d.args.compiled.now.frame.network d.args.a.now after.base after.rounds
+    (d.loop-rounds.rounds + 1 + d.pursue-rounds.result)
 turned d =
-    underway_turn d.loop-rounds.invariant.5 d.requires.0
-    d.in-Rises.is
-    d.round.ensures d.cells_of-cells.ensures.0 d.copy.ensures
-    d.keep-at.ensures
-
--- and with the rounds that it passed over
-leapt : (d : After-pass_over-made) → let args = d.args in
-    Underway args.frame args.counts.now args.lists.now args.a.now d.pass_over-made.new.a
-    d.pass_over-made.new.x (d.keep-at.result + d.pass_over-made.result)
-    (d.loop-rounds.rounds + 1 + d.pass_over-made.result)
-leapt d =
-    underway_leapt (turned (goal.at.After-pass_over-made d).After-keep-at) d.pass_over-made.ensures.1
-    d.pass_over-made.ensures.2
-
-pub cells_of-cells-requires : goal.cells_of-cells-requires
-cells_of-cells-requires c =
-    scenarios_in c.requires.0
+    let here = d.loop-rounds.invariant in
+    let one = d.advance.ensures in
+    underway_on here.5 (rw (one.0, here.4, one.1, one.2) at d.pursue-rounds.ensures.2)
 
 pub returns-in-Passes : goal.returns-in-Passes
 returns-in-Passes c =
-    let G = c.loop-rounds.invariant.5 in (
-      G.from_base.times.sized,
-      λ Γ C. ended_passing (all_of G) Γ C _ _ (omega (arith, c.loop-rounds-test.true))
-          (rounded_as c.in-Passes.is (c.round.ensures Γ C)),
+    let here = c.loop-rounds.invariant in (
+      here.3,
+      ended_passing (all_there here.4 here.5 c.loop-rounds.stretch.led) _ _ c.loop-rounds-test.true c.in-Passes.ensures,
     )
 
 pub returns-in-Rests : goal.returns-in-Rests
 returns-in-Rests c =
-    let G = c.loop-rounds.invariant.5 in (
-      G.from_base.times.sized,
-      λ Γ C. ended_resting (all_of G) Γ C _ _ (omega (arith, c.loop-rounds-test.true))
-          (rounded_as c.in-Rests.is (c.round.ensures Γ C)),
+    let here = c.loop-rounds.invariant in
+    let led = c.loop-rounds.stretch.led in (
+      led.times.sized,
+      ended_resting (all_there here.4 here.5 led) _ _ c.loop-rounds-test.true c.in-Rests.ensures,
     )
 
-pub pass_over-made-requires : goal.pass_over-made-requires
-pass_over-made-requires c =
-    let d = (goal.at.pass_over-made-requires c).After-keep-at in
-    let K = turned d in
-    (c.requires.0, K.to_base.times, K.from_base)
+pub returns-in-Some-finish : goal.returns-in-Some-finish
+returns-in-Some-finish c =
+    let d = (goal.at.returns-in-Some-finish c).After-pursue-rounds in
+    let end = c.in-Some-finish.ensures in (
+      c.loop-rounds.invariant.3,
+      ended-later (all_there (same d) (turned d) c.pursue-rounds.new.stretch.led) _ _
+          (omega (arith, c.loop-rounds-test.true, c.pursue-rounds.ensures.0, end.0)) end.1,
+    )
 
-pub returns-then-last-gt0 : goal.returns-then-last-gt0
-returns-then-last-gt0 c =
-    let d = (goal.at.returns-then-last-gt0 c).After-pass_over-made in
-    let taken = c.loop-rounds-test.true in
-    let J = leapt d in (
-      J.from_base.times.sized,
-      λ Γ C. ended-later (all_of J) Γ C _ _
-          (omega (arith, taken, c.pass_over-made.ensures.0, c.finish-last.ensures.0))
-          (c.finish-last.ensures.1 c.if-last-gt0.true),
+pub loop-rounds-preserved-in_default-finish : goal.loop-rounds-preserved-in_default-finish
+loop-rounds-preserved-in_default-finish c =
+    let d = (goal.at.loop-rounds-preserved-in_default-finish c).After-pursue-rounds in
+    let here = c.loop-rounds.invariant in (
+      omega (arith, c.loop-rounds-test.true, c.pursue-rounds.ensures.0),
+      omega (arith, here.1),
+      c.round.ensures.sized,
+      here.3,
+      same d,
+      turned d,
     )
 
 pub loop-rounds-preserved : goal.loop-rounds-preserved
 loop-rounds-preserved c =
-    let d = (goal.at.loop-rounds-preserved c).After-pass_over-made in
-    let usable = c.requires.0 in
-    let round = c.round in (
-      omega (arith, c.loop-rounds-test.true, c.pass_over-made.ensures.0),
-      (round.ensures usable.network usable.compiled).sized,
-      c.watch-w.ensures,
-      c.follow-v.ensures.0,
-      c.follow-v.ensures.1,
-      (leapt d),
+    let d = (goal.at.loop-rounds-preserved c).After-pursue-rounds in
+    let here = c.loop-rounds.invariant in (
+      omega (arith, c.loop-rounds-test.true, c.pursue-rounds.ensures.0),
+      omega (arith, here.1),
+      c.round.ensures.sized,
+      here.3,
+      same d,
+      turned d,
     )
 
 pub returns : goal.returns
 returns c =
-    let G = c.loop-rounds.invariant.5 in (
-      G.from_base.times.sized,
-      λ Γ C. ended_spent (all_of G) Γ C _ _ (omega (arith, c.loop-rounds.invariant.0, c.loop-rounds-test.false)),
+    let here = c.loop-rounds.invariant in
+    let led = c.loop-rounds.stretch.led in (
+      led.times.sized,
+      ended_spent (all_there here.4 here.5 led) _ _ (omega (arith, here.0, c.loop-rounds-test.false)),
     )

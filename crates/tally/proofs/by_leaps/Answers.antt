@@ -3,5 +3,4 @@ use Rattle.solver.proofs.Solving.{zero-times}
 use Rattle.tally.proofs.by_leaps.Goals as goal
 
 pub run-ended-requires : goal.run-ended-requires
-run-ended-requires c =
-    (c.requires, zero-times _ _ _)
+run-ended-requires c = zero-times _

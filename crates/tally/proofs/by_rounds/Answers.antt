@@ -1,13 +1,19 @@
-use Rattle.std.proofs.Common.{refl, arith}
-use Rattle.rounds.proofs.Usable.{scenarios_in}
+use Rattle.std.proofs.Common.{◌≡◌, ◌*◌, refl, arith}
+use Rattle.network.specs.Build.{scenarios}
+use Rattle.moves.proofs.Moves.{wrote-times}
+use Rattle.moves.proofs.Fronts.{copied}
 use Rattle.solver.proofs.Solving.{zero-times}
 use Rattle.tally.proofs.by_rounds.Goals as goal
 
-pub loop-rounds-init : goal.loop-rounds-init
-loop-rounds-init c =
-    (omega arith, refl, zero-times _ _ _)
+pub loop-made-init : goal.loop-made-init
+loop-made-init c = zero-times _
 
-pub copy-requires : goal.copy-requires
-copy-requires c =
-    let pre = c.requires in
-    (omega (arith, scenarios_in pre), c.loop-rounds.invariant.2.sized)
+pub loop-made-preserved : goal.loop-made-preserved
+loop-made-preserved c =
+    let frame = c.args.compiled.now.frame in
+    let one = c.in-Rises.ensures in
+    let cells : c.cells-cells.result ≡ scenarios frame.network * 16 =
+    omega (arith, c.cells-cells.ensures.0, frame.scenarios_are) in
+    wrote-times _ (one.times refl) c.loop-made.invariant.sized
+    (rw cells at (copied _ (omega (arith, one.sized, c.cells-cells.ensures.1)) c.copy.ensures))
+    (λ i h. omega arith)

@@ -1,11 +1,6 @@
--- `by_rounds` is safe: a round may go from a, which holds zeros or what a round made. The measure is what is left of
--- the budget. Assumes nothing.
-use Rattle.std.proofs.Common.{◌≡◌, ◌-◌, ◌≤◌, length}
-use Rattle.rows.specs.Rows.{FrameTimes}
+-- `by_rounds` is safe: a round may go from a, which holds zeros or what a round made. Assumes nothing.
+use Rattle.rows.specs.Rows.{Times}
 use Rattle.tally.proofs.by_rounds.Given as goal
 
-abbrev pub invariant-loop-rounds : goal.invariant-loop-rounds
-invariant-loop-rounds l = (l.rounds ≤ 2580481) × (length l.b ≡ 256) × FrameTimes l.frame l.a
-
-abbrev pub decreases-loop-rounds : goal.decreases-loop-rounds
-decreases-loop-rounds l = 2580481 - l.rounds
+abbrev pub invariant-loop-made : goal.invariant-loop-made
+invariant-loop-made l = Times l.compiled.frame.network l.a

@@ -1,41 +1,28 @@
-use native.Mathlib.Omega.{arith}
-use Rattle.rounds.proofs.Usable.{scenarios_in}
-use Rattle.rounds.proofs.Effects.{rounded_as}
+use Rattle.std.proofs.Common.{◌≡◌, ◌*◌, arith}
+use Rattle.network.specs.Build.{scenarios}
+use Rattle.moves.proofs.Fronts.{copied}
 use Rattle.leap.proofs.Tables.{advanced_join, advanced_round, advanced_copied}
 use Rattle.leap.proofs.Passing.{closing_of}
 use Rattle.leap.proofs.pace.closing.Goals as goal
 
 pub returns-in-Passes : goal.returns-in-Passes
 returns-in-Passes c =
-    let low = c.loop-q.invariant.2 in
-    let high = c.loop-q.invariant.3 in (
-      omega (arith, c.loop-q-test.true),
-      low.times.sized,
-      high.times.sized,
-      λ _. closing_of low high (λ Γ C. rounded_as c.in-Passes.is (c.round.ensures Γ C)),
-    )
-
-pub copy-requires : goal.copy-requires
-copy-requires c =
-    let pre = c.requires in
-    (omega (arith, scenarios_in pre.0), c.loop-q.invariant.2.times.sized)
-
-pub copy-requires-in-loop-q : goal.copy-requires-in-loop-q
-copy-requires-in-loop-q c =
-    let pre = c.requires in
-    (omega (arith, scenarios_in pre.0), c.loop-q.invariant.3.times.sized)
+    let here = c.loop-q.invariant in
+    (omega arith, omega (arith, c.loop-q-test.true), closing_of here.1 here.2 c.in-Passes.ensures)
 
 pub loop-q-preserved : goal.loop-q-preserved
 loop-q-preserved c =
-    let round2 = c.round-in-loop-q in
-    let copy = c.copy in
-    let round = c.round in
-    let pre = c.requires in
-    let one = advanced_round pre.0 (λ Γ C. rounded_as c.in-Rises.is (round.ensures Γ C)) in
-    let two = advanced_round pre.0 (λ Γ C. rounded_as c.in-Rises-round.is (round2.ensures Γ C)) in (
-      omega (arith, c.loop-q-test.true),
-      two.times.sized,
-      advanced_join c.loop-q.invariant.2 (advanced_copied one c.loop-q.invariant.2.times.sized copy.ensures),
-      advanced_join c.loop-q.invariant.3 (advanced_copied two c.loop-q.invariant.3.times.sized
-          c.copy-in-loop-q.ensures),
+    let frame = c.args.compiled.now.frame in
+    let few = frame.formed.events in
+    let here = c.loop-q.invariant in
+    let one = c.in-Rises.ensures in
+    let two = c.in-Rises-round.ensures in
+    let short = c.cells-cells.ensures.1 in
+    let cells : c.cells-cells.result ≡ scenarios frame.network * 16 =
+    omega (arith, c.cells-cells.ensures.0, frame.scenarios_are) in (
+      two.sized,
+      advanced_copied few (advanced_join here.1 (advanced_round one)) here.1.times.sized
+          (rw cells at (copied _ (omega (arith, one.sized, short)) c.copy.ensures)),
+      advanced_copied few (advanced_join here.2 (advanced_round two)) here.2.times.sized
+          (rw cells at (copied _ (omega (arith, two.sized, short)) c.copy-in-loop-q.ensures)),
     )

@@ -1,53 +1,27 @@
 -- `finish` meets its contract: rises clipped to the two bounds are rises that rounds may go from. Assumes nothing.
-use mathlib.Core.Path.{refl}
-use native.Mathlib.Omega.{arith}
-use Rattle.rounds.proofs.Usable.{scenarios_in}
-use Rattle.moves.proofs.Moves.{wrote-times, clipped_times}
+use Rattle.std.proofs.Common.{◌≡◌, ◌*◌, arith}
+use Rattle.network.specs.Build.{scenarios}
+use Rattle.rows.specs.Rows.{Times}
+use Rattle.moves.proofs.Fronts.{rise-times, clip-times}
+use Rattle.leap.proofs.pace.finish.Goals.{After-rise-d}
 use Rattle.leap.proofs.pace.finish.Goals as goal
 
-pub rise-requires : goal.rise-requires
-rise-requires c =
-    let pre = c.requires in
-    (omega (arith, scenarios_in pre.0), refl)
+cells : (d : After-rise-d) → d.cells-cells.result ≡ scenarios d.args.compiled.now.frame.network * 16
+cells d = omega (arith, d.cells-cells.ensures.0, d.args.compiled.now.frame.scenarios_are)
 
-pub highest_below-top-requires : goal.highest_below-top-requires
-highest_below-top-requires c =
-    let pre = c.requires in
-    omega (arith, scenarios_in pre.0)
+risen : (d : After-rise-d) → Times d.args.compiled.now.frame.network d.rise-d.result
+risen d = rise-times (cells d) _ _ d.requires (omega (arith, d.cells-cells.ensures.1)) d.rise-d.ensures
 
-pub highest_below-requires : goal.highest_below-requires
-highest_below-requires c =
-    let pre = c.requires in
-    omega (arith, scenarios_in pre.0)
-
-pub clip-requires : goal.clip-requires
-clip-requires c =
-    let margin = c.margin-m in
-    let pre = c.requires in
-    (omega (arith, scenarios_in pre.0), refl, margin.ensures)
-
-pub clip-requires-2 : goal.clip-requires-2
-clip-requires-2 c =
-    let pre = c.requires in
-    (omega (arith, scenarios_in pre.0), refl, omega arith)
-
-pub most-j-requires : goal.most-j-requires
-most-j-requires c =
-    let pre = c.requires in
-    omega (arith, scenarios_in pre.0)
+pub invariant_of-guess : goal.invariant_of-guess
+invariant_of-guess c =
+    let d = (goal.at.invariant_of-guess c).After-rise-d in
+    let few = d.cells-cells.ensures.1 in
+    record {
+      times = (c.requires, clip-times (cells d) (risen d) (omega (arith, few)) c.clip-upper.ensures);
+      small = (c.most-j.ensures, c.if-p-gt65535.false);
+    }
 
 pub passes_after-requires : goal.passes_after-requires
 passes_after-requires c =
-    let most = c.most-j in
-    let clip2 = c.clip-2 in
-    let clip = c.clip in
-    let rise = c.rise in
-    let pre = c.requires in
-    let rises = wrote-times _ pre.1 refl rise.ensures (λ i. omega arith) in (
-      pre.0,
-      pre.1,
-      clipped_times rises clip2.ensures,
-      clipped_times rises clip.ensures,
-      most.ensures,
-      omega (arith, c.if-p-gt65535.false),
-    )
+    let d = (goal.at.passes_after-requires c).After-rise-d in
+    clip-times (cells d) (risen d) (omega (arith, d.cells-cells.ensures.1)) c.clip-lower.ensures

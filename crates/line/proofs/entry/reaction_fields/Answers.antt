@@ -1,79 +1,107 @@
 -- The count of fields is tested first, then the minutes, and then the letter. Assumes nothing.
-use mathlib.Core.Path.{◌≡◌, sym, ◌∙◌, ap}
-use mathlib.Core.Option.{Option}
-use mathlib.Core.List.{List, []}
-use Prim.Native.Nat.{ℕ}
+use mathlib.Core.Path.{sym, ◌∙◌}
 use native.Mathlib.Omega.{arith}
-use lib.ListN.{length}
 use Rattle.prelude.specs.Checks.{first_failing_lem}
-use Rattle.text.specs.Lines.{fields, field}
+use Rattle.prelude.proofs.Options.{option_of-some}
+use Rattle.text.specs.Lines.{fields}
 use Rattle.text.specs.Number.{magnitude}
-use Rattle.refusal.specs.declared.Cause.{Cause}
+use Rattle.refusal.specs.declared.Cause.TheVariants as C
 use Rattle.network.specs.Limits as L
-use Rattle.network.specs.declared.Network.{Network}
+use Rattle.names.specs.Defined.{place_of}
 use Rattle.line.specs.Tests.{count_tests}
-use Rattle.line.specs.Answers.{parts_of, section_answer}
-use Rattle.line.specs.declared.HeadingLine.{HeadingLine}
-use Rattle.line.proofs.Answered.{section-answer-refused, section-answer}
-use Rattle.line.proofs.ReactionRefusals.{count-within, reaction-count, reaction-minutes, reaction-letter}
-use Rattle.line.proofs.entry.reaction_fields.Goals.{After-count_of-read, Start}
+use Rattle.line.proofs.Refusals.{answer-err, answer-ok, exits, exits_without}
+use Rattle.line.proofs.ReactionRefusals.{signal-below, reaction-count, reaction-minutes, reaction_ill}
+use Rattle.line.proofs.ReactionRefusals.{reaction-unknown, reaction-twice, reaction-passes}
 use Rattle.line.proofs.entry.reaction_fields.Goals as goal
 
--- the network by its parts, and the fields of the line
-abbrev parts : Start → Network
-parts d = parts_of 0 [] [] d.args.k d.args.letters.now [] d.args.reactions.now []
+pub returns-in_default : goal.returns-in_default
+returns-in_default c =
+    sym (rw (reaction-count c.args.defined.now.network.now (fields c.args.line.now) c.in_default.ensures))
 
-abbrev cells : Start → List (List ℕ)
-cells d = fields d.args.line.now
+pub returns-in_err-minutes : goal.returns-in_err-minutes
+returns-in_err-minutes c =
+    let two = c.in-Some.fields.cut.counted in
+    let f = c.at.result.now in
+    let d = c.in_err-minutes.field-0.0 in
+    let why = answer-err (first_failing_lem (count_tests L.fastest L.slowest f)) (magnitude f) d
+    (sym c.in_err-minutes.ensures) in
+    rw (← c.in-Some.ensures)
+    (exits c.from_residual.result d c.from_residual.ensures.1
+    ∙ sym (rw (reaction-minutes c.args.defined.now.network.now (fields c.in-Some.fields.line.now) two d
+    (rw c.at.ensures at why))))
 
-two : (d : After-count_of-read) → length (cells (goal.at.After-count_of-read d).Start) ≡ 2
-two d = sym d.cut-cuts.ensures.counted ∙ d.if-cuts-ne2.false
+pub returns-then-not-is_one_letter : goal.returns-then-not-is_one_letter
+returns-then-not-is_one_letter c =
+    let two = c.in-Some.fields.cut.counted in
+    let f = c.at.result.now in
+    let said = answer-ok (first_failing_lem (count_tests L.fastest L.slowest f)) (magnitude f) c.in_ok-minutes.minutes
+    (sym c.in_ok-minutes.ensures) in
+    let ill = sym c.is_one_letter.ensures ∙ c.if-not-is_one_letter.true in
+    rw (← c.in-Some.ensures)
+    (sym (rw (reaction_ill c.args.defined.now.network.now (fields c.in-Some.fields.line.now) two
+    (rw c.at.ensures at said.0) (rw c.at-letter.ensures at ill))))
 
--- the answer about the minutes, and what it says
-abbrev why : Start → Option Cause
-why d = first_failing_lem (count_tests L.fastest L.slowest (field 1 (cells d)))
+pub returns-in_err-signal : goal.returns-in_err-signal
+returns-in_err-signal c =
+    let Γ = c.args.defined.now.network.now in
+    let two = c.in-Some.fields.cut.counted in
+    let f = c.at.result.now in
+    let said = answer-ok (first_failing_lem (count_tests L.fastest L.slowest f)) (magnitude f) c.in_ok-minutes.minutes
+    (sym c.in_ok-minutes.ensures) in
+    let formed = sym c.is_one_letter.ensures ∙ c.if-not-is_one_letter.false in
+    let nothing = exits_without c.from_residual-in_err-signal.result c.in_err-signal.field-0.0 C.Undefined
+    (place_of Γ.signals Γ.letters c.first.result) c.from_residual-in_err-signal.ensures.1
+    (rw c.place_of.ensures at c.in_err-signal.ensures.value) in
+    rw (← c.in-Some.ensures)
+    (nothing.1 ∙ sym (rw (reaction-unknown Γ (fields c.in-Some.fields.line.now) two
+    (rw c.at.ensures at said.0) (rw c.at-letter.ensures at formed)
+    (rw (c.first.ensures, c.at-letter.ensures) at nothing.0))))
 
-said : (d : After-count_of-read) → d.count_of-read.result
-    ≡ section_answer (why (goal.at.After-count_of-read d).Start)
-    (magnitude (field 1 (cells (goal.at.After-count_of-read d).Start))) (length d.args.line.now)
-said d =
-    let n = length d.args.line.now in
-    let answer : List ℕ → HeadingLine =
-    λ f. section_answer (first_failing_lem (count_tests L.fastest L.slowest f)) (magnitude f) n in
-    d.count_of-read.ensures ∙ ap answer d.field.ensures.text
+pub offset_bounds-defined-signal : goal.offset_bounds-defined-signal
+offset_bounds-defined-signal c =
+    let Γ = c.args.defined.now.network.now in
+    let known = option_of-some (place_of Γ.signals Γ.letters c.first.result) c.in_ok-signal.signal
+    (sym c.place_of.ensures ∙ c.in_ok-signal.ensures.ok_part) in
+    omega (arith, signal-below Γ c.first.result c.in_ok-signal.signal known, c.args.defined.now.names.few_signals)
 
-pub returns-then-cuts-ne2 : goal.returns-then-cuts-ne2
-returns-then-cuts-ne2 c =
-    let d = (goal.at.returns-then-cuts-ne2 c).Start in
-    λ sheet.
-    sym (rw (reaction-count (parts d) (cells d) (λ h. c.if-cuts-ne2.true (c.cut-cuts.ensures.counted ∙ h))))
+pub bounds-defined-signal : goal.bounds-defined-signal
+bounds-defined-signal c =
+    let Γ = c.args.defined.now.network.now in
+    let known = option_of-some (place_of Γ.signals Γ.letters c.first.result) c.in_ok-signal.signal
+    (sym c.place_of.ensures ∙ c.in_ok-signal.ensures.ok_part) in
+    omega (arith, signal-below Γ c.first.result c.in_ok-signal.signal known, c.args.defined.now.names.few_signals)
 
-pub overflow_cast-count : goal.overflow_cast-count
-overflow_cast-count c =
-    let d = (goal.at.overflow_cast-count c).Start in
-    let d2 = (goal.at.overflow_cast-count c).After-count_of-read in
-    let told = section-answer (why d) (magnitude (field 1 (cells d))) (length c.args.line.now) c.in-Count.count
-    c.in-Count.length
-    (sym (said d2) ∙ c.in-Count.is) in
-    let w = count-within L.fastest L.slowest (field 1 (cells d)) told.0 in
-    omega (arith, w.most, told.1)
+pub returns-then-defined-signal-ne0 : goal.returns-then-defined-signal-ne0
+returns-then-defined-signal-ne0 c =
+    let Γ = c.args.defined.now.network.now in
+    let two = c.in-Some.fields.cut.counted in
+    let f = c.at.result.now in
+    let said = answer-ok (first_failing_lem (count_tests L.fastest L.slowest f)) (magnitude f) c.in_ok-minutes.minutes
+    (sym c.in_ok-minutes.ensures) in
+    let formed = sym c.is_one_letter.ensures ∙ c.if-not-is_one_letter.false in
+    let known = option_of-some (place_of Γ.signals Γ.letters c.first.result) c.in_ok-signal.signal
+    (sym c.place_of.ensures ∙ c.in_ok-signal.ensures.ok_part) in
+    rw (← c.in-Some.ensures)
+    (sym (rw (reaction-twice Γ (fields c.in-Some.fields.line.now) two
+    (rw c.at.ensures at said.0) (rw c.at-letter.ensures at formed) c.in_ok-signal.signal
+    (rw (c.first.ensures, c.at-letter.ensures) at known) (omega (arith, c.if-defined-signal-ne0.true)))))
 
-pub returns-in-Refused : goal.returns-in-Refused
-returns-in-Refused c =
-    let d = (goal.at.returns-in-Refused c).Start in
-    let d2 = (goal.at.returns-in-Refused c).After-count_of-read in
-    let refused = section-answer-refused (why d) (magnitude (field 1 (cells d))) (length c.args.line.now)
-    c.in-Refused.cause (sym (said d2) ∙ c.in-Refused.is) in
-    λ sheet. sym (rw (reaction-minutes (parts d) (cells d) c.in-Refused.cause (two d2) refused))
-
-pub returns-in-Count : goal.returns-in-Count
-returns-in-Count c =
-    let d = (goal.at.returns-in-Count c).Start in
-    let d2 = (goal.at.returns-in-Count c).After-count_of-read in
-    let told = section-answer (why d) (magnitude (field 1 (cells d))) (length c.args.line.now) c.in-Count.count
-    c.in-Count.length
-    (sym (said d2) ∙ c.in-Count.is) in
-    let text = c.field-in-Count.ensures.text in
-    λ sheet.
-    c.reaction_letter.ensures
-    ∙ sym (rw (reaction-letter (parts d) (cells d) (two d2) told.0, told.1, told.2, text))
+pub returns : goal.returns
+returns c =
+    let Γ = c.args.defined.now.network.now in
+    let two = c.in-Some.fields.cut.counted in
+    let f = c.at.result.now in
+    let said = answer-ok (first_failing_lem (count_tests L.fastest L.slowest f)) (magnitude f) c.in_ok-minutes.minutes
+    (sym c.in_ok-minutes.ensures) in
+    let formed = sym c.is_one_letter.ensures ∙ c.if-not-is_one_letter.false in
+    let known = option_of-some (place_of Γ.signals Γ.letters c.first.result) c.in_ok-signal.signal
+    (sym c.place_of.ensures ∙ c.in_ok-signal.ensures.ok_part) in
+    let known-signal = rw (c.first.ensures, c.at-letter.ensures) at known in
+    rw (
+      ← c.in-Some.ensures,
+      reaction-passes Γ (fields c.in-Some.fields.line.now) two
+          (rw c.at.ensures at said.0) (rw c.at-letter.ensures at formed) c.in_ok-signal.signal
+          known-signal (omega (arith, c.if-defined-signal-ne0.false)),
+      known-signal,
+      rw c.at.ensures at said.1,
+    )

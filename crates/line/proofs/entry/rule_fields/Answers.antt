@@ -1,108 +1,197 @@
--- Count, kind and limit are tested in the order of `rule_tests`; the ends and the label follow. Assumes nothing.
+-- Count, kind and limit are tested first; then the form, the ends and the label. What is found on the way is said of
+-- the places where it is found. Assumes nothing.
 use mathlib.Core.Path.{◌≡◌, sym, ◌∙◌, ap}
-use mathlib.Core.Option.{some}
-use mathlib.Core.List.{List, []}
+use mathlib.Core.Bool.{true, ◌&&◌}
+use mathlib.Core.Option.{none, some}
+use mathlib.Core.List.{List}
 use Prim.Native.Nat.{ℕ}
-use lib.IntN.{ℤ}
-use lib.ListN.{length}
+use Rattle.std.specs.Prelude.{Ok}
+use Rattle.prelude.specs.Checks.{first_failing_lem}
+use Rattle.prelude.proofs.Options.{option_of-some}
 use Rattle.text.specs.Lines.{fields, field}
-use Rattle.network.specs.declared.Network.{Network}
-use Rattle.line.specs.Answers.{ends_answer, parts_of, kind_found, limit_of_lem}
-use Rattle.line.specs.Tests.{kind_of}
-use Rattle.line.specs.declared.Limit.{Limit}
-use Rattle.line.proofs.RuleRefusals.{kind-some, kind-none, LimitSays, limit-says, limit-fits, ends_entry}
-use Rattle.line.proofs.RuleRefusals.{rule-count, rule-other, rule_ill, rule-beyond}
-use Rattle.line.proofs.entry.rule_fields.Goals.{After-kind_of-found, After-limit_of-limit, In-Is, Start}
+use Rattle.text.specs.Number.{value_of}
+use Rattle.refusal.specs.declared.Cause.TheVariants as C
+use Rattle.network.specs.declared.Constraint.{Constraint}
+use Rattle.names.specs.Names.{is_name_lem, is_label_lem, label_of}
+use Rattle.names.specs.Defined.{mask_of}
+use Rattle.line.specs.Tests.{event_of, kind_of, limit_tests, letters_tests, ends_tests, rule_tests}
+use Rattle.line.specs.declared.Section.TheVariants.{Rules}
+use Rattle.line.specs.declared.entry.Entry.TheVariants.{Rule}
+use Rattle.line.proofs.Refusals.{answer-err, answer-ok, exits, exits_without, moved, moved-letters}
+use Rattle.line.proofs.RuleRefusals.{limit-fits, rule-count, rule-other, rule-limit, rule-ends, rule-is}
+use Rattle.line.proofs.RuleRefusals.{ends_ill, ends-from, ends-to, ends-letters}
+use Rattle.line.proofs.entry.rule_fields.Goals.{In-Some, In_ok-kind, In_ok-bound, In_ok-from, In_ok-to}
 use Rattle.line.proofs.entry.rule_fields.Goals as goal
 
--- the network by its parts
-abbrev parts : Start → Network
-parts d =
-    parts_of d.args.n d.args.starts.now d.args.lengths.now d.args.k d.args.letters.now []
-    [] []
+abbrev fs : In-Some → List (List ℕ)
+fs d = fields d.in-Some.fields.line.now
 
-abbrev parted : Start → List (List ℕ)
-parted d = fields d.args.line.now
-
--- the kind that was found is that of the first field, and the line has five
-kind-is : (d : After-kind_of-found)
-    → kind_found (kind_of (field 0 (parted (goal.at.After-kind_of-found d).Start))) ≡ d.kind_of-found.result
-kind-is d =
-    ap (λ (f : List ℕ). kind_found (kind_of f)) (sym d.field.ensures.text) ∙ sym d.kind_of-found.ensures
-
-kind : (d : In-Is) → kind_of (field 0 (parted (goal.at.In-Is d).Start)) ≡ some d.in-Is.kind
+-- the kind is that of the first field
+kind : (d : In_ok-kind) → kind_of (field 0 (fs (goal.at.In_ok-kind d).In-Some)) ≡ some d.in_ok-kind.kind
 kind d =
-    kind-some (kind_of (field 0 (parted (goal.at.In-Is d).Start))) d.in-Is.kind
-    ((kind-is (goal.at.In-Is d).After-kind_of-found)
-    ∙ d.in-Is.is)
+    let found = option_of-some (kind_of d.at.result.now) d.in_ok-kind.kind
+    (sym d.kind_of.ensures ∙ d.in_ok-kind.ensures.ok_part) in
+    rw d.at.ensures at found
 
-five : (d : In-Is) → length (parted (goal.at.In-Is d).Start) ≡ 5
-five d =
-    sym d.cut-cuts.ensures.counted
-    ∙ d.if-cuts-ne5.false
+-- the limit passed, and is what its field says; what is left is the ends and the label
+limit : (d : In_ok-bound) → (first_failing_lem (limit_tests d.at-2.result.now) ≡ none)
+    × (value_of d.at-2.result.now ≡ d.in_ok-bound.bound)
+limit d = answer-ok (first_failing_lem (limit_tests d.at-2.result.now)) (value_of d.at-2.result.now)
+    d.in_ok-bound.bound (sym d.in_ok-bound.ensures)
 
--- what the limit that was read says of its field
-says : (d : After-limit_of-limit)
-    → (x : Limit) → d.limit_of-limit.result ≡ x → LimitSays (field 3 (parted (goal.at.After-limit_of-limit d).Start)) x
-says d =
-    λ x e. let read =
-    ap limit_of_lem (sym d.field-2.ensures.text) ∙ sym d.limit_of-limit.ensures ∙ e in
-    rw read at (limit-says (field 3 (parted (goal.at.After-limit_of-limit d).Start)))
+to_ends : (d : In_ok-bound) → let defined = d.args.defined.now in
+    let gs = fs (goal.at.In_ok-bound d).In-Some in
+    first_failing_lem (rule_tests defined.sheet.now defined.network.now gs)
+    ≡ first_failing_lem (ends_tests defined.sheet.now defined.network.now (field 1 gs) (field 2 gs) (field 4 gs))
+to_ends d =
+    let defined = d.args.defined.now in
+    rule-ends defined.sheet.now defined.network.now (fs (goal.at.In_ok-bound d).In-Some) d.in_ok-kind.kind
+    d.in-Some.fields.cut.counted (kind (goal.at.In_ok-bound d).In_ok-kind) (rw d.at-2.ensures at (limit d).0)
 
-pub returns-then-cuts-ne5 : goal.returns-then-cuts-ne5
-returns-then-cuts-ne5 c =
-    let d = (goal.at.returns-then-cuts-ne5 c).Start in
-    sym (rw (rule-count c.args.sheet.now (parts d) (parted d)
-    (λ h. c.if-cuts-ne5.true (c.cut-cuts.ensures.counted ∙ h))))
+-- the form of the ends and the label, and both ends
+formed : (d : In_ok-from) → let gs = fs (goal.at.In_ok-from d).In-Some in
+    is_name_lem (field 1 gs) && (is_name_lem (field 2 gs) && is_label_lem (field 4 gs)) ≡ true
+formed d =
+    let form = sym d.is_rule.ensures ∙ d.if-not-is_rule.false in
+    rw (d.at-first.ensures, d.at-second.ensures, d.at-field.ensures) at form
+
+from : (d : In_ok-from) → let defined = d.args.defined.now in
+    event_of defined.sheet.now defined.network.now (field 1 (fs (goal.at.In_ok-from d).In-Some))
+    ≡ some d.in_ok-from.from
+from d =
+    let defined = d.args.defined.now in
+    let found = option_of-some (event_of defined.sheet.now defined.network.now d.at-first.result.now)
+    d.in_ok-from.from (sym d.event_named.ensures ∙ d.in_ok-from.ensures.ok_part) in
+    rw d.at-first.ensures at found
+
+to : (d : In_ok-to) → let defined = d.args.defined.now in
+    event_of defined.sheet.now defined.network.now (field 2 (fs (goal.at.In_ok-to d).In-Some)) ≡ some d.in_ok-to.to
+to d =
+    let defined = d.args.defined.now in
+    let found = option_of-some (event_of defined.sheet.now defined.network.now d.at-second.result.now)
+    d.in_ok-to.to (sym d.event_named-2.ensures ∙ d.in_ok-to.ensures.ok_part) in
+    rw d.at-second.ensures at found
+
+to_letters : (d : In_ok-to) → let defined = d.args.defined.now in
+    let gs = fs (goal.at.In_ok-to d).In-Some in
+    first_failing_lem (rule_tests defined.sheet.now defined.network.now gs)
+    ≡ first_failing_lem (letters_tests defined.network.now (field 4 gs))
+to_letters d =
+    let defined = d.args.defined.now in
+    let gs = fs (goal.at.In_ok-to d).In-Some in
+    let d2 = (goal.at.In_ok-to d).In_ok-from in
+    to_ends (goal.at.In_ok-to d).In_ok-bound
+    ∙ ends-letters defined.sheet.now defined.network.now (field 1 gs) (field 2 gs) (field 4 gs) (formed d2)
+    d.in_ok-from.from (from d2) d.in_ok-to.to (to d)
 
 pub returns-in_default : goal.returns-in_default
 returns-in_default c =
-    let d = (goal.at.returns-in_default c).Start in
-    let d2 = (goal.at.returns-in_default c).After-kind_of-found in
-    let fs = parted d in
-    let other = kind-none (kind_of (field 0 fs)) ((kind-is d2) ∙ c.in_default.is) in
-    sym (rw (rule-other c.args.sheet.now (parts d) fs other))
+    let defined = c.args.defined.now in
+    sym (rw (rule-count defined.sheet.now defined.network.now (fields c.args.line.now) c.in_default.ensures))
 
-pub returns-in-IllFormed : goal.returns-in-IllFormed
-returns-in-IllFormed c =
-    let d = (goal.at.returns-in-IllFormed c).Start in
-    let d2 = (goal.at.returns-in-IllFormed c).In-Is in
-    let d3 = (goal.at.returns-in-IllFormed c).After-limit_of-limit in
-    let fs = parted d in
-    let ill = (says d3) _ c.in-IllFormed.is in
-    sym (rw (rule_ill c.args.sheet.now (parts d) fs c.in-Is.kind (five d2)
-    (kind d2) ill))
+pub returns-in_err-kind : goal.returns-in_err-kind
+returns-in_err-kind c =
+    let defined = c.args.defined.now in
+    let nothing = exits_without c.from_residual.result c.in_err-kind.field-0.0 C.WrongFields
+    (kind_of c.at.result.now) c.from_residual.ensures.1
+    (rw c.kind_of.ensures at c.in_err-kind.ensures.value) in
+    rw (← c.in-Some.ensures)
+    (nothing.1 ∙ sym (rw (rule-other defined.sheet.now defined.network.now (fields c.in-Some.fields.line.now)
+    (rw c.at.ensures at nothing.0))))
 
-pub returns-in-Beyond : goal.returns-in-Beyond
-returns-in-Beyond c =
-    let d = (goal.at.returns-in-Beyond c).Start in
-    let d2 = (goal.at.returns-in-Beyond c).In-Is in
-    let d3 = (goal.at.returns-in-Beyond c).After-limit_of-limit in
-    let fs = parted d in
-    let over = (says d3) _ c.in-Beyond.is in
-    sym (rw (rule-beyond c.args.sheet.now (parts d) fs c.in-Is.kind (five d2)
-    (kind d2) over.0 over.1))
+pub returns-in_err-bound : goal.returns-in_err-bound
+returns-in_err-bound c =
+    let defined = c.args.defined.now in
+    let f = c.at-2.result.now in
+    let d = c.in_err-bound.field-0.0 in
+    let why = answer-err (first_failing_lem (limit_tests f)) (value_of f) d (sym c.in_err-bound.ensures) in
+    rw (← c.in-Some.ensures)
+    (exits c.from_residual-in_err-bound.result d c.from_residual-in_err-bound.ensures.1
+    ∙ sym (rw (rule-limit defined.sheet.now defined.network.now (fields c.in-Some.fields.line.now) c.in_ok-kind.kind
+    c.in-Some.fields.cut.counted (kind (goal.at.returns-in_err-bound c).In_ok-kind) d (rw c.at-2.ensures at why))))
 
-pub returns-in-Minutes : goal.returns-in-Minutes
-returns-in-Minutes c =
-    let d = (goal.at.returns-in-Minutes c).Start in
-    let d2 = (goal.at.returns-in-Minutes c).In-Is in
-    let d3 = (goal.at.returns-in-Minutes c).After-limit_of-limit in
-    let field3 = c.field-in-Minutes in
-    let field4 = c.field-in-Minutes-2 in
-    let field5 = c.field-in-Minutes-3 in
-    let sheet = c.args.sheet.now in
-    let Γ = parts d in
-    let fs = parted d in
-    let n = length c.args.line.now in
-    let limit = (says d3) _ c.in-Minutes.is in
-    c.rule_ends.ensures
-    ∙ ap (λ (y : ℤ). ends_answer sheet Γ field3.result.now field4.result.now field5.result.now c.in-Is.kind y n)
-    (limit-fits (field 3 fs) c.in-Minutes.bound limit)
-    ∙ ap (λ (f : List ℕ). ends_answer sheet Γ f field4.result.now field5.result.now c.in-Is.kind c.in-Minutes.bound n)
-    field3.ensures.text
-    ∙ ap (λ (f : List ℕ). ends_answer sheet Γ (field 1 fs) f field5.result.now c.in-Is.kind c.in-Minutes.bound n)
-    field4.ensures.text
-    ∙ ap (λ (f : List ℕ). ends_answer sheet Γ (field 1 fs) (field 2 fs) f c.in-Is.kind c.in-Minutes.bound n)
-    field5.ensures.text
-    ∙ ends_entry sheet Γ fs c.in-Is.kind c.in-Minutes.bound n (five d2) (kind d2) limit
+pub returns-then-not-is_rule : goal.returns-then-not-is_rule
+returns-then-not-is_rule c =
+    let defined = c.args.defined.now in
+    let gs = fields c.in-Some.fields.line.now in
+    let ill = sym c.is_rule.ensures ∙ c.if-not-is_rule.true in
+    rw (← c.in-Some.ensures)
+    (sym (rw (
+      to_ends (goal.at.returns-then-not-is_rule c).In_ok-bound,
+      ends_ill defined.sheet.now defined.network.now (field 1 gs) (field 2 gs) (field 4 gs)
+          (rw (c.at-first.ensures, c.at-second.ensures, c.at-field.ensures) at ill),
+    )))
+
+pub returns-in_err-from : goal.returns-in_err-from
+returns-in_err-from c =
+    let defined = c.args.defined.now in
+    let gs = fields c.in-Some.fields.line.now in
+    let form = sym c.is_rule.ensures ∙ c.if-not-is_rule.false in
+    let nothing = exits_without c.from_residual-in_err-from.result c.in_err-from.field-0.0 C.Undefined
+    (event_of defined.sheet.now defined.network.now c.at-first.result.now) c.from_residual-in_err-from.ensures.1
+    (rw c.event_named.ensures at c.in_err-from.ensures.value) in
+    rw (← c.in-Some.ensures)
+    (nothing.1 ∙ sym (rw (
+      to_ends (goal.at.returns-in_err-from c).In_ok-bound,
+      ends-from defined.sheet.now defined.network.now (field 1 gs) (field 2 gs) (field 4 gs)
+          (rw (c.at-first.ensures, c.at-second.ensures, c.at-field.ensures) at form)
+          (rw c.at-first.ensures at nothing.0),
+    )))
+
+pub returns-in_err-to : goal.returns-in_err-to
+returns-in_err-to c =
+    let defined = c.args.defined.now in
+    let gs = fields c.in-Some.fields.line.now in
+    let d = (goal.at.returns-in_err-to c).In_ok-from in
+    let nothing = exits_without c.from_residual-in_err-to.result c.in_err-to.field-0.0 C.Undefined
+    (event_of defined.sheet.now defined.network.now c.at-second.result.now) c.from_residual-in_err-to.ensures.1
+    (rw c.event_named-2.ensures at c.in_err-to.ensures.value) in
+    rw (← c.in-Some.ensures)
+    (nothing.1 ∙ sym (rw (
+      to_ends (goal.at.returns-in_err-to c).In_ok-bound,
+      ends-to defined.sheet.now defined.network.now (field 1 gs) (field 2 gs) (field 4 gs) (formed d) c.in_ok-from.from
+          (from d) (rw c.at-second.ensures at nothing.0),
+    )))
+
+pub returns-in_err-label : goal.returns-in_err-label
+returns-in_err-label c =
+    let Γ = c.args.defined.now.network.now in
+    let d = c.in_err-label.field-0.0 in
+    let f = c.at-field.result.now in
+    let why = answer-err (first_failing_lem (letters_tests Γ f)) (mask_of Γ.signals Γ.letters (label_of f)) d
+    (sym c.in_err-label.ensures) in
+    rw (← c.in-Some.ensures)
+    (exits c.from_residual-in_err-label.result d c.from_residual-in_err-label.ensures.1
+    ∙ sym (rw (
+      to_letters (goal.at.returns-in_err-label c).In_ok-to,
+      moved-letters Γ f (field 4 (fields c.in-Some.fields.line.now)) c.at-field.ensures why,
+    )))
+
+pub returns : goal.returns
+returns c =
+    let sheet = c.args.defined.now.sheet.now in
+    let Γ = c.args.defined.now.network.now in
+    let gs = fields c.in-Some.fields.line.now in
+    let d = (goal.at.returns c).In_ok-to in
+    let f = c.at-field.result.now in
+    let value = limit (goal.at.returns c).In_ok-bound in
+    let label = answer-ok (first_failing_lem (letters_tests Γ f)) (mask_of Γ.signals Γ.letters (label_of f))
+    c.in_ok-label.label (sym c.in_ok-label.ensures) in
+    moved c.in-Some.fields.line.now c.args.line.now Rules sheet Γ c.in-Some.ensures
+    (rw (
+      to_letters d,
+      moved-letters Γ f (field 4 gs) c.at-field.ensures label.0,
+      limit-fits c.at-2.result.now c.in_ok-bound.bound value.0 value.1,
+      ← label.1,
+    )
+    (ap (λ (r : Constraint). Ok (Rule r))
+    (sym (rule-is sheet Γ gs c.in_ok-kind.kind c.in-Some.fields.cut.counted (kind (goal.at.returns c).In_ok-kind)
+    c.in_ok-from.from c.in_ok-to.to c.in_ok-bound.bound (from (goal.at.returns c).In_ok-from) (to d)
+    (rw c.at-2.ensures at value.1)
+    ∙ ap (λ (g : List ℕ). record {
+      kind = c.in_ok-kind.kind;
+      from = c.in_ok-from.from;
+      to = c.in_ok-to.to;
+      bound = c.in_ok-bound.bound;
+      label = mask_of Γ.signals Γ.letters (label_of g);
+    }) (sym c.at-field.ensures)))))

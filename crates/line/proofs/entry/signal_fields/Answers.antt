@@ -1,84 +1,92 @@
--- The count is tested first; the other three tests are `signal_tests`', in its order. Assumes nothing.
-use mathlib.Core.Path.{◌≡◌, refl, sym, ◌∙◌, ap}
-use mathlib.Core.Option.{Option}
-use mathlib.Core.List.{[]}
-use Rattle.prelude.specs.Checks.{first_failing_lem}
-use Rattle.text.specs.Lines.{fields, field}
-use Rattle.refusal.specs.declared.Cause.{Cause}
-use Rattle.network.specs.declared.Network.{Network}
-use Rattle.names.proofs.Finds.{event-is, event-answers, event-place}
-use Rattle.line.specs.Tests.{event_of, signal_tests}
-use Rattle.line.specs.Answers.{parts_of, check_of}
-use Rattle.line.proofs.Refusals.{signal-count, gives_found, signal-tests, check-refused, check-passed}
-use Rattle.line.proofs.entry.signal_fields.Goals.{After-first_failing-check, Start}
+-- The form is tested first, then the letter, and then the event. Assumes nothing.
+use mathlib.Core.Path.{sym, ◌∙◌}
+use Rattle.prelude.proofs.Options.{option_of-some}
+use Rattle.text.specs.Lines.{fields}
+use Rattle.refusal.specs.declared.Cause.TheVariants as C
+use Rattle.names.specs.Defined.{place_of}
+use Rattle.line.specs.Tests.{event_of}
+use Rattle.line.proofs.Refusals.{exits_without, found-is, signal-count, signal_ill, signal-twice, signal-unknown}
+use Rattle.line.proofs.Refusals.{signal-given, signal-passes}
 use Rattle.line.proofs.entry.signal_fields.Goals as goal
 
--- the network by its parts, and the refusal of the line
-abbrev parts : Start → Network
-parts d =
-    parts_of d.args.n d.args.starts.now d.args.lengths.now d.args.k d.args.letters.now
-    d.args.observations.now [] []
+pub returns-in_default : goal.returns-in_default
+returns-in_default c =
+    let defined = c.args.defined.now in
+    sym (rw (signal-count defined.sheet.now defined.network.now (fields c.args.line.now) c.in_default.ensures))
 
-abbrev why : Start → Option Cause
-why d = first_failing_lem (signal_tests d.args.sheet.now (parts d) (fields d.args.line.now))
+pub returns-then-not-is_signal : goal.returns-then-not-is_signal
+returns-then-not-is_signal c =
+    let defined = c.args.defined.now in
+    let two = c.in-Some.fields.cut.counted in
+    let ill = sym c.is_signal.ensures ∙ c.if-not-is_signal.true in
+    rw (← c.in-Some.ensures)
+    (sym (rw (signal_ill defined.sheet.now defined.network.now (fields c.in-Some.fields.line.now) two
+    (rw (c.at-field.ensures, c.at-event.ensures) at ill))))
 
--- the three tests are those of the line
-checked : (d : After-first_failing-check)
-    → d.first_failing-check.result ≡ check_of (why (goal.at.After-first_failing-check d).Start)
-checked d =
-    let args = d.args in
-    let field2 = d.field-name in
-    let event-named = d.event_named-event in
-    let is_found = d.is_found in
-    let sheet = args.sheet.now in
-    let fs = fields args.line.now in
-    let Γ = parts (goal.at.After-first_failing-check d).Start in
-    let first = d.field-f.ensures.text in
-    let second = field2.ensures.text in
-    let event = event-is sheet args.n args.starts.now args.lengths.now (field 1 fs)
-    field2.result.now second event-named.result event-named.ensures in
-    let known = event-answers sheet args.n args.starts.now args.lengths.now (field 1 fs)
-    field2.result.now second event-named.result is_found.result event-named.ensures
-    is_found.ensures in
-    let cut = d.cut-cuts in
-    let two = sym cut.ensures.counted ∙ d.if-cuts-ne2.false in
-    d.first_failing-check.ensures ∙ ap check_of (sym (signal-tests sheet Γ fs two
-    (d.is_signal.ensures ∙ rw (first, second))
-    (d.is_fresh.ensures ∙ rw (
-      d.first-letter.ensures,
-      first,
-      event,
-      gives_found args.k args.observations.now sheet Γ (event_of sheet Γ (field 1 fs)) refl refl,
-    ))
-    known))
+pub returns-then-is_some : goal.returns-then-is_some
+returns-then-is_some c =
+    let defined = c.args.defined.now in
+    let Γ = defined.network.now in
+    let two = c.in-Some.fields.cut.counted in
+    let formed = sym c.is_signal.ensures ∙ c.if-not-is_signal.false in
+    let known = found-is (place_of Γ.signals Γ.letters c.first-letter.result) c.place_of.result
+    c.is_some.result _ c.place_of.ensures c.is_some.ensures c.if-is_some.true in
+    rw (← c.in-Some.ensures)
+    (sym (rw (signal-twice defined.sheet.now Γ (fields c.in-Some.fields.line.now) two
+    (rw (c.at-field.ensures, c.at-event.ensures) at formed)
+    (rw (c.first-letter.ensures, c.at-field.ensures) at known))))
 
-pub returns-then-cuts-ne2 : goal.returns-then-cuts-ne2
-returns-then-cuts-ne2 c =
-    let d = (goal.at.returns-then-cuts-ne2 c).Start in
-    sym (rw (signal-count c.args.sheet.now (parts d) (fields c.args.line.now)
-    (λ h. c.if-cuts-ne2.true (c.cut-cuts.ensures.counted ∙ h))))
+pub returns-in_err-observation : goal.returns-in_err-observation
+returns-in_err-observation c =
+    let defined = c.args.defined.now in
+    let Γ = defined.network.now in
+    let two = c.in-Some.fields.cut.counted in
+    let formed = sym c.is_signal.ensures ∙ c.if-not-is_signal.false in
+    let fresh = found-is (place_of Γ.signals Γ.letters c.first-letter.result) c.place_of.result
+    c.is_some.result _ c.place_of.ensures c.is_some.ensures c.if-is_some.false in
+    let nothing = exits_without c.from_residual.result c.in_err-observation.field-0.0 C.Undefined
+    (event_of defined.sheet.now Γ c.at-event.result.now) c.from_residual.ensures.1
+    (rw c.event_named.ensures at c.in_err-observation.ensures.value) in
+    rw (← c.in-Some.ensures)
+    (nothing.1 ∙ sym (rw (signal-unknown defined.sheet.now Γ (fields c.in-Some.fields.line.now) two
+    (rw (c.at-field.ensures, c.at-event.ensures) at formed)
+    (rw (c.first-letter.ensures, c.at-field.ensures) at fresh)
+    (rw c.at-event.ensures at nothing.0))))
 
-pub returns-in-Refused : goal.returns-in-Refused
-returns-in-Refused c =
-    let d = (goal.at.returns-in-Refused c).Start in
-    let d2 = (goal.at.returns-in-Refused c).After-first_failing-check in
-    sym (rw (check-refused (why d) c.in-Refused.cause (sym (checked d2) ∙ c.in-Refused.is)))
+pub returns-then-gives_signal : goal.returns-then-gives_signal
+returns-then-gives_signal c =
+    let defined = c.args.defined.now in
+    let Γ = defined.network.now in
+    let two = c.in-Some.fields.cut.counted in
+    let formed = sym c.is_signal.ensures ∙ c.if-not-is_signal.false in
+    let fresh = found-is (place_of Γ.signals Γ.letters c.first-letter.result) c.place_of.result
+    c.is_some.result _ c.place_of.ensures c.is_some.ensures c.if-is_some.false in
+    let known = option_of-some (event_of defined.sheet.now Γ c.at-event.result.now) c.in_ok-observation.observation
+    (sym c.event_named.ensures ∙ c.in_ok-observation.ensures.ok_part) in
+    rw (← c.in-Some.ensures)
+    (sym (rw (signal-given defined.sheet.now Γ (fields c.in-Some.fields.line.now) two
+    (rw (c.at-field.ensures, c.at-event.ensures) at formed)
+    (rw (c.first-letter.ensures, c.at-field.ensures) at fresh) c.in_ok-observation.observation
+    (rw c.at-event.ensures at known) (sym c.gives_signal.ensures ∙ c.if-gives_signal.true))))
 
-pub returns-in-Passed : goal.returns-in-Passed
-returns-in-Passed c =
-    let d = (goal.at.returns-in-Passed c).Start in
-    let d2 = (goal.at.returns-in-Passed c).After-first_failing-check in
-    let args = c.args in
-    let field2 = c.field-name in
-    let event-named = c.event_named-event in
-    let place = event-place args.sheet.now args.n args.starts.now args.lengths.now
-    (field 1 (fields args.line.now)) field2.result.now field2.ensures.text event-named.result
-    c.place_or.result event-named.ensures c.place_or.ensures in
-    let passed = check-passed (why d) (sym (checked d2) ∙ c.in-Passed.is) in
-    let was_field = c.field-f in
+pub returns : goal.returns
+returns c =
+    let defined = c.args.defined.now in
+    let Γ = defined.network.now in
+    let two = c.in-Some.fields.cut.counted in
+    let formed = sym c.is_signal.ensures ∙ c.if-not-is_signal.false in
+    let fresh = found-is (place_of Γ.signals Γ.letters c.first-letter.result) c.place_of.result
+    c.is_some.result _ c.place_of.ensures c.is_some.ensures c.if-is_some.false in
+    let known = option_of-some (event_of defined.sheet.now Γ c.at-event.result.now) c.in_ok-observation.observation
+    (sym c.event_named.ensures ∙ c.in_ok-observation.ensures.ok_part) in
+    let known-event = rw c.at-event.ensures at known in
     rw (
-      passed,
-      place,
+      ← c.in-Some.ensures,
+      signal-passes defined.sheet.now Γ (fields c.in-Some.fields.line.now) two
+          (rw (c.at-field.ensures, c.at-event.ensures) at formed)
+          (rw (c.first-letter.ensures, c.at-field.ensures) at fresh) c.in_ok-observation.observation
+          known-event (sym c.gives_signal.ensures ∙ c.if-gives_signal.false),
+      known-event,
       c.first-letter.ensures,
-      was_field.ensures.text,
+      c.at-field.ensures,
     )

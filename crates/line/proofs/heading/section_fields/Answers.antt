@@ -1,36 +1,36 @@
 -- The tests are tried in the order of `section_tests`. Assumes nothing.
 use mathlib.Core.Path.{sym, ◌∙◌, ap}
-use mathlib.Core.List.{List}
-use Prim.Native.Nat.{ℕ}
+use mathlib.Core.Bool.{not}
+use borrow.Author.Tests.{not-true, not-false}
 use Rattle.prelude.specs.Bytes.{same}
+use Rattle.prelude.proofs.Bytes.{equal_is}
 use Rattle.text.specs.Lines.{fields}
 use Rattle.line.proofs.Refusals.{word_count, word-other, word-passes}
 use Rattle.line.proofs.heading.section_fields.Goals as goal
 
-pub returns-then-cuts-ne2 : goal.returns-then-cuts-ne2
-returns-then-cuts-ne2 c =
+pub returns-in_default : goal.returns-in_default
+returns-in_default c =
     let args = c.args in
-    let fs = fields args.line.now in
-    sym (rw (word_count args.word.now args.lo args.hi fs
-    (λ h. c.if-cuts-ne2.true (c.cut-cuts.ensures.counted ∙ h))))
+    sym (rw (word_count args.word.now args.lo args.hi (fields args.line.now) c.in_default.ensures))
 
-pub returns-then-not-equal : goal.returns-then-not-equal
-returns-then-not-equal c =
+pub returns-then-ne : goal.returns-then-ne
+returns-then-ne c =
     let args = c.args in
-    let equal = c.equal in
-    let fs = fields args.line.now in
-    let other = ap (λ (f : List ℕ). same f args.word.now) (sym c.field.ensures.text) ∙ sym
-    equal.ensures ∙ c.if-not-equal.true in
-    sym (rw (word-other args.word.now args.lo args.hi fs other))
+    let differs = not-true (same c.at.result.now args.word.now)
+    (ap not (sym (equal_is c.at.result.now args.word.now)) ∙ sym c.ne.ensures ∙ c.if-ne.true) in
+    rw (← c.in-Some.ensures)
+    (sym (rw (word-other args.word.now args.lo args.hi (fields c.in-Some.fields.line.now)
+    (rw c.at.ensures at differs))))
 
 pub returns : goal.returns
 returns c =
     let args = c.args in
-    let cut = c.cut-cuts in
-    let was_field = c.field in
-    let equal = c.equal in
-    let fs = fields args.line.now in
-    let word = ap (λ (f : List ℕ). same f args.word.now) (sym was_field.ensures.text) ∙ sym
-    equal.ensures ∙ c.if-not-equal.false in
-    c.count_of.ensures ∙ rw c.field-2.ensures.text
-    (sym (rw (word-passes args.word.now args.lo args.hi fs (sym cut.ensures.counted ∙ c.if-cuts-ne2.false) word)))
+    let equal = not-false (same c.at.result.now args.word.now)
+    (ap not (sym (equal_is c.at.result.now args.word.now)) ∙ sym c.ne.ensures ∙ c.if-ne.false) in
+    rw (← c.in-Some.ensures)
+    (rw (
+      word-passes args.word.now args.lo args.hi (fields c.in-Some.fields.line.now) c.in-Some.fields.cut.counted
+          (rw c.at.ensures at equal),
+      ← c.at-2.ensures,
+    )
+    c.count_of.ensures)

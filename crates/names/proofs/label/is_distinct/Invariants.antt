@@ -1,14 +1,10 @@
 -- The invariant: the letters are distinct exactly when those from i on are. A letter stands again where it stands in
 -- the rest. Assumes nothing.
 use mathlib.Core.Path.{◌≡◌}
-use Prim.Native.Nat.{◌-◌, ◌≤◌}
-use lib.ListN.{length, drop}
+use lib.ListN.{drop}
 use Rattle.prelude.specs.Bytes.{distinct}
 use Rattle.names.proofs.Tokens.{letters_in}
 use Rattle.names.proofs.label.is_distinct.Given as goal
 
 abbrev pub invariant-loop-i : goal.invariant-loop-i
-invariant-loop-i l = (l.i ≤ length l.t) × (distinct (letters_in l.t) ≡ distinct (letters_in (drop l.i l.t)))
-
-abbrev pub decreases-loop-i : goal.decreases-loop-i
-decreases-loop-i l = length l.t - l.i
+invariant-loop-i l = distinct (letters_in l.t) ≡ distinct (letters_in (drop l.i l.t))

@@ -6,18 +6,12 @@ use Rattle.names.proofs.label.mask_of.Goals as goal
 
 pub weights_of-requires : goal.weights_of-requires
 weights_of-requires c =
-    let pre = c.requires in
-    let args = c.args in (
-      pre.0,
-      (sum_is args.k args.letters.now true (literals false args.t.now) pre.0 pre.1
-          pre.2).below,
-    )
+    let Γ = c.args.defined.now.network.now in
+    (sum_is Γ.signals Γ.letters true (literals false c.args.t.now) c.args.defined.now.names.few_signals
+    c.requires.0 c.requires.1).below
 
 pub weights_of-requires-2 : goal.weights_of-requires-2
 weights_of-requires-2 c =
-    let pre = c.requires in
-    let args = c.args in (
-      pre.0,
-      (sum_is args.k args.letters.now false (literals false args.t.now) pre.0 pre.1
-          pre.2).below,
-    )
+    let Γ = c.args.defined.now.network.now in
+    (sum_is Γ.signals Γ.letters false (literals false c.args.t.now) c.args.defined.now.names.few_signals
+    c.requires.0 c.requires.1).below

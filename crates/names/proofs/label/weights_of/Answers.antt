@@ -5,9 +5,13 @@ use Rattle.names.proofs.label.weights_of.Goals as goal
 
 pub overflow_add-sum : goal.overflow_add-sum
 overflow_add-sum c =
-    let args = c.args in
-    let pre = c.requires in
-    let loop = c.loop-i in
-    let more = weights-at args.k args.letters.now args.v loop.bang args.t.now loop.i
-    c.loop-i-test.true in
-    omega (arith, more, loop.invariant.1, c.added_by-sum.ensures, pre.1, scenarios-fit args.k pre.0)
+    let defined = c.args.defined.now in let Γ = defined.network.now in let loop = c.loop-b in
+    let more = weights-at Γ.signals Γ.letters c.args.truth loop.bang c.args.t.now loop.b-index c.loop-b-test.true in
+    omega (
+      arith,
+      more,
+      loop.invariant,
+      c.added_by-sum.ensures,
+      c.requires,
+      scenarios-fit Γ.signals defined.names.few_signals,
+    )

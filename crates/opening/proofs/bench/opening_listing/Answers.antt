@@ -1,9 +1,9 @@
 -- `opening::bench::opening_listing` meets its contract: the table that was taken over is listed as its bytes are.
 -- Assumes nothing.
 use mathlib.Core.Path.{◌∙◌, ap}
-use Rattle.calls.specs.Calls.{written_values}
+use Prim.Native.Nat.{ℕ}
+use Rattle.calls.specs.Values.{OrRefusal, number_values}
 use Rattle.calls.specs.Bench.{packed_count_lem}
-use Rattle.calls.specs.declared.Written.{Written}
 use Rattle.opening.proofs.Taken.{taken_listed, taken_small}
 use Rattle.opening.proofs.Leaves.{packed_as}
 use Rattle.opening.proofs.bench.opening_listing.Goals as goal
@@ -19,6 +19,6 @@ returns c =
     let left = c.write_listing.ensures in
     packed_as (taken_listed _ _ _ c.take-count.ensures c.args.sheet.now c.args.out.now)
     (record {
-      answer = c.packed_written.ensures ∙ ap (λ (w : Written). packed_count_lem (written_values w)) left.answer;
+      answer = c.packed_written.ensures ∙ ap (λ (w : OrRefusal ℕ). packed_count_lem (number_values w)) left.answer;
       memory = left.memory;
     })

@@ -1,20 +1,12 @@
 -- Where no event has a label none waits. Else each turn of the inner loop lists the wait of event w for one signal, if
 -- its label has that. The invariants: the waits of the events before w are listed, and those of w for the signals
 -- before p (`Asking`). Assumes nothing.
-use Prim.Native.Nat.{◌+◌, ◌-◌, ◌*◌, ◌≤◌}
+use Prim.Native.Nat.{◌+◌, ◌*◌}
 use Rattle.rounds.specs.Compiled.{Asking, all_ask}
 use Rattle.rounds.proofs.compile.list_waits.Given as goal
 
 abbrev pub invariant-loop-p : goal.invariant-loop-p
-invariant-loop-p l = (l.p ≤ l.signals) × Asking l.network l.frame l.counts l.lists (128 + l.w * 4 + l.p)
-    (all_ask l.network l.w l.p)
-
-abbrev pub decreases-loop-p : goal.decreases-loop-p
-decreases-loop-p l = l.signals - l.p
+invariant-loop-p l = Asking l.frame.network l.lists (128 + l.w * 4 + l.p) (all_ask l.frame.network l.w l.p)
 
 abbrev pub invariant-loop-w : goal.invariant-loop-w
-invariant-loop-w l = (l.w ≤ l.events) × Asking l.network l.frame l.counts l.lists (128 + l.w * 4)
-    (all_ask l.network l.w 0)
-
-abbrev pub decreases-loop-w : goal.decreases-loop-w
-decreases-loop-w l = l.events - l.w
+invariant-loop-w l = Asking l.frame.network l.lists (128 + l.w * 4) (all_ask l.frame.network l.w 0)

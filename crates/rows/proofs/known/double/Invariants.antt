@@ -1,11 +1,7 @@
 -- Each turn adds the proposition to one set more. The invariant: it is added to the first d (`Doubled`). Assumes
 -- nothing.
-use Prim.Native.Nat.{◌-◌}
 use Rattle.rows.specs.Known.{Doubled}
 use Rattle.rows.proofs.known.double.Given as goal
 
 abbrev pub invariant-loop-d : goal.invariant-loop-d
 invariant-loop-d l = Doubled l.p l.v l.initial.first l.first l.d
-
-abbrev pub decreases-loop-d : goal.decreases-loop-d
-decreases-loop-d l = l.p - l.d

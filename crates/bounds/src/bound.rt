@@ -1,0 +1,54 @@
+// One difference bound.
+ghost use Rattle.std.specs.Prelude.{ℕ, ◌≤◌, ◌<◌};
+ghost use Rattle.network.specs.Limits as L;
+ghost use Rattle.bounds.specs.Weight.{heaviest};
+
+use network::{Constraint, Network};
+
+// It asks that the time of its target is at least the time of its source and its weight, less 10,080: so no number is
+// signed.
+#[derive(Clone, Copy)]
+pub struct Bound {
+    pub target: u8,
+    pub source: u8,
+    pub weight: u16,
+    pub ghost target_in: { target < L.events },
+    pub ghost source_in: { source < L.events },
+    pub ghost weight_in: { weight ≤ heaviest },
+}
+
+impl Bound {
+    ghost use Rattle.std.specs.Prelude.{◌≡◌, neg_ℤ};
+    ghost use Rattle.network.specs.WellFormed.{InLimits};
+    ghost use Rattle.bounds.specs.Weight.{weight_of};
+    ghost use Rattle.bounds.specs.Listed.{Listable, Is};
+
+    // That the source comes at most the limit after the target. The weight is 10,080 less the limit, which never is
+    // negative.
+    fn of(target: usize, source: usize, limit: i32) -> Self
+        requires { (target < L.events) × (source < L.events) × InLimits limit }
+        ensures { Is result target source (weight_of limit) }
+    {
+        Bound {
+            target: target as u8,
+            source: source as u8,
+            weight: (i32::from(Network::HORIZON) - limit) as u16,
+        }
+    }
+
+    // The upper half of a constraint: `to` comes at most the limit after `from`.
+    pub fn upper(c: &Constraint) -> Self
+        requires { Listable c.now }
+        ensures { Is result c.now.from c.now.to (weight_of c.now.bound) }
+    {
+        Self::of(c.from, c.to, c.bound)
+    }
+
+    // Its lower half: `to` comes at least the limit after `from`, that is, `from` at most the limit negated after `to`.
+    pub fn lower(c: &Constraint) -> Self
+        requires { Listable c.now }
+        ensures { Is result c.now.to c.now.from (weight_of (neg_ℤ c.now.bound)) }
+    {
+        Self::of(c.to, c.from, -c.bound)
+    }
+}

@@ -1,0 +1,172 @@
+// One scenario of a strategy, by what is known in it when: points 1 and 3.
+ghost use Rattle.std.specs.Prelude.{◌≡◌, ◌<◌};
+ghost use Rattle.prelude.specs.Options.{option_of};
+ghost use Rattle.network.specs.Build.{scenarios};
+ghost use Rattle.network.specs.Limits as L;
+ghost use Rattle.network.specs.Scenario as S;
+ghost use Rattle.network.specs.WellFormed.{FewLetters};
+ghost use Rattle.checker.specs.Plain as P;
+ghost use Rattle.checker.specs.Verdict.{is_on_time, is_alike, late_in, unheard_in, unheard_from};
+
+use super::Breach;
+use super::strategy::{NEVER, Strategy};
+use network::{Label, Network};
+
+// For each proposition, from when on it is known in the scenario: NEVER where it is not given there.
+#[derive(Clone, Copy)]
+pub struct Known<'a> {
+    pub strategy: Strategy<'a>,
+    pub scenario: usize,
+    pub from: [u32; Network::SIGNALS],
+    pub ghost within: { scenario < scenarios strategy.formed.now.network },
+    pub ghost known: { P.KnownIn strategy.formed.now.network strategy.table.now scenario
+        strategy.formed.now.network.signals from },
+}
+
+impl<'a> Known<'a> {
+    pub fn of(strategy: &Strategy<'a>, scenario: usize) -> Self
+        requires { scenario < scenarios strategy.now.formed.now.network }
+        ensures { (result.strategy ≡ strategy.now) × (result.scenario ≡ scenario) }
+    {
+        let mut from = [NEVER; Network::SIGNALS];
+        for p in 0..strategy.formed.network.signals {
+            from[p] = strategy.known_from(scenario, p);
+        }
+        Known {
+            strategy: *strategy,
+            scenario,
+            from,
+        }
+    }
+
+    // Whether a time is not before each proposition of the label is known.
+    fn waits(&self, label: Label, time: u16) -> bool
+        requires { FewLetters label }
+        ensures { result ≡ P.waits self.now.from self.now.strategy.formed.now.network.signals label time }
+    {
+        (0..self.strategy.formed.network.signals).all(|p| !network::mentions(label, p)
+            || self.from[p] <= u32::from(time))
+    }
+
+    // Point 1 in the cell of event u. Most labels have no letter: then nothing but the limits is asked.
+    fn in_place(&self, u: usize) -> bool
+        requires { u < self.now.strategy.formed.now.network.events }
+        ensures { result ≡ is_on_time self.now.strategy.formed.now.network self.now.strategy.table.now
+            self.now.scenario u }
+    {
+        let network = &self.strategy.formed.network;
+        let label = network.labels[u];
+        let time = self.strategy.time(self.scenario, u);
+        let limits = on_time(network.horizon, u, time);
+        if label == Label::DASH {
+            return limits;
+        }
+        if !network::satisfies(self.scenario, label) {
+            return time == Network::BLANK;
+        }
+        limits && self.waits(label, time)
+    }
+
+    // The first event whose cell breaks point 1.
+    pub fn first_late(&self) -> Option<Breach>
+        ensures { result ≡ option_of (late_in self.now.strategy.formed.now.network self.now.strategy.table.now
+            self.now.scenario) }
+    {
+        for u in 0..self.strategy.formed.network.events {
+            if !self.in_place(u) {
+                return Some(Breach::Late {
+                    scenario: self.scenario,
+                    event: u,
+                });
+            }
+        }
+        None
+    }
+
+    // From when on the scenario is told apart from r: the first that is known of the propositions on which they differ.
+    fn told_from(&self, r: usize) -> u32
+        requires { r < scenarios self.now.strategy.formed.now.network }
+        ensures { result ≡ P.told_from self.now.from self.now.strategy.formed.now.network.signals
+            self.now.scenario r }
+    {
+        let mut first = NEVER;
+        for p in 0..self.strategy.formed.network.signals {
+            if !agree(self.scenario, r, p) {
+                first = first.min(self.from[p]);
+            }
+        }
+        first
+    }
+
+    // Point 3 for event u and r, from which the scenario is told apart from `told` on. Before that it has one time in
+    // both, if it happens in both; where it has one time, that is not asked.
+    fn alike(&self, r: usize, told: u32, u: usize) -> bool
+        requires { (r < scenarios self.now.strategy.formed.now.network)
+            × (told ≡ P.told_from self.now.from self.now.strategy.formed.now.network.signals self.now.scenario r)
+            × (u < self.now.strategy.formed.now.network.events) }
+        ensures { result ≡ is_alike self.now.strategy.formed.now.network self.now.strategy.table.now
+            self.now.scenario r u }
+    {
+        let mine = self.strategy.time(self.scenario, u);
+        let theirs = self.strategy.time(r, u);
+        if told <= u32::from(mine) {
+            return true;
+        }
+        if mine == theirs {
+            return true;
+        }
+        let label = self.strategy.formed.network.labels[u];
+        !network::satisfies(self.scenario, label) || !network::satisfies(r, label)
+    }
+
+    // The first event that the scenario and r break point 3 with.
+    fn first_unheard_in(&self, r: usize) -> Option<Breach>
+        requires { r < scenarios self.now.strategy.formed.now.network }
+        ensures { result ≡ option_of (unheard_in self.now.strategy.formed.now.network self.now.strategy.table.now
+            self.now.scenario r) }
+    {
+        let s = self.scenario;
+        let told = self.told_from(r);
+        for u in 0..self.strategy.formed.network.events {
+            if !self.alike(r, told, u) {
+                return Some(Breach::Unheard {
+                    scenario: s,
+                    other: r,
+                    event: u,
+                });
+            }
+        }
+        None
+    }
+
+    // The first other scenario and event that break point 3.
+    pub fn first_unheard(&self) -> Option<Breach>
+        ensures { result ≡ option_of (unheard_from self.now.strategy.formed.now.network
+            self.now.strategy.table.now self.now.scenario) }
+    {
+        for r in 0..self.strategy.scenario_count() {
+            if let Some(breach) = self.first_unheard_in(r) {
+                return Some(breach);
+            }
+        }
+        None
+    }
+}
+
+// The limits of an event that happens. The origin's own limit is 0.
+fn on_time(horizon: u16, u: usize, time: u16) -> bool
+    ensures { result ≡ P.on_time_lem horizon u time }
+{
+    if u == 0 {
+        return time == 0;
+    }
+    time <= horizon
+}
+
+// Whether s and r give p the same truth.
+fn agree(s: usize, r: usize, p: usize) -> bool
+    requires { (s < L.cases) × (r < L.cases) × (p < L.signals) }
+    ensures { result ≡ S.agree s r p }
+{
+    ((s ^ r) >> p) & 1 == 0
+}

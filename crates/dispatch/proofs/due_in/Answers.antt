@@ -1,7 +1,0 @@
-use native.Mathlib.Omega.{arith}
-use Rattle.dispatch.proofs.Core.{summing_fits}
-use Rattle.dispatch.proofs.due_in.Goals as goal
-
-pub overflow_add-due : goal.overflow_add-due
-overflow_add-due c =
-    record { fits = summing_fits c.loop-u.invariant (omega arith) }
