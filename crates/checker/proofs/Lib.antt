@@ -13,3 +13,4 @@ pub mod Differences
 pub mod Placed
 pub mod Plain
 pub mod Reach
+pub mod Seeking

@@ -84,7 +84,7 @@ impl<'a> Known<'a> {
     }
 
     // From when on the scenario is told apart from r: the first that is known of the propositions on which they differ.
-    fn told_from(&self, r: usize) -> u32
+    pub fn told_from(&self, r: usize) -> u32
         requires { r < scenarios self.now.strategy.formed.now.network }
         ensures { result ≡ P.told_from self.now.from self.now.strategy.formed.now.network.signals
             self.now.scenario r }
@@ -100,7 +100,7 @@ impl<'a> Known<'a> {
 
     // Point 3 for event u and r, from which the scenario is told apart from `told` on. Before that it has one time in
     // both, if it happens in both; where it has one time, that is not asked.
-    fn alike(&self, r: usize, told: u32, u: usize) -> bool
+    pub fn alike(&self, r: usize, told: u32, u: usize) -> bool
         requires { (r < scenarios self.now.strategy.formed.now.network)
             × (told ≡ P.told_from self.now.from self.now.strategy.formed.now.network.signals self.now.scenario r)
             × (u < self.now.strategy.formed.now.network.events) }
@@ -117,39 +117,6 @@ impl<'a> Known<'a> {
         }
         let label = self.strategy.formed.network.labels[u];
         !network::satisfies(self.scenario, label) || !network::satisfies(r, label)
-    }
-
-    // The first event that the scenario and r break point 3 with.
-    fn first_unheard_in(&self, r: usize) -> Option<Breach>
-        requires { r < scenarios self.now.strategy.formed.now.network }
-        ensures { result ≡ option_of (unheard_in self.now.strategy.formed.now.network self.now.strategy.table.now
-            self.now.scenario r) }
-    {
-        let s = self.scenario;
-        let told = self.told_from(r);
-        for u in 0..self.strategy.formed.network.events {
-            if !self.alike(r, told, u) {
-                return Some(Breach::Unheard {
-                    scenario: s,
-                    other: r,
-                    event: u,
-                });
-            }
-        }
-        None
-    }
-
-    // The first other scenario and event that break point 3.
-    pub fn first_unheard(&self) -> Option<Breach>
-        ensures { result ≡ option_of (unheard_from self.now.strategy.formed.now.network
-            self.now.strategy.table.now self.now.scenario) }
-    {
-        for r in 0..self.strategy.scenario_count() {
-            if let Some(breach) = self.first_unheard_in(r) {
-                return Some(breach);
-            }
-        }
-        None
     }
 }
 

@@ -118,16 +118,28 @@ impl Strategy<'_> {
         None
     }
 
-    // The first two scenarios and event that break point 3.
+    // The first two scenarios and event that break point 3. The first breach ends the search.
     fn first_unheard(&self) -> Option<Breach>
         ensures { result ≡ option_of (first_unheard_lem self.now.formed.now.network self.now.table.now) }
     {
-        for s in 0..self.scenario_count() {
-            if let Some(breach) = Known::of(self, s).first_unheard() {
-                return Some(breach);
+        let mut found = None;
+        'unheard: for s in 0..self.scenario_count() {
+            let known = Known::of(self, s);
+            for r in 0..self.scenario_count() {
+                let told = known.told_from(r);
+                for u in 0..self.formed.network.events {
+                    if !known.alike(r, told, u) {
+                        found = Some(Breach::Unheard {
+                            scenario: s,
+                            other: r,
+                            event: u,
+                        });
+                        break 'unheard;
+                    }
+                }
             }
         }
-        None
+        found
     }
 
     // The first breach: the points are tried in their order.
