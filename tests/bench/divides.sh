@@ -3,10 +3,11 @@
 # turn a loop that counts off back into a division, and it divides by a constant by multiplying with another.
 #
 # Looked at are opening_listing, opening_house and all that they call. There no instruction divides; none multiplies
-# but a register by a register or by what is in memory, and then the function puts no large constant into a register;
-# in the crates that write numbers, `text` and `page`, none multiplies at all. Nothing is called that is not in the
-# library, but memcpy and its like. And the source of these two crates has no / and no % outside contracts. That each of
-# these is noticed is tried on small functions first.
+# but a register by a register or by what is in memory, and then the function puts no large constant into a register,
+# other than a mask of whole bytes, by which nothing is divided; in the crates that write numbers, `text` and `page`,
+# and in `counted`, whose lists they write on, none multiplies at all. Nothing is called that is not in the library, but
+# memcpy and its like. And the source of these three crates has no / and no % outside contracts. That each of these is
+# noticed is tried on small functions first.
 # Prints one line and exits with 0, or says what was found and exits with 1.
 set -u
 cd "$(dirname "$0")/../.." || exit 2
@@ -30,10 +31,11 @@ found() { # FILE
     }
     /\t[a-z]*div[a-z0-9]* / { fault($0); next }
     /\t[a-z]*mul[a-z0-9]* / {
-      if (f ~ /^(text|page)::/ || $0 !~ /\timul[wlq]? +[^$,]*(\([^)]*\))?,%[a-z0-9]+$/) fault($0)
+      if (f ~ /^(text|page|counted)::/ || $0 !~ /\timul[wlq]? +[^$,]*(\([^)]*\))?,%[a-z0-9]+$/) fault($0)
       else product[f] = product[f] "in " f ": " $0 "\n"
       next
     }
+    /\tmov(abs)?[lq]? +\$0x(00|ff)+,%/ { next }
     /\tmov(abs)?[lq]? +\$0x[0-9a-f][0-9a-f][0-9a-f][0-9a-f][0-9a-f][0-9a-f][0-9a-f]+,%/ {
       large[f] = large[f] "in " f ": " $0 "\n"
     }
@@ -76,8 +78,10 @@ passed() { small "$@"; ! at_fault "$room/$1.o" || fail "taken for a division: $1
 passed difference uint16_t 'return v - w;'
 passed difference_in_text uint16_t 'return v - w;' text::of
 passed product uint32_t 'return v * w;'
+passed product_and_mask uint32_t 'return (v & 0xffff00ff) * w;'
 noticed product_in_text uint32_t 'return v * w;' text::of
 noticed product_on_page uint32_t 'return v * w;' 'page::Page::of::<#00c5eed1ab5e10f5>'
+noticed product_in_list uint32_t 'return v * w;' 'counted::Counted::of::<#00c5eed1ab5e10f5>'
 noticed quotient uint16_t 'return v / w;'
 noticed tenth_16 uint16_t 'return v / 10;'
 noticed tenth_32 uint32_t 'return v / 10;'
@@ -92,7 +96,7 @@ at_fault "$room/of.o" | grep -q mul || fail 'not noticed: a tenth as rustc has i
 printf '    // v / 10\n    ensures { v / 10 }\n    v / 10\n' >"$room/of.rt"
 [ "$(divisions "$room/of.rt")" = '3:    v / 10' ] || fail 'a division in the source is not noticed'
 
-for source in crates/text/src/*.rt crates/page/src/*.rt; do
+for source in crates/{text,page,counted}/src/*.rt; do
   [ -s "$source" ] || fail "no $source"
   ! divisions "$source" || fail "a division in $source"
 done
@@ -101,7 +105,7 @@ for name in opening_listing opening_house; do
   grep -q "^seen $name$" "$room/found" || fail "$name is not in the library"
 done
 # by the method of a page, by `spell`, or by what these two are made of where the compiler keeps that apart
-grep -qE '^seen (page::Page::push_number|text::(spell|place|count_off))(::<.*>)?$' "$room/found" ||
+grep -qE '^seen (page::Page::push_number|text::digits::(spell|place|count_off))(::<.*>)?$' "$room/found" ||
   fail 'it is not seen where numbers are written'
 ! at_fault "$1" || fail 'the library divides'
 called=$(($(grep -c '^seen ' "$room/found") - 2))

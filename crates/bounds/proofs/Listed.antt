@@ -1,18 +1,18 @@
 -- Lists, one bound longer in each scenario in which a label holds. Assumes nothing.
-use mathlib.Core.Path.{◌≡◌, ◌∙◌, ap}
+use mathlib.Core.Path.{◌≡◌, ◌∙◌}
 use mathlib.Core.Logic.{inl, inr}
-use mathlib.Core.Bool.{true, false}
-use mathlib.Core.List.{List, [], ◌∷◌, ◌++◌}
-use Prim.Native.Nat.{ℕ, ◌+◌, ◌<◌}
+use mathlib.Core.List.{List, ◌++◌}
+use Prim.Native.Nat.{ℕ, ◌+◌, ◌-◌, ◌≤◌, ◌<◌}
 use native.Mathlib.Omega.{arith}
-use lib.ListN.{length, set, replicate, length-set, get_or-replicate, get_or-eq_default}
-use lib.Seq.{get_or-set_same, get_or-set_other}
-use Rattle.prelude.proofs.Tests.{eq_or_ne, lt_or_ge}
-use Rattle.network.specs.Scenario.{satisfies}
+use lib.ListN.{length, take, drop, replicate, length-append, length-drop, get_or-append, get_or-replicate}
+use lib.ListN.{get_or-eq_default}
+use lib.Seq.{get_or-take, get_or-drop, length-take-le}
+use Rattle.std.proofs.lemmas.List.{get_or-append_right}
+use Rattle.prelude.proofs.Tests.{lt_or_ge}
 use Rattle.network.specs.declared.Label.{Label}
 use Rattle.bounds.specs.declared.bound.Bound.{Bound}
 use Rattle.bounds.specs.declared.list.BoundList.{BoundList}
-use Rattle.bounds.specs.Listed.{listed, none, case, in_case, Added}
+use Rattle.bounds.specs.Listed.{none, case, Added}
 
 -- lists that hold nothing yet
 pub empty_lists : (l : BoundList) → l.count ≡ 0 → (s : ℕ) → (case (replicate 16 l) s).count ≡ 0
@@ -22,38 +22,25 @@ empty_lists l e s =
       | inr h ↦ rw (get_or-eq_default (replicate 16 l) none {n = s} h)
     ]
 
-module _ (ℓ : Label) (b : Bound) {lists lists' : List BoundList} {s : ℕ} (A : Added ℓ b lists lists' s) where
-  pub added_skip : satisfies s ℓ ≡ false → Added ℓ b lists lists' (s + 1)
-  added_skip e = record {
-    sized = A.sized;
-    adds =
-        λ r l. elim (eq_or_ne r s) [
-          | inl q ↦ rw (q, e) (ap listed (A.later s (omega arith)))
-          | inr q ↦ A.adds r (omega arith)
-        ];
-    later = λ r l. A.later r (omega arith);
-    grows = A.grows;
-  }
-
-  pub added_one : (l : BoundList) → satisfies s ℓ ≡ true → s < length lists
-      → listed l ≡ in_case lists' s ++ b ∷ [] → l.count ≡ (case lists' s).count + 1
-      → Added ℓ b lists (set lists' s l) (s + 1)
-  added_one l e h more one =
-      let here : case (set lists' s l) s ≡ l = get_or-set_same lists' s l none (omega (arith, A.sized)) in
-      let other : (r : ℕ) → (r ≡ s → ⊥) → case (set lists' s l) r ≡ case lists' r =
-      λ r n. get_or-set_other lists' s r l none n in
-      let before = A.later s (omega arith) in
-      record {
-        sized = length-set lists' s l ∙ A.sized;
-        adds =
-            λ r k. elim (eq_or_ne r s) [
-              | inl q ↦ rw (q, e, here, more, before)
-              | inr q ↦ rw (other r q) (A.adds r (omega arith))
-            ];
-        later = λ r k. other r (λ q. omega arith) ∙ A.later r (omega arith);
-        grows =
-            λ r. elim (eq_or_ne r s) [
-              | inl q ↦ rw (q, here, one, before) (omega arith)
-              | inr q ↦ rw (other r q) (A.grows r)
-            ];
-      }
+-- lists whose first k were lent as a part, which is put back
+pub added_part : {ℓ : Label} {b : Bound} {lists part : List BoundList} {k s : ℕ} → Added ℓ b (take k lists) part s
+    → k ≤ length lists → k ≤ s → Added ℓ b lists (part ++ drop k lists) k
+added_part {ℓ} {b} {lists} {part} {k} {s} A h l =
+    let size : length part ≡ k = A.sized ∙ length-take-le k lists h in
+    let before : (r : ℕ) → r < k → case (take k lists) r ≡ case lists r = λ r m. get_or-take k lists r none m in
+    let front : (r : ℕ) → r < k → case (part ++ drop k lists) r ≡ case part r =
+    λ r m. get_or-append part (drop k lists) none r (omega arith) in
+    let behind : (r : ℕ) → k ≤ r → case (part ++ drop k lists) r ≡ case lists r = λ r m.
+    let place : k + (r - k) ≡ r = omega arith in
+    get_or-append_right part (drop k lists) k r none size m ∙ get_or-drop k lists (r - k) none ∙ rw place in
+    record {
+      sized = length-append part (drop k lists) ∙ omega (arith, size, length-drop k lists);
+      adds = λ r m. rw (front r m) (rw (before r m) at (A.adds r (omega arith)));
+      later = behind;
+      grows =
+          λ r.
+          elim (lt_or_ge r k) [
+            | inl m ↦ rw (front r m) (rw (before r m) at (A.grows r))
+            | inr m ↦ rw (behind r m) (omega arith)
+          ];
+    }

@@ -1,5 +1,5 @@
 // One difference bound.
-ghost use Rattle.std.specs.Prelude.{ℕ, ◌≤◌, ◌<◌};
+ghost use Rattle.std.specs.Prelude.{◌≤◌, ◌<◌};
 ghost use Rattle.network.specs.Limits as L;
 ghost use Rattle.bounds.specs.Weight.{heaviest};
 
@@ -18,13 +18,12 @@ pub struct Bound {
 }
 
 impl Bound {
-    ghost use Rattle.std.specs.Prelude.{◌≡◌, neg_ℤ};
     ghost use Rattle.network.specs.WellFormed.{InLimits};
-    ghost use Rattle.bounds.specs.Weight.{weight_of};
+    ghost use Rattle.bounds.specs.Weight.{weight_of, lower_weight};
     ghost use Rattle.bounds.specs.Listed.{Listable, Is};
 
     // That the source comes at most the limit after the target. The weight is 10,080 less the limit, which never is
-    // negative.
+    // negative. The casts lose nothing, since an event's number is below 16 and a weight at most 20,160.
     fn of(target: usize, source: usize, limit: i32) -> Self
         requires { (target < L.events) × (source < L.events) × InLimits limit }
         ensures { Is result target source (weight_of limit) }
@@ -36,7 +35,8 @@ impl Bound {
         }
     }
 
-    // The upper half of a constraint: `to` comes at most the limit after `from`.
+    // The upper half of a constraint: `to` comes at most the limit after `from`. (That it can be listed is asked: a
+    // type for it would be made anew of each constraint and each wait.)
     pub fn upper(c: &Constraint) -> Self
         requires { Listable c.now }
         ensures { Is result c.now.from c.now.to (weight_of c.now.bound) }
@@ -47,7 +47,7 @@ impl Bound {
     // Its lower half: `to` comes at least the limit after `from`, that is, `from` at most the limit negated after `to`.
     pub fn lower(c: &Constraint) -> Self
         requires { Listable c.now }
-        ensures { Is result c.now.to c.now.from (weight_of (neg_ℤ c.now.bound)) }
+        ensures { Is result c.now.to c.now.from (lower_weight c.now.bound) }
     {
         Self::of(c.to, c.from, -c.bound)
     }

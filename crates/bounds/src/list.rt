@@ -7,7 +7,8 @@ use crate::bound::Bound;
 use network::Network;
 use rows::Row;
 
-// The bounds of one scenario: the first so many.
+// The bounds of one scenario: the first so many. It has no model, since sixteen of them are made by copying one, and
+// what has a model that forgets a part, here what is behind the count, can't be copied.
 #[derive(Clone, Copy)]
 pub struct BoundList {
     count: usize,
@@ -16,22 +17,22 @@ pub struct BoundList {
 }
 
 // 10,080 more than each time, so that no bound needs a sign.
-fn lift(o: &mut Row)
+fn bias(o: &mut Row)
     requires { Few L.horizon o.old }
     ensures { Sixteen o.new (λ u. get_or o.old u 0 + L.horizon) }
 {
-    for u in 0..Network::EVENTS {
-        o[u] += Network::HORIZON;
+    for time in o.iter_mut() {
+        *time += Network::HORIZON;
     }
 }
 
 // The times again.
-fn lower(o: &mut Row)
+fn unbias(o: &mut Row)
     requires { (u : ℕ) → u < L.events → L.horizon ≤ get_or o.old u 0 }
     ensures { Sixteen o.new (λ u. get_or o.old u 0 - L.horizon) }
 {
-    for u in 0..Network::EVENTS {
-        o[u] -= Network::HORIZON;
+    for time in o.iter_mut() {
+        *time -= Network::HORIZON;
     }
 }
 
@@ -88,9 +89,9 @@ impl BoundList {
             (λ u. max (get_or row.now u 0) (asks (listed self.now) row.now u - L.horizon)) }
     {
         let mut o = *row;
-        lift(&mut o);
+        bias(&mut o);
         self.raise(row, &mut o);
-        lower(&mut o);
+        unbias(&mut o);
         o
     }
 }

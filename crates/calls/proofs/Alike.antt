@@ -14,7 +14,7 @@ use Rattle.network.specs.Build.{cells}
 use Rattle.network.specs.declared.Network.{Network}
 use Rattle.sheet.specs.Reading.{network_of, Accepts}
 use Rattle.checker.specs.Verdict.{verdict}
-use Rattle.dispatch.specs.declared.Unheard.{Unheard}
+use Rattle.dispatch.specs.declared.Unanswered.{Unanswered}
 use Rattle.listing.specs.Listing.{listing}
 use Rattle.calls.specs.Call.{without_line_lem, Tests}
 use Rattle.calls.specs.Lent.{Handed, in_place_lem}
@@ -58,7 +58,7 @@ module _ (sheet : List ℕ) (t t' : Handed)
       (λ a. same_tests a (rest t.minutes) (rest t'.minutes) (λ e. ap rest ((alike a).minutes e)))
       (λ a h. ap (λ (σ : List ℕ). writing (in_place_lem m) (listing sheet net σ)) ((alike a).minutes h.0))
 
-  pub playing-alike : (said said' : Network → Result ℕ Unheard)
+  pub playing-alike : (said said' : Network → Result ℕ Unanswered)
       → (Accepts sheet → t.has (cells net) ≡ true → said net ≡ said' net)
       → playing sheet t said ≡ playing sheet t' said'
   playing-alike said said' same =
@@ -66,9 +66,9 @@ module _ (sheet : List ℕ) (t t' : Handed)
       (λ Γ. Ok (events_of (said' Γ)))
       (λ a. same_tests a (rest t.minutes (said net)) (rest t'.minutes (said' net))
       (λ e. ap (λ (σ : List ℕ). rest σ (said net)) ((alike a).minutes e) ∙ ap (rest t'.minutes) (same a e)))
-      (λ a h. ap (λ (d : Result ℕ Unheard). Ok (events_of d)) (same a h.0))
+      (λ a h. ap (λ (d : Result ℕ Unanswered). Ok (events_of d)) (same a h.0))
     where
-      rest : List ℕ → Result ℕ Unheard → Tests
+      rest : List ℕ → Result ℕ Unanswered → Tests
       rest σ d =
           (is_pass (verdict net σ), without_line_lem C.TableFails)
           ∷ (named d, without_line_lem C.MisnamedSignal)

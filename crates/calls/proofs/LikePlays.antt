@@ -19,8 +19,8 @@ use Rattle.dispatch.specs.Heard.{letters_of, is_well_named, says, records_from}
 use Rattle.dispatch.specs.Due.{is_due_lem, as_heard, has_heard_lem, hearer, due_for, due_by, due}
 use Rattle.dispatch.specs.Said.{said_on, stands_on, said_from, well_named_on, due_on}
 use Rattle.dispatch.specs.declared.Heard.{Heard}
-use Rattle.dispatch.specs.declared.Unheard.{Unheard}
-use Rattle.dispatch.specs.declared.Unheard.TheVariants.{Misnamed}
+use Rattle.dispatch.specs.declared.Unanswered.{Unanswered}
+use Rattle.dispatch.specs.declared.Unanswered.TheVariants.{Misnamed}
 use Rattle.tighten.proofs.Agree.{scenarios-agree, happens-agree, time-agree}
 use Rattle.calls.proofs.Likewise.{Likewise}
 use Rattle.calls.proofs.LikeVerdicts.{first-same, all_same, known_same}
@@ -79,7 +79,7 @@ module _ {Γ Δ : Network} (w : Likewise Γ Δ) where
 
     by-same : (b : Bool) (said : ℕ → Bool → Bool) → due_by Γ σ m b said ≡ due_by Δ σ m b said
     by-same b said =
-        ap (λ (d : Result ℕ Unheard). cond b d (Err Misnamed)) (for_same (hearer Γ σ m said) ∙ ap (due_for Δ σ m)
+        ap (λ (d : Result ℕ Unanswered). cond b d (Err Misnamed)) (for_same (hearer Γ σ m said) ∙ ap (due_for Δ σ m)
         (hearer-same said))
 
     pub due-same : (hs : List Heard) → due Γ σ m hs ≡ due Δ σ m hs

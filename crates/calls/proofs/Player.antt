@@ -20,8 +20,8 @@ use Rattle.dispatch.specs.Due.{due}
 use Rattle.dispatch.specs.Said.{said_from, due_on}
 use Rattle.dispatch.specs.HeardText.{heard_in, due_text}
 use Rattle.dispatch.specs.declared.Heard.{Heard}
-use Rattle.dispatch.specs.declared.Unheard.{Unheard}
-use Rattle.dispatch.specs.declared.Unheard.TheVariants as P
+use Rattle.dispatch.specs.declared.Unanswered.{Unanswered}
+use Rattle.dispatch.specs.declared.Unanswered.TheVariants as P
 use Rattle.dispatch.proofs.Answers.{due-misnamed, due-never}
 use Rattle.dispatch.proofs.Mask.{due-said, due-on-misnamed}
 use Rattle.dispatch.proofs.HeardText.{text-misnamed, text-never}
@@ -43,22 +43,22 @@ pass-false Pass = (λ e. zero-is-one cc, λ n. absurd (n refl))
 pass-false (Breached b) = (λ e q. zero-is-one cc, λ n. refl)
 
 -- what the player says
-named-false : (d : Result ℕ Unheard) → (named d ≡ false) ↔ (d ≡ Err P.Misnamed)
+named-false : (d : Result ℕ Unanswered) → (named d ≡ false) ↔ (d ≡ Err P.Misnamed)
 named-false (Ok x) = (λ e. zero-is-one cc, λ e. zero-is-one cc)
 named-false (Err P.Misnamed) = (λ e. refl, λ e. refl)
 named-false (Err P.NeverHeard) = (λ e. zero-is-one cc, λ e. zero-is-one cc)
 
-heard-false : (d : Result ℕ Unheard) → (ever_heard d ≡ false) ↔ (d ≡ Err P.NeverHeard)
+heard-false : (d : Result ℕ Unanswered) → (ever_heard d ≡ false) ↔ (d ≡ Err P.NeverHeard)
 heard-false (Ok x) = (λ e. zero-is-one cc, λ e. zero-is-one cc)
 heard-false (Err P.Misnamed) = (λ e. zero-is-one cc, λ e. zero-is-one cc)
 heard-false (Err P.NeverHeard) = (λ e. refl, λ e. refl)
 
 -- misnamed and unheard are the causes of 15 and 16
-pub record Says (d : Result ℕ Unheard) (misnamed unheard : Type 0) : Type 0 where
+pub record Says (d : Result ℕ Unanswered) (misnamed unheard : Type 0) : Type 0 where
   pub fifteen : (d ≡ Err P.Misnamed) ↔ misnamed
   pub sixteen : (d ≡ Err P.Misnamed → ⊥) → (d ≡ Err P.NeverHeard) ↔ unheard
 
-module _ (sheet : List ℕ) (t : Handed) (right : Network → Type 0) (said : Network → Result ℕ Unheard)
+module _ (sheet : List ℕ) (t : Handed) (right : Network → Type 0) (said : Network → Result ℕ Unanswered)
     (misnamed unheard : Network → Type 0) where
   abbrev net : Network
   net = network_of sheet
@@ -103,7 +103,7 @@ module _ (sheet : List ℕ) (t : Handed) (right : Network → Type 0) (said : Ne
       (λ Γ. (refl, refl))
 
 -- what is neither misnamed nor anything but unheard is unheard
-unheard_left : (d : Result ℕ Unheard) → (d ≡ Err P.Misnamed → ⊥)
+unheard_left : (d : Result ℕ Unanswered) → (d ≡ Err P.Misnamed → ⊥)
     → ((d ≡ Err P.NeverHeard → ⊥) → d ≡ Err P.Misnamed) → d ≡ Err P.NeverHeard
 unheard_left (Ok x) n k = absurd (n (k (λ q. zero-is-one cc)))
 unheard_left (Err P.Misnamed) n k = absurd (n refl)

@@ -22,7 +22,7 @@ use Rattle.dispatch.specs.Heard.{Lettered}
 use Rattle.dispatch.specs.History.{History, history_of}
 use Rattle.dispatch.specs.Due.{is_due_lem, due_in_lem, due}
 use Rattle.dispatch.specs.declared.Heard.{Heard}
-use Rattle.dispatch.specs.declared.Unheard.{Unheard}
+use Rattle.dispatch.specs.declared.Unanswered.{Unanswered}
 use Rattle.dispatch.proofs.Bits.{mask_small, truth-mask}
 use Rattle.dispatch.proofs.Alike.{indistinct_comm, indistinct_history, indistinct_due}
 use Rattle.dispatch.proofs.WasDue.{known_was_due}
@@ -45,7 +45,7 @@ events_of_lem sheet t Γ reads m hs x =
     sym (call_works Err sheet (playing_tests (as_minutes t) (λ Γ. due Γ t m hs))
     (λ Γ. Ok (events_of (due Γ t m hs))) (network_of sheet) reads.accepted
     ((minutes_rightly t (network_of sheet)).yes.1 e, (rw p, (rw d, (rw d, tt)))))
-    ∙ ap (λ (y : Result ℕ Unheard). Ok (events_of y)) d)
+    ∙ ap (λ (y : Result ℕ Unanswered). Ok (events_of y)) d)
 
 module _ (sheet t : List ℕ) (Γ : Network) (reads : Reads sheet Γ) where
   wf : WellFormed Γ

@@ -27,8 +27,8 @@ use Rattle.solver.specs.Solve.{solve, found}
 use Rattle.dispatch.specs.Due.{due}
 use Rattle.dispatch.specs.Said.{due_on}
 use Rattle.dispatch.specs.HeardText.{is_heard_lem, heard_in, due_text}
-use Rattle.dispatch.specs.declared.Unheard.{Unheard}
-use Rattle.dispatch.specs.declared.Unheard.TheVariants.{Misnamed}
+use Rattle.dispatch.specs.declared.Unanswered.{Unanswered}
+use Rattle.dispatch.specs.declared.Unanswered.TheVariants.{Misnamed}
 use Rattle.listing.specs.Listing.{header, listing}
 use Rattle.listing.proofs.Same.{header-same, listing-same}
 use Rattle.readback.specs.Rows.{recovered}
@@ -110,7 +110,7 @@ module _ (sheet other : List ℕ) (a : Accepts sheet) (b : Accepts other)
       (rested other m b (sym (rests-same m) ∙ h.1.0))))
 
   -- playing, by what the player says of a network
-  plays : (t : Handed) (said : Network → Result ℕ Unheard) → said Γ ≡ said Δ
+  plays : (t : Handed) (said : Network → Result ℕ Unanswered) → said Γ ≡ said Δ
       → playing sheet t said ≡ playing other t said
   plays t said e =
       calls_alike Err sheet other (playing_tests t said) (playing_tests t said)
@@ -118,9 +118,9 @@ module _ (sheet other : List ℕ) (a : Accepts sheet) (b : Accepts other)
       (λ Γ. Ok (events_of (said Γ))) a b
       (ap₂ (λ (n : ℕ) (v : Verdict). first n v (said Γ)) size (verdict-same w t.minutes)
       ∙ ap (first (cells Δ) (verdict Δ t.minutes)) e)
-      (λ _. ap (λ (d : Result ℕ Unheard). Ok (events_of d)) e)
+      (λ _. ap (λ (d : Result ℕ Unanswered). Ok (events_of d)) e)
     where
-      first : ℕ → Verdict → Result ℕ Unheard → Option Refusal
+      first : ℕ → Verdict → Result ℕ Unanswered → Option Refusal
       first n v d =
           first_failing_lem ((t.has n, without_line_lem C.WrongTableLength)
           ∷ (is_pass v, without_line_lem C.TableFails)
@@ -178,7 +178,7 @@ module _ (sheet other : List ℕ) (a : Accepts sheet) (b : Accepts other)
     due_on_lem = λ t m x. plays (as_minutes t) (λ Γ. due_on Γ t m x) (due-on-same w t m x);
     bench_due_lem = λ t m text.
         plays (as_bytes t) (λ Γ. due_text Γ (minutes_of t) m text)
-        (ap (λ (d : Result ℕ Unheard). cond (is_heard_lem text) d (Err Misnamed))
+        (ap (λ (d : Result ℕ Unanswered). cond (is_heard_lem text) d (Err Misnamed))
         (due-same w (minutes_of t) m (heard_in text)));
     listings = listings;
     recoveries = recoveries;

@@ -29,8 +29,8 @@ use Rattle.solver.proofs.Least.{solve-least}
 use Rattle.dispatch.specs.Heard.{is_well_named, says}
 use Rattle.dispatch.specs.Due.{is_due_lem, hearer, due_for, due}
 use Rattle.dispatch.specs.HeardText.{is_heard_lem, heard_in, due_text}
-use Rattle.dispatch.specs.declared.Unheard.{Unheard as NotHeard}
-use Rattle.dispatch.specs.declared.Unheard.TheVariants.{Misnamed}
+use Rattle.dispatch.specs.declared.Unanswered.{Unanswered}
+use Rattle.dispatch.specs.declared.Unanswered.TheVariants.{Misnamed}
 use Rattle.dispatch.proofs.Bits.{mask_small}
 use Rattle.listing.specs.Listing.{header, listing}
 use Rattle.listing.proofs.Short.{listing-short}
@@ -146,7 +146,7 @@ module _ (sheet : List ℕ) where
       (λ Γ. writing (in_place_lem m) (house_text sheet Γ))
       (λ a h. omega (arith, form-short sheet a (fit-few (remaining_of net) h.0)))
 
-  pub playing_small : (t : Handed) (said : Network → Result ℕ NotHeard)
+  pub playing_small : (t : Handed) (said : Network → Result ℕ Unanswered)
       → (Accepts sheet → events_of (said net) < 65536) → (number_values (playing sheet t said)).value <
       65536
   playing_small t said few =

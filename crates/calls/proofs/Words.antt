@@ -2,22 +2,29 @@
 -- Assumes nothing.
 use mathlib.Core.Path.{◌≡◌, refl, sym, ◌∙◌, ap}
 use mathlib.Core.Bool.{Bool, true, ◌&&◌}
-use mathlib.Core.List.{List, [], ◌∷◌, ◌++◌}
-use Prim.Native.Nat.{ℕ}
+use mathlib.Core.List.{List, [], ◌∷◌, ◌++◌, append_assoc}
+use Prim.Native.Nat.{ℕ, ◌<◌, ◌^◌}
 use Prim.Native.String.{String}
 use native.Mathlib.Omega.{arith}
 use borrow.Author.Tests.{ne_eqb}
 use lib.ListN.{get_or}
 use Rattle.std.specs.Prelude.{Ok, Err}
+use Rattle.std.specs.Fmt as F
+use Rattle.std.proofs.lemmas.Fmt.{decimal_by_steps}
 use Rattle.prelude.specs.Bytes.{ascii, same}
 use Rattle.text.specs.Lines.{line_feed}
+use Rattle.text.specs.Decimal.{decimal}
+use Rattle.text.proofs.Decimal.{decimal_digit, decimal-more}
 use Rattle.refusal.specs.Refusal.{number_of, refusal}
+use Rattle.refusal.specs.Printed as R
 use Rattle.refusal.specs.declared.Refusal.{Refusal}
+use Rattle.refusal.specs.declared.Cause.{Cause}
 use Rattle.refusal.proofs.Numbered.{numbered}
 use Rattle.refusal.specs.declared.Cause.TheVariants.{Undefined, OtherForm, NoMinute}
 use Rattle.checker.specs.declared.Breach.TheVariants.{Late, Rule, Unheard}
 use Rattle.checker.specs.declared.Verdict.{Verdict}
 use Rattle.checker.specs.declared.Verdict.TheVariants.{Pass, Breach as Breached}
+use Rattle.checker.specs.Printed as P
 use Rattle.calls.specs.Values.{OrRefusal, Values, turned_away}
 use Rattle.calls.specs.Bench.{refused, passed, verdict_values, judgement_values}
 use Rattle.calls.specs.Table.{refused_text, verdict_text}
@@ -35,6 +42,38 @@ pub words-agree
     && (prints (Err (refusal OtherForm 1)) "refused 18 line 1"
     && prints (Err (refusal NoMinute 17)) "refused 19 line 17"))))) ≡ true
 words-agree = refl
+
+-- a number as `Display` writes it
+displayed : (n : ℕ) → n < 2 ^ 64 → F.decimal n ≡ decimal n
+displayed =
+    decimal_by_steps (λ m ds. ds ≡ decimal m) (λ m l. sym (decimal_digit m l))
+    (λ m ds l h. rw h (sym (decimal-more m l)))
+
+few : (c : Cause) → number_of c < 2 ^ 64
+few c = grind arith
+
+-- what it writes of a refusal, and of a verdict, is the line that is printed for it, but for the line's end
+pub displayed-refusal : (r : Refusal) → r.line < 2 ^ 64
+    → refused_text (turned_away 0 r) ≡ R.refused_text r ++ line_feed ∷ []
+displayed-refusal r small =
+    rw (displayed (number_of r.cause) (few r.cause), displayed r.line small)
+    (joined (ascii "refused ") (decimal (number_of r.cause)) (ascii " line ") (decimal r.line) (line_feed ∷ []))
+  where
+    joined : (a n b l e : List ℕ) → a ++ n ++ b ++ l ++ e ≡ (a ++ n ++ b ++ l) ++ e
+    joined a n b l e = simp append_assoc
+
+-- the numbers of a verdict fit 64 bits, as a usize does
+abbrev pub Fits : Verdict → Type 0
+Fits Pass = Unit
+Fits (Breached (Late s u)) = (s < 2 ^ 64) × (u < 2 ^ 64)
+Fits (Breached (Rule s c)) = (s < 2 ^ 64) × (c < 2 ^ 64)
+Fits (Breached (Unheard s r u)) = (s < 2 ^ 64) × (r < 2 ^ 64) × (u < 2 ^ 64)
+
+pub displayed-line : (v : Verdict) → Fits v → verdict_text (verdict_values v) ≡ P.verdict_text v ++ line_feed ∷ []
+displayed-line Pass f = refl
+displayed-line (Breached (Late s u)) f = rw (displayed s f.0, displayed u f.1) refl
+displayed-line (Breached (Rule s c)) f = rw (displayed s f.0, displayed c f.1) refl
+displayed-line (Breached (Unheard s r u)) f = rw (displayed s f.0, displayed r f.1, displayed u f.2) refl
 
 -- the first byte tells them apart
 abbrev pub pass_text : List ℕ

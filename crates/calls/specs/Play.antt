@@ -9,25 +9,25 @@ use Rattle.checker.specs.declared.Verdict.TheVariants.{Pass, Breach as Breached}
 use Rattle.dispatch.specs.Due.{due}
 use Rattle.dispatch.specs.Said.{due_on}
 use Rattle.dispatch.specs.declared.Heard.{Heard}
-use Rattle.dispatch.specs.declared.Unheard.{Unheard}
-use Rattle.dispatch.specs.declared.Unheard.TheVariants as P
+use Rattle.dispatch.specs.declared.Unanswered.{Unanswered}
+use Rattle.dispatch.specs.declared.Unanswered.TheVariants as P
 use Rattle.calls.specs.Values.{OrRefusal}
 use Rattle.calls.specs.Call.{without_line_lem, Tests, call}
 use Rattle.calls.specs.Lent.{Handed, as_minutes}
 use Rattle.calls.specs.Calls.{right_length}
 
 -- what the player says of what has been heard
-abbrev pub named : Result ℕ Unheard → Bool
+abbrev pub named : Result ℕ Unanswered → Bool
 named (Ok e) = true
 named (Err P.Misnamed) = false
 named (Err P.NeverHeard) = true
 
-abbrev pub ever_heard : Result ℕ Unheard → Bool
+abbrev pub ever_heard : Result ℕ Unanswered → Bool
 ever_heard (Ok e) = true
 ever_heard (Err P.Misnamed) = true
 ever_heard (Err P.NeverHeard) = false
 
-abbrev pub events_of : Result ℕ Unheard → ℕ
+abbrev pub events_of : Result ℕ Unanswered → ℕ
 events_of (Ok e) = e
 events_of (Err P.Misnamed) = 0
 events_of (Err P.NeverHeard) = 0
@@ -39,7 +39,7 @@ is_pass (Breached b) = false
 
 -- "14, the table does not pass the judge; 15, a letter in the list is undefined or stands twice; 16, no case has heard
 -- exactly this list", by what the player says
-abbrev pub playing_tests : Handed → (Network → Result ℕ Unheard) → Network → Tests
+abbrev pub playing_tests : Handed → (Network → Result ℕ Unanswered) → Network → Tests
 playing_tests t said Γ =
     right_length t Γ
     ∷ (is_pass (verdict Γ t.minutes), without_line_lem C.TableFails)
@@ -48,7 +48,7 @@ playing_tests t said Γ =
     ∷ []
 
 -- the events of a table that are due
-abbrev pub playing : List ℕ → Handed → (Network → Result ℕ Unheard) → OrRefusal ℕ
+abbrev pub playing : List ℕ → Handed → (Network → Result ℕ Unanswered) → OrRefusal ℕ
 playing sheet t said = call Err sheet (playing_tests t said) (λ Γ. Ok (events_of (said Γ)))
 
 -- the events of a table t due at the minute m, for those who have heard hs

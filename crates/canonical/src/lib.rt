@@ -1,4 +1,5 @@
-// A sheet in its house form, written on a page. Each section has its own function.
+// A sheet in its house form, written on a page. Each section has its own function, of the page and of the sheet:
+// one is written while the other is read.
 #![tactic(auto)]
 
 ghost use Rattle.std.specs.Prelude.{◌≡◌, [], ◌∷◌, map, ◌+◌, ◌≤◌, ◌<◌, length, Some};
@@ -19,7 +20,6 @@ ghost use Rattle.canonical.specs.House.{literals_of, names_of, signals_of, as_ru
 ghost use Rattle.canonical.specs.Most.{most_count, most_events, most_signals, most_label, most_rule, most_rules};
 ghost use Rattle.canonical.specs.Most.{most_reaction, most_reactions, most_case, most_cases, most_form};
 
-use line::whole;
 use network::accepted::Accepted;
 use network::formed::Formed;
 use network::{Constraint, Label, Network, times};
@@ -29,7 +29,7 @@ use tighten::UpperBounds;
 // No form is longer.
 const LONGEST: usize = 3021;
 
-// The line `word,count`.
+// The line `word,count`. A sheet counts at most 64 of anything, so that its callers' casts lose nothing.
 fn push_count(page: &mut Page<LONGEST>, word: &[u8], count: u16)
     requires { length page.old + most_count (length word.now) ≤ most_form }
     ensures { Pushed (most_count (length word.now)) page.old (line word.now (decimal count ∷ [])) page.new }
@@ -71,7 +71,7 @@ fn push_signals(page: &mut Page<LONGEST>, accepted: &Accepted)
     }
 }
 
-// A limit with its sign, behind its comma.
+// A limit with its sign, behind its comma. Without its sign it is at most 10,080, which fits 16 bits.
 fn push_limit(page: &mut Page<LONGEST>, bound: i32)
     requires { InLimits bound × (length page.old + 7 ≤ most_form) }
     ensures { Pushed 7 page.old (comma ∷ signed_text bound) page.new }
@@ -88,10 +88,10 @@ fn asked(label: Label, p: usize) -> Option<bool>
     requires { p < L.signals }
     ensures { result ≡ asked label p }
 {
-    if (label.positive >> p) & 1 == 1 {
+    if network::has(usize::from(label.positive), p) {
         return Some(true);
     }
-    if (label.negative >> p) & 1 == 1 {
+    if network::has(usize::from(label.negative), p) {
         return Some(false);
     }
     None
@@ -112,7 +112,7 @@ fn push_literal(page: &mut Page<LONGEST>, letter: u8, truth: Option<bool>)
     }
 }
 
-// A label, its letters in signal order.
+// A label, its letters in signal order. By number, and not over the letters: the label is asked by a signal's number.
 fn push_label(page: &mut Page<LONGEST>, formed: &Formed, label: Label)
     requires { length page.old + most_label ≤ most_form }
     ensures { Pushed most_label page.old (label_text (literals_of formed.now.network label)) page.new }
@@ -164,7 +164,7 @@ fn slow_count(formed: &Formed) -> usize
     let network = &formed.network;
     network.reactions[..network.signals]
         .iter()
-        .filter(|stated| times::reaction_of(**stated) != Network::FASTEST)
+        .filter(|&&stated| times::reaction_of(stated) != Network::FASTEST)
         .count()
 }
 
@@ -183,7 +183,8 @@ fn push_reaction(page: &mut Page<LONGEST>, letter: u8, reaction: u16)
     page.push(b'\n');
 }
 
-// The reactions other than 1, where there are any, or where labels are to follow.
+// The reactions other than 1, where there are any, or where labels are to follow. By number, since a letter and a
+// reaction are two arrays.
 fn push_reactions(page: &mut Page<LONGEST>, formed: &Formed)
     requires { length page.old + most_reactions ≤ most_form }
     ensures { Pushed most_reactions page.old (reactions_text
@@ -211,7 +212,7 @@ fn labelled_count(formed: &Formed) -> usize
     let network = &formed.network;
     network.labels[..network.events]
         .iter()
-        .filter(|label| !whole::is_none(**label))
+        .filter(|&&label| label != Label::DASH)
         .count()
 }
 
@@ -223,7 +224,7 @@ fn push_case(page: &mut Page<LONGEST>, accepted: &Accepted, u: usize)
         (ahead (labelled_at accepted.now.formed.network u) []))) page.new }
 {
     let label = accepted.formed.network.labels[u];
-    if whole::is_none(label) {
+    if label == Label::DASH {
         return;
     }
     page.push_all(accepted.name(u));

@@ -6,11 +6,9 @@ pub mod Judged
 pub mod First
 pub mod Examples
 pub mod SomeCases
--- Laws of the code's own parts: what an iterator says of tests, signed differences, points 1 and 3 by times
--- from which on propositions are known, what the limits give.
-pub mod Chains
+-- Laws of the code's own parts: signed differences, points 1 and 3 by times from which on propositions are known,
+-- labelled loops.
 pub mod Differences
 pub mod Placed
 pub mod Plain
-pub mod Reach
 pub mod Seeking

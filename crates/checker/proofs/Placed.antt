@@ -14,7 +14,6 @@ use Rattle.prelude.proofs.Tests.{either, implies}
 use Rattle.prelude.proofs.Bounded.{all_below_true, all_below_same}
 use Rattle.network.specs.Limits as L
 use Rattle.network.specs.Build.{no_label, event_label}
-use Rattle.network.specs.Scenario.{satisfies}
 use Rattle.network.specs.Happens.{mentions, happens}
 use Rattle.network.specs.Strategy.{time}
 use Rattle.network.specs.WellFormed.{WellFormed}
@@ -61,18 +60,15 @@ module _ {Γ : Network} (W : WellFormed Γ) (σ : List ℕ) (s u : ℕ) (hu : u 
         e ∙ rw (here, ← waits-known here, none, waits-none xs Γ.signals at, is)
         (sym (and-true-right (on_time_lem Γ.horizon u at)))
 
-    pub placed-nowhere : satisfies s (event_label Γ u) ≡ false → eqb t L.blank ≡ is_on_time Γ σ s u
-    unfolding happens
+    pub placed-nowhere : happens Γ s u ≡ false → eqb t L.blank ≡ is_on_time Γ σ s u
     placed-nowhere away = rw (is, away)
 
-    module _ (here : satisfies s (event_label Γ u) ≡ true) {b : Bool} (limits : b ≡ on_time_lem Γ.horizon u t) where
+    module _ (here : happens Γ s u ≡ true) {b : Bool} (limits : b ≡ on_time_lem Γ.horizon u t) where
       in_limits : on_time_lem Γ.horizon u at ≡ b
       in_limits = rw is at (sym limits)
 
       pub placed-waiting : b ≡ true → {w : Bool} → w ≡ waits xs Γ.signals (event_label Γ u) t → w ≡ is_on_time Γ σ s u
-      unfolding happens
       placed-waiting e f = f ∙ rw (here, in_limits, e, is) (waits-known here)
 
       pub placed-late : b ≡ false → b ≡ is_on_time Γ σ s u
-      unfolding happens
       placed-late e = rw (here, in_limits, e)

@@ -1,41 +1,22 @@
 -- The times from which on propositions are known, as the code lists them; and its test of an event is the verdict's for
 -- point 3, by the time from which on two scenarios are told apart. Assumes nothing.
 use mathlib.Core.Path.{◌≡◌, refl, sym, ◌∙◌}
-use mathlib.Core.Logic.{inl, inr}
 use mathlib.Core.Bool.{Bool, true, false, ◌&&◌, ◌||◌, not, cond}
 use mathlib.Core.Bool.{or-true as or-true-right, or-false as or-false-right}
 use mathlib.Core.List.{List}
-use Prim.Native.Nat.{ℕ, ◌+◌, ◌≤◌, ◌<◌}
+use Prim.Native.Nat.{ℕ, ◌≤◌, ◌<◌}
 use native.Mathlib.Omega.{arith}
 use borrow.Author.Tests.{lt-leb, le-ltb, lt-ltb, eq-eqb, ne_eqb}
 use lib.Dec.{eqb, leb, ltb}
-use lib.ListN.{length, get_or, set, length-set}
-use lib.Seq.{get_or-set_same, get_or-set_other}
-use Rattle.prelude.proofs.Tests.{eq_or_ne}
+use lib.ListN.{get_or}
 use Rattle.prelude.proofs.Bounded.{all_below_same}
 use Rattle.prelude.proofs.Minima.{before-min_where}
-use Rattle.network.specs.Limits as L
 use Rattle.network.specs.Scenario.{agree}
 use Rattle.network.specs.Happens.{happens, given}
 use Rattle.network.specs.Strategy.{time, known_from, known}
 use Rattle.network.specs.declared.Network.{Network}
 use Rattle.checker.specs.Verdict.{is_indistinct, is_alike}
-use Rattle.checker.specs.Plain.{KnownIn, never, known_or_never, told_from}
-
--- the list has no proposition yet, or one more
-module _ (Γ : Network) (σ : List ℕ) (s : ℕ) (xs : List ℕ) where
-  pub known-none : length xs ≡ L.signals → KnownIn Γ σ s 0 xs
-  known-none e = record { four = e; from = λ p h. absurd (omega arith) }
-
-  pub known_next : (k v : ℕ) → KnownIn Γ σ s k xs → k < L.signals → v ≡ known_or_never Γ σ s k
-      → KnownIn Γ σ s (k + 1) (set xs k v)
-  known_next k v before l e = record {
-    four = length-set xs k v ∙ before.four;
-    from = λ p h. elim (eq_or_ne p k) [
-      | inl q ↦ rw q (get_or-set_same xs k v 0 (omega (arith, before.four)) ∙ e)
-      | inr n ↦ get_or-set_other xs k p v 0 n ∙ before.from p (omega arith)
-    ];
-  }
+use Rattle.checker.specs.Plain.{KnownIn, never, told_from}
 
 -- what is never known is not known at a time that an event has
 never-or-then : (b : Bool) (a t : ℕ) → t < never → leb (cond b a never) t ≡ b && leb a t

@@ -1,15 +1,26 @@
--- The labelled loops. A loop's invariant is `Seeking f n i found`: its search has come to i, and nothing was found.
+-- Searches in rows: of one loop, that asks each row for its answer (`row_none`, `row_some`); and the labelled loops. A
+-- labelled loop's invariant is `Seeking f n i found`: its search has come to i, and nothing was found.
 -- It goes on past an index (`seeking_on`) or past a whole search within (`past_row`), ends with nothing
 -- (`nothing-found`), and is left from inside with what the inner search hit (`row_hit`). Assumes nothing.
 use mathlib.Core.Path.{◌≡◌, sym, ◌∙◌, ap}
 use mathlib.Core.Option.{Option, none, some}
 use Prim.Native.Nat.{ℕ, ◌+◌, ◌≤◌, ◌<◌}
 use Rattle.std.specs.declared.option.Option.{Option as Answer}
-use Rattle.std.specs.declared.option.Option.TheVariants.{None}
+use Rattle.std.specs.declared.option.Option.TheVariants.{Some, None}
 use Rattle.prelude.specs.Search.{first_below}
 use Rattle.prelude.specs.Options.{option_of}
+use Rattle.prelude.proofs.Options.{option_of-some, option_of-none}
 use Rattle.prelude.proofs.Search.{Searching, searching_start, searching_on, found_at, found_nothing}
 use Rattle.checker.specs.declared.Breach.{Breach}
+
+-- a search in rows: what was found in the row of i is f's answer there
+module _ {f : ℕ → Option Breach} {n i : ℕ} {found : Answer Breach} (here : Searching f n i) (below : i < n)
+    (row : found ≡ option_of (f i)) where
+  pub row_none : found ≡ None → Searching f n (i + 1)
+  row_none e = searching_on here below (option_of-none _ (sym row ∙ e))
+
+  pub row_some : (b : Breach) → found ≡ Some b → Some b ≡ option_of (first_below n f)
+  row_some b e = ap option_of (sym (found_at here b below (option_of-some _ _ (sym row ∙ e))))
 
 pub record Seeking (f : ℕ → Option Breach) (n i : ℕ) (found : Answer Breach) : Type 0 where
   pub search : Searching f n i

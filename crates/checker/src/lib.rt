@@ -1,15 +1,14 @@
 // The checker: which of document 01's three points a strategy breaks first.
 #![tactic(auto)]
 
-ghost use Rattle.std.specs.Prelude.{◌≡◌, length};
-ghost use Rattle.network.specs.Build.{cells};
-ghost use Rattle.checker.specs.Verdict.{verdict_of, verdict};
+ghost use Rattle.std.specs.Prelude.{◌≡◌};
+ghost use Rattle.checker.specs.Verdict.{verdict};
 
-use network::formed::Formed;
-use strategy::Strategy;
+use network::times::Strategy;
+use std::fmt;
 
 mod known;
-mod strategy;
+mod search;
 
 // Point 1: over the horizon, or an origin that is not at 0, or sooner than the signals of the event's label allow; or
 // a time where the event does not happen, or none where it does. Point 2: a constraint that covers the scenario and
@@ -31,21 +30,55 @@ pub enum Breach {
     },
 }
 
-// The judge's answer on a table. Either is an answer and none an error, so it is no Result.
+// The judge's answer on a table. Either is an answer and none an error, so it is no Result; and a pass is told and
+// printed, so it is no None.
 #[derive(Clone, Copy, PartialEq, Eq)]
 pub enum Verdict {
     Pass,
     Breach(Breach),
 }
 
-// The verdict on a table of the network's size.
-pub fn check(formed: &Formed, table: &[u16]) -> Verdict
-    requires { length table.now ≡ cells formed.now.network }
-    ensures { result ≡ verdict formed.now.network table.now }
-{
-    let strategy = Strategy { formed, table };
-    match strategy.first_breach() {
-        Some(breach) => Verdict::Breach(breach),
-        None => Verdict::Pass,
+// `late C E`, `rule C R` or `unheard S R E`
+impl fmt::Display for Breach {
+    ghost use Rattle.std.specs.Prelude.{Some};
+    ghost use Rattle.checker.specs.Printed.{breach_text};
+
+    ghost output = { λ b. Some (breach_text b) };
+
+    fn fmt<W: fmt::Write>(&self, f: &mut fmt::Formatter<W>) -> fmt::Result {
+        match *self {
+            Breach::Late { scenario, event } => write!(f, "late {scenario} {event}"),
+            Breach::Rule {
+                scenario,
+                constraint,
+            } => write!(f, "rule {scenario} {constraint}"),
+            Breach::Unheard {
+                scenario,
+                other,
+                event,
+            } => write!(f, "unheard {scenario} {other} {event}"),
+        }
     }
+}
+
+// `pass`, or the breach
+impl fmt::Display for Verdict {
+    ghost use Rattle.std.specs.Prelude.{Some};
+    ghost use Rattle.checker.specs.Printed.{verdict_text};
+
+    ghost output = { λ v. Some (verdict_text v) };
+
+    fn fmt<W: fmt::Write>(&self, f: &mut fmt::Formatter<W>) -> fmt::Result {
+        match *self {
+            Verdict::Pass => write!(f, "pass"),
+            Verdict::Breach(breach) => write!(f, "{breach}"),
+        }
+    }
+}
+
+// The verdict on a table of the network's size.
+pub fn check(strategy: &Strategy) -> Verdict
+    ensures { result ≡ verdict strategy.now.formed.now.network strategy.now.table.now }
+{
+    search::first_breach(strategy).map_or(Verdict::Pass, Verdict::Breach)
 }

@@ -23,8 +23,8 @@ use Rattle.dispatch.specs.History.{History}
 use Rattle.dispatch.specs.Due.{hears, due_in_lem, as_heard, has_heard_lem, hearer, due_for, due}
 use Rattle.dispatch.specs.declared.Heard.{Heard}
 use Rattle.std.proofs.Common.{Result, Ok, Err}
-use Rattle.dispatch.specs.declared.Unheard.{Unheard}
-use Rattle.dispatch.specs.declared.Unheard.TheVariants.{Misnamed, NeverHeard}
+use Rattle.dispatch.specs.declared.Unanswered.{Unanswered}
+use Rattle.dispatch.specs.declared.Unanswered.TheVariants.{Misnamed, NeverHeard}
 use Rattle.dispatch.proofs.History.{well_named, named_of_history, told_of_history, history_of_told}
 use Rattle.dispatch.proofs.Alike.{heard-due}
 
@@ -68,7 +68,7 @@ module _ (Γ : Network) (σ : List ℕ) (m : ℕ) (lettered : Lettered Γ) (hs :
   Never = WellNamed Γ hs × ((s : ℕ) → s < scenarios Γ → History Γ σ m hs s → ⊥)
 
   -- what each answer says of the list
-  data Answer : Result ℕ Unheard → Type 0 where
+  data Answer : Result ℕ Unanswered → Type 0 where
     misnamed : (WellNamed Γ hs → ⊥) → Answer (Err Misnamed)
     never : Never → Answer (Err NeverHeard)
     events : (s : ℕ) → s < scenarios Γ → History Γ σ m hs s → Answer (Ok (due_in_lem Γ σ m s))
@@ -101,7 +101,7 @@ module _ (Γ : Network) (σ : List ℕ) (m : ℕ) (lettered : Lettered Γ) (hs :
       only : Answer (Err Misnamed) → WellNamed Γ hs → ⊥
       only (misnamed e) = e
 
-      so : {d : Result ℕ Unheard} → (WellNamed Γ hs → ⊥) → Answer d → d ≡ Err Misnamed
+      so : {d : Result ℕ Unanswered} → (WellNamed Γ hs → ⊥) → Answer d → d ≡ Err Misnamed
       so e (misnamed n) = refl
       so e (never w) = absurd (e w.0)
       so e (events s l h) = absurd (e (named_of_history Γ σ m h))
@@ -114,7 +114,7 @@ module _ (Γ : Network) (σ : List ℕ) (m : ℕ) (lettered : Lettered Γ) (hs :
       only : Answer (Err NeverHeard) → Never
       only (never w) = w
 
-      so : {d : Result ℕ Unheard} → Never → Answer d → d ≡ Err NeverHeard
+      so : {d : Result ℕ Unanswered} → Never → Answer d → d ≡ Err NeverHeard
       so w (misnamed n) = absurd (n w.0)
       so w (never x) = refl
       so w (events s l h) = absurd (w.1 s l h)
@@ -124,7 +124,7 @@ module _ (Γ : Network) (σ : List ℕ) (m : ℕ) (lettered : Lettered Γ) (hs :
       → due Γ σ m hs ≡ Ok (due_in_lem Γ σ m s)
   due_history good wf s l h = so due-answer
     where
-      so : {d : Result ℕ Unheard} → Answer d → d ≡ Ok (due_in_lem Γ σ m s)
+      so : {d : Result ℕ Unanswered} → Answer d → d ≡ Ok (due_in_lem Γ σ m s)
       so (misnamed n) = absurd (n (named_of_history Γ σ m h))
       so (never w) = absurd (w.1 s l h)
       so (events r k g) = ap Ok (heard-due Γ σ m good wf lettered k l hs g h)

@@ -1,8 +1,9 @@
 -- Laws of the core. What is said of a letter, by its two bits, and that over a network it is what a case has heard.
--- Then three loops, each by what has been passed: bits that add up, each of them new, so that nothing is carried
--- (`Summing`), the records that a mask names (`Naming`), and the search for a case (`Hearing`). Assumes nothing.
+-- Then two loops, each by what has been passed: bits that add up, each of them new, so that nothing is carried
+-- (`Summing`), and the records that a mask names (`Naming`); and what is due, by the case found. Assumes nothing.
 use mathlib.Core.Path.{◌≡◌, refl, sym, ◌∙◌, ap}
 use mathlib.Core.Bool.{Bool, true, false, ◌&&◌, ◌||◌, not, beq, cond}
+use mathlib.Core.Option.{none, some}
 use mathlib.Core.List.{List}
 use Prim.Native.Nat.{ℕ, suc, ◌+◌, ◌*◌, ◌%◌, ◌^◌, ◌≤◌, ◌<◌}
 use native.Mathlib.Nat.{zero-add, add-zero}
@@ -11,19 +12,17 @@ use native.Mathlib.Omega.{arith}
 use lib.Dec.{eqb}
 use lib.Pow.{pow_mono}
 use Rattle.std.proofs.Common.{Some, None, Ok, Err}
-use Rattle.prelude.specs.Search.{when}
 use Rattle.prelude.specs.Bounded.{sum_below}
-use Rattle.prelude.proofs.Search.{Searching}
 use Rattle.network.specs.Build.{letter, scenarios}
 use Rattle.network.specs.Scenario.{truth}
 use Rattle.network.specs.Strategy.{known}
 use Rattle.network.specs.declared.Network.{Network}
-use Rattle.names.proofs.Finds.{finds_on, finds_at, finds_end}
+use Rattle.names.proofs.Finds.{finds}
 use Rattle.dispatch.specs.History.{known_truth}
-use Rattle.dispatch.specs.Due.{is_due_lem, due_in_lem, as_heard, has_heard_lem}
+use Rattle.dispatch.specs.Due.{is_due_lem, due_in_lem, as_heard, has_heard_lem, hearer}
 use Rattle.dispatch.specs.Said.{said_on, stands_on, tells, with_heard, said_from}
 use Rattle.dispatch.specs.Said.{records_on, well_named_on, due_on}
-use Rattle.dispatch.specs.declared.Unheard.TheVariants.{Misnamed, NeverHeard}
+use Rattle.dispatch.specs.declared.Unanswered.TheVariants.{Misnamed, NeverHeard}
 use Rattle.dispatch.proofs.Bits.{one_shifted, mask_small}
 use Rattle.dispatch.proofs.Again.{named-from}
 
@@ -106,20 +105,16 @@ module _ {Γ : Network} {x named p : ℕ} (here : Naming Γ x named p) where
   pub naming_end : Γ.signals ≤ p → eqb named x ≡ well_named_on Γ x
   naming_end h = ap (λ (y : ℕ). eqb y x) (here.rest 0 (omega (arith, here.within)))
 
--- the letters passed, and the search for a case that has heard what x says has come to s
-pub record Hearing (Γ : Network) (σ : List ℕ) (m x s : ℕ) : Type 0 where
-  pub named : well_named_on Γ x ≡ true
-  pub search : Searching (λ r. when (has_heard_lem Γ σ m (said_on x) r) r) (scenarios Γ) s
-
-module _ {Γ : Network} {σ : List ℕ} {m x s : ℕ} (here : Hearing Γ σ m x s) where
-  pub hearing_on : s < scenarios Γ → has_heard_lem Γ σ m (said_on x) s ≡ false → Hearing Γ σ m x (s + 1)
-  hearing_on h e = record { named = here.named; search = finds_on (has_heard_lem Γ σ m (said_on x)) here.search h e }
-
-  pub heard-on : s < scenarios Γ → has_heard_lem Γ σ m (said_on x) s ≡ true → Ok (due_in_lem Γ σ m s)
-      ≡ due_on Γ σ m x
+-- where the letters are those of a list, what is due is that of the first case that has heard what x says
+module _ (Γ : Network) (σ : List ℕ) (m x : ℕ) (named : well_named_on Γ x ≡ true) where
+  pub heard-on : (s : ℕ) → hearer Γ σ m (said_on x) ≡ some s → Ok (due_in_lem Γ σ m s) ≡ due_on Γ σ m x
   unfolding due_on
-  heard-on h e = rw (here.named, finds_at (has_heard_lem Γ σ m (said_on x)) here.search h e)
+  heard-on s e = rw (named, e)
 
-  pub never_on : scenarios Γ ≤ s → Err NeverHeard ≡ due_on Γ σ m x
+  pub never_on : hearer Γ σ m (said_on x) ≡ none → Err NeverHeard ≡ due_on Γ σ m x
   unfolding due_on
-  never_on h = rw (here.named, finds_end (has_heard_lem Γ σ m (said_on x)) here.search h)
+  never_on e = rw (named, e)
+
+-- that case is one of the network's
+pub hearer_lt : (Γ : Network) (σ : List ℕ) (m x s : ℕ) → hearer Γ σ m (said_on x) ≡ some s → s < scenarios Γ
+hearer_lt Γ σ m x s e = (finds (has_heard_lem Γ σ m (said_on x)) (scenarios Γ) s e).index_lt

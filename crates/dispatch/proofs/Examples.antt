@@ -18,8 +18,8 @@ use Rattle.network.specs.declared.Network.{Network}
 use Rattle.dispatch.specs.Due.{due}
 use Rattle.dispatch.specs.Said.{with_heard, said_from, due_on}
 use Rattle.dispatch.specs.declared.Heard.{Heard}
-use Rattle.dispatch.specs.declared.Unheard.{Unheard}
-use Rattle.dispatch.specs.declared.Unheard.TheVariants.{Misnamed, NeverHeard}
+use Rattle.dispatch.specs.declared.Unanswered.{Unanswered}
+use Rattle.dispatch.specs.declared.Unanswered.TheVariants.{Misnamed, NeverHeard}
 
 -- start, call and door; p is given at the call, and q at the door
 abbrev net : Network
@@ -42,9 +42,9 @@ q v = is (code "q") v
 pub record Question : Type 0 where
   pub minute : ℕ
   pub list : List Heard
-  pub answer : Result ℕ Unheard
+  pub answer : Result ℕ Unanswered
 
-abbrev asked : ℕ → List Heard → Result ℕ Unheard → Question
+abbrev asked : ℕ → List Heard → Result ℕ Unanswered → Question
 asked m hs a = record { minute = m; list = hs; answer = a }
 
 abbrev questions : List Question
@@ -104,7 +104,7 @@ questions_of_filled =
     ∷ []
 
 -- answers as numbers, to compare them
-abbrev number : Result ℕ Unheard → ℕ
+abbrev number : Result ℕ Unanswered → ℕ
 number (Ok e) = e
 number (Err Misnamed) = 65536
 number (Err NeverHeard) = 65537

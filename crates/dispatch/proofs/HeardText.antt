@@ -23,8 +23,8 @@ use Rattle.dispatch.specs.Due.{due}
 use Rattle.dispatch.specs.Said.{misnamed, with_bit, with_heard, said_from, due_on}
 use Rattle.dispatch.specs.HeardText.{is_heard_lem, record_of, heard_in, WellWritten, due_text, said_text}
 use Rattle.std.proofs.Common.{Result, Err}
-use Rattle.dispatch.specs.declared.Unheard.{Unheard}
-use Rattle.dispatch.specs.declared.Unheard.TheVariants.{Misnamed, NeverHeard}
+use Rattle.dispatch.specs.declared.Unanswered.{Unanswered}
+use Rattle.dispatch.specs.declared.Unanswered.TheVariants.{Misnamed, NeverHeard}
 use Rattle.dispatch.proofs.Answers.{due-misnamed, due-never}
 use Rattle.dispatch.proofs.Fold.{with_heard-other}
 use Rattle.dispatch.proofs.Mask.{due-said}
@@ -39,7 +39,7 @@ module _ (text : List ℕ) where
   unfolding said_text
   said-other e = ap (λ (b : Bool). cond b (said_from 0 (heard_in text)) (with_bit 0 misnamed)) e
 
-unlike : {A : Type 0} → ◌≡◌ {A = Result ℕ Unheard} (Err Misnamed) (Err NeverHeard) → A
+unlike : {A : Type 0} → ◌≡◌ {A = Result ℕ Unanswered} (Err Misnamed) (Err NeverHeard) → A
 unlike q = zero-is-one cc
 
 module _ (Γ : Network) (σ : List ℕ) (m : ℕ) (lettered : Lettered Γ) where

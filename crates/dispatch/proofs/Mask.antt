@@ -25,7 +25,7 @@ use Rattle.dispatch.specs.Due.{due_for, due_by, due}
 use Rattle.dispatch.specs.Said.{misnamed, said_on, stands_on, said_from, records_on, well_named_on, due_on}
 use Rattle.dispatch.specs.declared.Heard.{Heard}
 use Rattle.std.proofs.Common.{Err}
-use Rattle.dispatch.specs.declared.Unheard.TheVariants.{Misnamed}
+use Rattle.dispatch.specs.declared.Unanswered.TheVariants.{Misnamed}
 use Rattle.dispatch.proofs.Letters.{nothing_said}
 use Rattle.dispatch.proofs.History.{is_defined, found-defined, well_named}
 use Rattle.dispatch.proofs.Answers.{hearer-same, due-misnamed}

@@ -12,8 +12,8 @@ use Rattle.network.specs.Strategy.{time, known}
 use Rattle.network.specs.declared.Network.{Network}
 use Rattle.dispatch.specs.Heard.{is_well_named, says}
 use Rattle.dispatch.specs.declared.Heard.{Heard}
-use Rattle.dispatch.specs.declared.Unheard.{Unheard}
-use Rattle.dispatch.specs.declared.Unheard.TheVariants.{Misnamed, NeverHeard}
+use Rattle.dispatch.specs.declared.Unanswered.{Unanswered}
+use Rattle.dispatch.specs.declared.Unanswered.TheVariants.{Misnamed, NeverHeard}
 
 module _ (Γ : Network) (σ : List ℕ) (m : ℕ) where
   -- whether event u is due in s: it happens there, and m is its minute. A cell without its event "is never due" (02,
@@ -44,14 +44,14 @@ module _ (Γ : Network) (σ : List ℕ) (m : ℕ) where
 
   -- what is due in that case; in a good table any other that has heard the same has the same due
   -- (`dispatch/proofs/Alike.antt`)
-  abbrev pub due_for : Option ℕ → Result ℕ Unheard
+  abbrev pub due_for : Option ℕ → Result ℕ Unanswered
   due_for none = Err NeverHeard
   due_for (some s) = Ok (due_in_lem s)
 
   -- 15 is tried before 16
-  abbrev pub due_by : Bool → (ℕ → Bool → Bool) → Result ℕ Unheard
+  abbrev pub due_by : Bool → (ℕ → Bool → Bool) → Result ℕ Unanswered
   due_by named said = cond named (due_for (hearer said)) (Err Misnamed)
 
   -- what is due for those who have heard the list
-  unfoldable pub due : List Heard → Result ℕ Unheard
+  unfoldable pub due : List Heard → Result ℕ Unanswered
   due hs = due_by (is_well_named Γ hs) (says hs)

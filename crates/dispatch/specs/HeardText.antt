@@ -7,8 +7,8 @@ use Rattle.dispatch.specs.Heard.{WellNamed}
 use Rattle.dispatch.specs.Due.{due}
 use Rattle.dispatch.specs.Said.{misnamed, with_bit, said_from}
 use Rattle.dispatch.specs.declared.Heard.{Heard}
-use Rattle.dispatch.specs.declared.Unheard.{Unheard}
-use Rattle.dispatch.specs.declared.Unheard.TheVariants.{Misnamed}
+use Rattle.dispatch.specs.declared.Unanswered.{Unanswered}
+use Rattle.dispatch.specs.declared.Unanswered.TheVariants.{Misnamed}
 
 -- whether a text is of this form
 abbrev pub is_heard_lem : List ℕ → Bool
@@ -29,7 +29,7 @@ pub record WellWritten (Γ : Network) (text : List ℕ) : Type 0 where
 
 -- what is due for those who have heard the text; one of another form counts as misnamed, as a letter that is undefined
 -- or stands twice does
-unfoldable pub due_text : Network → List ℕ → ℕ → List ℕ → Result ℕ Unheard
+unfoldable pub due_text : Network → List ℕ → ℕ → List ℕ → Result ℕ Unanswered
 due_text Γ σ m text = cond (is_heard_lem text) (due Γ σ m (heard_in text)) (Err Misnamed)
 
 -- the text as a mask: that of its records, or the bit `misnamed` alone, which no list that is well named has

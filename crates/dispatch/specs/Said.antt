@@ -11,7 +11,7 @@ use Rattle.names.specs.Names.{is_letter_lem}
 use Rattle.dispatch.specs.Heard.{records_of}
 use Rattle.dispatch.specs.Due.{due_by}
 use Rattle.dispatch.specs.declared.Heard.{Heard}
-use Rattle.dispatch.specs.declared.Unheard.{Unheard}
+use Rattle.dispatch.specs.declared.Unanswered.{Unanswered}
 
 -- the bit of a letter with a truth
 abbrev pub bit_of : ℕ → Bool → ℕ
@@ -56,5 +56,5 @@ module _ (Γ : Network) where
   abbrev pub well_named_on : ℕ → Bool
   well_named_on x = eqb (said_from 0 (records_on x)) x
 
-  unfoldable pub due_on : List ℕ → ℕ → ℕ → Result ℕ Unheard
+  unfoldable pub due_on : List ℕ → ℕ → ℕ → Result ℕ Unanswered
   due_on σ m x = due_by Γ σ m (well_named_on x) (said_on x)

@@ -14,20 +14,20 @@ fn is_heard(text: &[u8]) -> bool
     text.is_empty() || token::is_label(text)
 }
 
-// The records of a label's literals, as a mask.
+// The records of a label's literals, as a mask. (A walk as `names::token::are_literals` is one.)
 fn said_by(t: &[u8]) -> Said
     ensures { result.mask ≡ said_from 0 (map record_of (literals false t.now)) }
 {
     let mut said = Said::NOTHING;
     let mut bang = false;
-    for b in t {
-        if *b != b'!' {
+    for &b in t {
+        if b != b'!' {
             said = said.add(Heard {
-                letter: *b,
+                letter: b,
                 truth: !bang,
             });
         }
-        bang = *b == b'!';
+        bang = b == b'!';
     }
     said
 }

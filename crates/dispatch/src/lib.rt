@@ -2,11 +2,10 @@
 // are walked once, into a mask; all the rest works on the mask.
 #![tactic(auto)]
 
-ghost use Rattle.std.specs.Prelude.{◌≡◌, true, ◌<◌, length};
-ghost use Rattle.network.specs.Build.{scenarios, cells};
+ghost use Rattle.std.specs.Prelude.{◌≡◌, true, ◌<◌};
+ghost use Rattle.prelude.specs.Options.{option_of};
+ghost use Rattle.network.specs.Build.{scenarios};
 ghost use Rattle.network.specs.Scenario as S;
-ghost use Rattle.network.specs.Happens as E;
-ghost use Rattle.network.specs.Strategy as T;
 ghost use Rattle.names.specs.Names.{is_letter_lem};
 ghost use Rattle.dispatch.specs.Heard.{Lettered};
 ghost use Rattle.dispatch.specs.History as H;
@@ -14,8 +13,7 @@ ghost use Rattle.dispatch.specs.Due as D;
 ghost use Rattle.dispatch.specs.Said as M;
 
 use names::token;
-use network::formed::Formed;
-use network::times;
+use network::times::Strategy;
 
 pub mod heard_text;
 
@@ -28,7 +26,7 @@ pub struct Heard {
 
 // Why nothing is due, not even no event.
 #[derive(Clone, Copy, PartialEq, Eq)]
-pub enum Unheard {
+pub enum Unanswered {
     // A letter is undefined or stands twice.
     Misnamed,
     // No case has heard exactly this.
@@ -41,17 +39,16 @@ pub struct Said {
     pub mask: u64,
 }
 
-// A network with a table for it, at a minute.
+// A strategy at a minute.
 #[derive(Clone, Copy)]
 struct Moment<'a> {
-    formed: &'a Formed,
-    table: &'a [u16],
+    strategy: Strategy<'a>,
     minute: u16,
-    ghost sized: { length table.now ≡ cells formed.now.network },
-    ghost lettered: { Lettered formed.now.network },
+    ghost lettered: { Lettered strategy.formed.now.network },
 }
 
-// Whether the mask has the bit.
+// Whether the mask has the bit. A function beside network's: a mask of the C interface has 64 bits, which a usize need
+// not have.
 fn has(mask: u64, bit: u32) -> bool
     requires { bit < 64 }
     ensures { result ≡ S.truth mask bit }
@@ -59,7 +56,8 @@ fn has(mask: u64, bit: u32) -> bool
     (mask >> bit) & 1 == 1
 }
 
-// The bit of a letter with a truth.
+// The bit of a letter with a truth. That the byte is a letter is asked by four functions: a type for it would be made
+// anew of each record and of each signal.
 fn bit_of(letter: u8, truth: bool) -> u32
     requires { is_letter_lem letter ≡ true }
     ensures { result ≡ M.bit_of letter truth }
@@ -69,9 +67,11 @@ fn bit_of(letter: u8, truth: bool) -> u32
 }
 
 impl Said {
+    // That nothing has been heard.
     pub const NOTHING: Said = Said { mask: 0 };
 
-    // The bit of a list that holds a byte that is no letter, or a letter twice.
+    // The bit of a list that holds a byte that is no letter, or a letter twice. A bit and no Option: one mask is what
+    // the calls take and what is compared, and a flag beside it would be one more value of each proof.
     const MISNAMED: u32 = 63;
 
     // One bit more.
@@ -126,23 +126,21 @@ impl Said {
     pub fn of(heard: &[Heard]) -> Said
         ensures { result.mask ≡ M.said_from 0 heard.now }
     {
-        let mut said = Said::NOTHING;
-        for record in heard {
-            said = said.add(*record);
-        }
-        said
+        heard
+            .iter()
+            .fold(Said::NOTHING, |said, record| said.add(*record))
     }
 }
 
 impl Moment<'_> {
-    // Whether the mask is that of the records it names: one of each signal whose letter stands.
+    // Whether the mask is that of the records it names: one of each signal whose letter stands. A `for`: a chain
+    // would have three closures.
     fn is_well_named(&self, said: Said) -> bool
-        ensures { result ≡ M.well_named_on self.now.formed.now.network said.mask }
+        ensures { result ≡ M.well_named_on self.now.strategy.formed.now.network said.mask }
     {
-        let network = &self.formed.network;
+        let network = &self.strategy.formed.network;
         let mut named = Said::NOTHING;
-        for p in 0..network.signals {
-            let letter = network.letters[p];
+        for &letter in &network.letters[..network.signals] {
             if said.stands(letter) {
                 let truth = said.says(letter, true);
                 named = named.add(Heard { letter, truth });
@@ -151,65 +149,66 @@ impl Moment<'_> {
         named == said
     }
 
-    // Whether event u happens in s.
-    fn happens(&self, s: usize, u: usize) -> bool
-        requires { (s < scenarios self.now.formed.now.network) × (u < self.now.formed.now.network.events) }
-        ensures { result ≡ E.happens self.now.formed.now.network s u }
-    {
-        network::satisfies(s, self.formed.network.labels[u])
-    }
-
     // The truth of the signal p in s, where it is known there at the minute: never where its event does not happen.
     fn known_truth(&self, s: usize, p: usize) -> Option<bool>
-        requires { (s < scenarios self.now.formed.now.network) × (p < self.now.formed.now.network.signals) }
-        ensures { result ≡ H.known_truth self.now.formed.now.network self.now.table.now self.now.minute s p }
+        requires { let network = self.now.strategy.formed.now.network in
+            (s < scenarios network) × (p < network.signals) }
+        ensures { result ≡ H.known_truth self.now.strategy.formed.now.network self.now.strategy.table.now
+            self.now.minute s p }
     {
-        let network = &self.formed.network;
-        let observation = network.observations[p];
-        if !self.happens(s, observation) {
-            return None;
-        }
-        let stated = network.reactions[p];
-        let known_from = times::known_after(self.table, network.events, s, observation, stated);
-        if u32::from(self.minute) < known_from {
-            return None;
-        }
-        Some((s >> p) & 1 == 1)
+        let known_from = self.strategy.known_from(s, p)?;
+        (known_from <= u32::from(self.minute)).then_some(network::has(s, p))
+    }
+
+    // Whether what is said of the signal p is what has been heard of it in s before the minute.
+    fn has_heard_of(&self, said: Said, s: usize, p: usize) -> bool
+        requires { let network = self.now.strategy.formed.now.network in
+            (s < scenarios network) × (p < network.signals) }
+        ensures { result ≡ D.as_heard self.now.strategy.formed.now.network self.now.strategy.table.now
+            self.now.minute (M.said_on said.mask) s p }
+    {
+        said.tells(
+            self.strategy.formed.network.letters[p],
+            self.known_truth(s, p),
+        )
     }
 
     // Whether exactly what is said has been heard in s before the minute.
     fn has_heard(&self, said: Said, s: usize) -> bool
-        requires { s < scenarios self.now.formed.now.network }
-        ensures { result ≡ D.has_heard_lem self.now.formed.now.network self.now.table.now self.now.minute
-            (M.said_on said.mask) s }
+        requires { s < scenarios self.now.strategy.formed.now.network }
+        ensures { result ≡ D.has_heard_lem self.now.strategy.formed.now.network self.now.strategy.table.now
+            self.now.minute (M.said_on said.mask) s }
     {
-        let network = &self.formed.network;
-        for p in 0..network.signals {
-            if !said.tells(network.letters[p], self.known_truth(s, p)) {
-                return false;
-            }
-        }
-        true
+        (0..self.strategy.formed.network.signals).all(|p| self.has_heard_of(said, s, p))
+    }
+
+    // The first case in which exactly what is said has been heard.
+    fn hearer(&self, said: Said) -> Option<usize>
+        ensures { result ≡ option_of (D.hearer self.now.strategy.formed.now.network self.now.strategy.table.now
+            self.now.minute (M.said_on said.mask)) }
+    {
+        (0..self.strategy.formed.scenario_count()).find(|&s| self.has_heard(said, s))
     }
 
     // Whether event u is due in s: never where it does not happen, whatever its cell holds.
     fn is_due(&self, s: usize, u: usize) -> bool
-        requires { (s < scenarios self.now.formed.now.network) × (u < self.now.formed.now.network.events) }
-        ensures { result ≡ D.is_due_lem self.now.formed.now.network self.now.table.now self.now.minute s u }
+        requires { let network = self.now.strategy.formed.now.network in
+            (s < scenarios network) × (u < network.events) }
+        ensures { result ≡ D.is_due_lem self.now.strategy.formed.now.network self.now.strategy.table.now
+            self.now.minute s u }
     {
-        if self.happens(s, u) {
-            return times::time_of(self.table, self.formed.network.events, s, u) == self.minute;
-        }
-        false
+        self.strategy.formed.happens(s, u) && self.strategy.time(s, u) == self.minute
     }
 
-    // The events of s that are due: bit u for event u.
+    // The events of s that are due: bit u for event u. A `for` and no fold: that one bit more fits is a fact of the
+    // bits so far, which a closure does not have.
     fn due_in(&self, s: usize) -> u16
-        requires { s < scenarios self.now.formed.now.network }
-        ensures { result ≡ D.due_in_lem self.now.formed.now.network self.now.table.now self.now.minute s }
+        requires { s < scenarios self.now.strategy.formed.now.network }
+        ensures { result ≡ D.due_in_lem self.now.strategy.formed.now.network self.now.strategy.table.now
+            self.now.minute s }
     {
         let mut due: u16 = 0;
-        for u in 0..self.formed.network.events {
+        for u in 0..self.strategy.formed.network.events {
             if self.is_due(s, u) {
                 due += 1 << u;
             }
@@ -219,22 +218,17 @@ impl Moment<'_> {
 }
 
 // What is due at the minute for those who have heard what is said: bit u for event u.
-pub fn due(formed: &Formed, table: &[u16], minute: u16, said: Said) -> Result<u16, Unheard>
-    requires { (length table.now ≡ cells formed.now.network) × Lettered formed.now.network }
-    ensures { result ≡ M.due_on formed.now.network table.now minute said.mask }
+pub fn due(strategy: &Strategy, minute: u16, said: Said) -> Result<u16, Unanswered>
+    requires { Lettered strategy.now.formed.now.network }
+    ensures { result ≡ M.due_on strategy.now.formed.now.network strategy.now.table.now minute said.mask }
 {
     let moment = Moment {
-        formed,
-        table,
+        strategy: *strategy,
         minute,
     };
     if !moment.is_well_named(said) {
-        return Err(Unheard::Misnamed);
+        return Err(Unanswered::Misnamed);
     }
-    for s in 0..network::scenario_count(formed.network.signals) {
-        if moment.has_heard(said, s) {
-            return Ok(moment.due_in(s));
-        }
-    }
-    Err(Unheard::NeverHeard)
+    let s = moment.hearer(said).ok_or(Unanswered::NeverHeard)?;
+    Ok(moment.due_in(s))
 }

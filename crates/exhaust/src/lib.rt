@@ -3,12 +3,13 @@
 // and ending; what it answers is compared with the solver's, not proved.
 #![tactic(auto)]
 
-ghost use Rattle.std.specs.Prelude.{◌≡◌, ◌*◌, ◌^◌, ◌<◌, ◌≤◌};
-ghost use Rattle.network.specs.Limits as L;
+ghost use Rattle.std.specs.Prelude.{◌*◌, ◌^◌, ◌<◌, ◌≤◌};
+ghost use Rattle.network.specs.Build.{scenarios};
 
 use checker::Verdict;
+use network::Network;
 use network::formed::Formed;
-use network::{Label, Network};
+use network::times::Strategy;
 
 // The most tables that are made, the most cells that a table has, and the latest time of a cell.
 const TABLES: u32 = 70000;
@@ -17,42 +18,39 @@ pub const CELLS: usize = 32;
 
 const LATEST: u16 = 15;
 
-// What stands for a cell in which every time is tried. Any other cell has one value: 0, or that of a blank.
-const OPEN: u16 = 1;
-
 // The network has too many tables or cells, or too late a horizon, to be searched.
-#[derive(Clone, Copy, PartialEq, Eq, Debug)]
+#[derive(Clone, Copy, PartialEq, Eq)]
 pub struct TooLarge;
 
-// What the cells of every table hold, or OPEN.
+// What a cell holds in every table, or None where every time is tried.
+type Held = Option<u16>;
+
+// What the cells of every table hold.
 #[derive(Clone, Copy)]
-struct Frame {
-    cells: [u16; CELLS],
+struct Fixed {
+    cells: [Held; CELLS],
 }
 
-impl Frame {
+impl Fixed {
+    // What the cells of a network's tables hold, case by case.
     fn of(formed: &Formed) -> Self
         requires { formed.now.network.events * 2 ^ formed.now.network.signals ≤ 32 }
     {
-        let network = &formed.network;
-        let mut cells = [0; CELLS];
-        for s in 0..network::scenario_count(network.signals) {
-            for u in 0..network.events {
-                cells[s * network.events + u] = held(s, u, network.labels[u]);
+        let events = formed.network.events;
+        let mut cells = [Some(0); CELLS];
+        let rows = cells.chunks_exact_mut(events);
+        for (s, row) in rows.take(formed.scenario_count()).enumerate() {
+            for (u, cell) in row.iter_mut().enumerate() {
+                *cell = held(formed, s, u);
             }
         }
-        Frame { cells }
+        Fixed { cells }
     }
 
     // How many tables there are, where a cell has one of so many times: as many as 32 bits hold, if there are more.
     fn table_count(&self, times: u32) -> u32 {
-        let mut count: u32 = 1;
-        for cell in &self.cells {
-            if *cell == OPEN {
-                count = count.saturating_mul(times);
-            }
-        }
-        count
+        let open = self.cells.iter().filter(|cell| cell.is_none());
+        open.fold(1, |count: u32, _| count.saturating_mul(times))
     }
 
     // Table number k: each open cell has a digit of k in base times.
@@ -60,28 +58,28 @@ impl Frame {
         requires { (0 < times) × (times ≤ 16) }
     {
         let mut rest = k;
-        let mut table = self.cells;
-        for cell in &mut table {
-            if *cell == OPEN {
-                *cell = (rest % times) as u16;
+        self.cells.map(|cell| {
+            cell.unwrap_or_else(|| {
+                let digit = rest % times;
                 rest /= times;
-            }
-        }
-        table
+                // A digit is below 16, so that the cast loses nothing.
+                digit as u16
+            })
+        })
     }
 }
 
 // What the cell of event u holds in s: the origin has its time, and where the event does not happen the cell is blank.
-fn held(s: usize, u: usize, label: Label) -> u16
-    requires { (s < L.cases) × (label.positive < L.cases) × (label.negative < L.cases) }
+fn held(formed: &Formed, s: usize, u: usize) -> Held
+    requires { (s < scenarios formed.now.network) × (u < formed.now.network.events) }
 {
     if u == 0 {
-        return 0;
+        return Some(0);
     }
-    if !network::satisfies(s, label) {
-        return Network::BLANK;
+    if !formed.happens(s, u) {
+        return Some(Network::BLANK);
     }
-    OPEN
+    None
 }
 
 // Each cell the lesser of the two.
@@ -95,21 +93,25 @@ fn lower(a: [u16; CELLS], b: [u16; CELLS]) -> [u16; CELLS] {
 
 // The network's least solution, or none, by trying every table.
 pub fn search(formed: &Formed) -> Result<Option<[u16; CELLS]>, TooLarge> {
-    let network = &formed.network;
-    let cells = network::cell_count(network.events, network.signals);
-    if CELLS < cells || LATEST < network.horizon {
+    let cells = formed.cell_count();
+    let horizon = formed.network.horizon;
+    if CELLS < cells || LATEST < horizon {
         return Err(TooLarge);
     }
-    let times = u32::from(network.horizon) + 1;
-    let frame = Frame::of(formed);
-    let count = frame.table_count(times);
+    let times = u32::from(horizon) + 1;
+    let fixed = Fixed::of(formed);
+    let count = fixed.table_count(times);
     if TABLES < count {
         return Err(TooLarge);
     }
     let mut least = None;
     for k in 0..count {
-        let table = frame.table(k, times);
-        if checker::check(formed, &table[..cells]) == Verdict::Pass {
+        let table = fixed.table(k, times);
+        let strategy = Strategy {
+            formed,
+            table: &table[..cells],
+        };
+        if checker::check(&strategy) == Verdict::Pass {
             least = Some(least.map_or(table, |found| lower(found, table)));
         }
     }

@@ -18,6 +18,7 @@ pub fn read_full<R: Read>(input: &mut R, buf: &mut [u8]) -> io::Result<usize>
     ensures failed { OnErr result ((n : ℕ) × (n ≤ length buf.new)
         × Consumes (R.remaining input.old) (R.remaining input.new) (take n buf.new)) }
 {
+    // `read_exact` would say nothing of a shorter input, and `read_to_end` needs a heap.
     let mut done = 0;
     while done < buf.len() {
         let n = input.read(&mut buf[done..])?;

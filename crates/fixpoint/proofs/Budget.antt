@@ -11,7 +11,8 @@ use Rattle.prelude.specs.Bytes.{same}
 use Rattle.prelude.proofs.Tests.{either}
 use Rattle.fixpoint.specs.Step.{Rising}
 use Rattle.fixpoint.specs.Run.{within, room, Spent, Run, run_from}
-use Rattle.fixpoint.proofs.Run.{rest_turn, pass_turn, more_turn, ran_as}
+use Rattle.fixpoint.proofs.Turns.{rest_turn, pass_turn, more_turn}
+use Rattle.fixpoint.proofs.Run.{ran_as}
 
 module _ (step : List ℕ → List ℕ) (cap : List ℕ) (R : Rising (length cap) step) where
   run-done : (k n m : ℕ) (t : List ℕ) → ((run_from step cap k n t).end ≡ Spent → ⊥)

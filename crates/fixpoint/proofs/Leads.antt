@@ -20,7 +20,7 @@ use Rattle.fixpoint.specs.Leads.{Leads}
 use Rattle.fixpoint.proofs.Order.{below-refl, below_trans}
 use Rattle.fixpoint.proofs.Within.{within-below}
 use Rattle.fixpoint.proofs.Iterate.{iterate-add, iterate-first, iterate-sized}
-use Rattle.fixpoint.proofs.Run.{more_turn}
+use Rattle.fixpoint.proofs.Turns.{more_turn}
 
 module _ (step : List ℕ → List ℕ) (cap : List ℕ) where
   pub leads_none : (t : List ℕ) → Leads step cap 0 t t

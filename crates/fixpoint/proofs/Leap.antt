@@ -22,7 +22,7 @@ use Rattle.fixpoint.proofs.Iterate.{iterate-add, iterate-mul, iterate-sized, ite
 use Rattle.fixpoint.proofs.Moved.{moved_at}
 use Rattle.fixpoint.proofs.Straight.{straight}
 use Rattle.fixpoint.proofs.Leads.{leads_on}
-use Rattle.fixpoint.proofs.Run.{pass_turn}
+use Rattle.fixpoint.proofs.Turns.{pass_turn}
 
 module _ (step : List ℕ → List ℕ) (cap : List ℕ) (R : Rising (length cap) step) (N : Nonexpansive (length cap) step)
     (t : List ℕ)

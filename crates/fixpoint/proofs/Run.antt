@@ -18,6 +18,7 @@ use Rattle.fixpoint.specs.Step.{Rising, Prefixpoint}
 use Rattle.fixpoint.specs.Run.{within, room, End, Rests, Passes, Spent, Run, ran, run_from, run}
 use Rattle.fixpoint.proofs.Order.{below-refl, below_trans}
 use Rattle.fixpoint.proofs.Within.{within-below, room_falls}
+use Rattle.fixpoint.proofs.Turns.{unlike, rest_turn, pass_turn, more_turn}
 
 -- what is known of at most n rounds from a floor, after k others
 pub record Ran (step : List ℕ → List ℕ) (cap floor : List ℕ) (k n : ℕ) (r : Run) : Type 0 where
@@ -33,29 +34,7 @@ pub record Ran (step : List ℕ → List ℕ) (cap floor : List ℕ) (k n : ℕ)
   pub rounds : r.rounds ≤ k + n
   pub counted : r.rounds ≤ k + suc (room cap floor)
 
--- the three ends are three
-abbrev ended : End → ℕ
-ended Rests = 0
-ended Passes = 1
-ended Spent = 2
-
-unlike {ℓ} : {A : Type ℓ} (e f : End) → e ≡ f → (ended e ≡ ended f → ⊥) → A
-unlike e f p n = absurd (n (ap ended p))
-
 module _ (step : List ℕ → List ℕ) (cap : List ℕ) (R : Rising (length cap) step) where
-  -- one turn of a run: it rests, passes the cap or goes on
-  pub rest_turn : (k n : ℕ) (t : List ℕ) → within cap (step t) ≡ true → same (step t) t ≡ true
-      → run_from step cap k (suc n) t ≡ ran (suc k) t Rests
-  rest_turn k n t p q = rw (p, q, run_from)
-
-  pub pass_turn : (k n : ℕ) (t : List ℕ) → within cap (step t) ≡ false
-      → run_from step cap k (suc n) t ≡ ran (suc k) (step t) Passes
-  pass_turn k n t p = rw (p, run_from)
-
-  pub more_turn : (k n : ℕ) (t : List ℕ) → within cap (step t) ≡ true → same (step t) t ≡ false
-      → run_from step cap k (suc n) t ≡ run_from step cap (suc k) n (step t)
-  more_turn k n t p q = rw (p, q, run_from)
-
   -- what is above the floor and asks for no raise is above the next round too
   prefixpoint_on : (t p : List ℕ) → length t ≡ length cap → Prefixpoint step t p → Prefixpoint step (step t) p
   prefixpoint_on t p l h = record {
@@ -155,6 +134,9 @@ module _ (step : List ℕ → List ℕ) (cap : List ℕ) (R : Rising (length cap
         rounds = omega (arith, all.counted);
       }
 
+  as_spent : {r q : Run} → r ≡ q → r.end ≡ Spent → q.end ≡ Spent
+  as_spent p e = sym (ap (λ (r : Run). r.end) p) ∙ e
+
   -- a run that was stopped goes on from what it reached: with m rounds more it ends as if it had not been stopped
   pub run_on : (k n m : ℕ) (t : List ℕ) → (run_from step cap k n t).end ≡ Spent
       → run_from step cap k (n + m) t ≡ run_from step cap (k + n) m (run_from step cap k n t).reached
@@ -163,12 +145,12 @@ module _ (step : List ℕ → List ℕ) (cap : List ℕ) (R : Rising (length cap
       elim (either (within cap (step t))) [
         | inl p ↦
             elim (either (same (step t) t)) [
-              | inl q ↦ unlike Rests Spent (sym (ap (λ (r : Run). r.end) (rest_turn k n t p q)) ∙ e) (λ z. omega arith)
+              | inl q ↦ unlike Rests Spent (as_spent (rest_turn step cap R k n t p q) e) (λ z. omega arith)
               | inr q ↦
-                  let here = more_turn k n t p q in
-                  let goes_on = run_on (suc k) n m (step t) (sym (ap (λ (r : Run). r.end) here) ∙ e) in
+                  let here = more_turn step cap R k n t p q in
+                  let goes_on = run_on (suc k) n m (step t) (as_spent here e) in
                   let count : suc k + n ≡ k + suc n = omega arith in
-                  rw (here, suc-add, ← count) (more_turn k (n + m) t p q ∙ goes_on)
+                  rw (here, suc-add, ← count) (more_turn step cap R k (n + m) t p q ∙ goes_on)
             ]
-        | inr p ↦ unlike Passes Spent (sym (ap (λ (r : Run). r.end) (pass_turn k n t p)) ∙ e) (λ z. omega arith)
+        | inr p ↦ unlike Passes Spent (as_spent (pass_turn step cap R k n t p) e) (λ z. omega arith)
       ]

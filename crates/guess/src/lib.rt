@@ -7,7 +7,7 @@ ghost use Rattle.network.specs.Limits as L;
 
 use network::Network;
 
-// The longest horizon.
+// The longest horizon, by a cast, since `From` can't be called in a constant.
 const LONGEST: u32 = Network::HORIZON as u32;
 
 // A turn of the run: which it is, and the times before and after its round.
@@ -54,8 +54,8 @@ impl Watch {
         }
     }
 
-    // Watches a turn, after which so many rounds are made, `age` of them since the table was kept.
-    pub fn after(&mut self, turn: &Turn<'_>, rounds: u32, age: u32) -> Next {
+    // Sees a turn, after which so many rounds are made, `age` of them since the table was kept.
+    pub fn see(&mut self, turn: &Turn<'_>, rounds: u32, age: u32) -> Next {
         if turn.number < self.from {
             return Next::GoOn;
         }
@@ -76,7 +76,8 @@ impl Watch {
         Next::Keep
     }
 
-    // Watches anew after tests by which so many rounds were passed over: after none not soon.
+    // Watches anew after a leap was tried, which passed over `made` rounds: at once, or half as many turns later if
+    // none was passed over.
     pub fn tried(&mut self, turns: u32, made: u32) {
         *self = Watch {
             from: if made == 0 {
@@ -112,6 +113,7 @@ pub struct Tries {
 }
 
 impl Tries {
+    // First the most.
     pub fn new(most: u32) -> Self
         requires { most ≤ L.horizon }
     {
@@ -124,7 +126,7 @@ impl Tries {
     // The next count, after one that held or did not.
     pub fn next(self, held: bool) -> Self {
         match (self.course, held) {
-            // few, and at most half as many
+            // Few, and at most half as many.
             (Course::First, false) => Tries {
                 moves: (self.moves / 2).min(4),
                 course: Course::Up,
@@ -200,7 +202,7 @@ impl Pace {
             Some(climb) => {
                 self.choose(turn);
                 let period = turn.number.wrapping_sub(climb.start);
-                // a period that is long for the turns made is watched again
+                // A period that is long for the turns made is watched again.
                 if turn.number / 8 < period {
                     return None;
                 }
@@ -218,7 +220,8 @@ impl Pace {
     }
 }
 
-// Where the latest time is; the first place, if there are several.
+// Where the latest time is; the first place, if there are several. The table of a sheet has a cell, so 0 is never the
+// answer of none.
 fn latest(t: &[u16]) -> usize {
     let places = t.iter().enumerate().rev();
     places
@@ -230,7 +233,7 @@ fn latest(t: &[u16]) -> usize {
 pub fn most(t: &[u16], d: &[u16], horizon: u16, p: u32, left: u32) -> u32
     ensures { result ≤ L.horizon }
 {
-    // how often p rounds are among those left
+    // How often p rounds are among those left.
     let most = left.checked_div(p).unwrap_or(0).min(LONGEST);
     let times = t
         .iter()
@@ -242,13 +245,9 @@ pub fn most(t: &[u16], d: &[u16], horizon: u16, p: u32, left: u32) -> u32
     }
 }
 
-// The highest rise below the limit, or 0.
-pub fn highest_below(d: &[u16], limit: u16) -> u16 {
-    d.iter()
-        .copied()
-        .filter(|rise| *rise < limit)
-        .max()
-        .unwrap_or(0)
+// The highest rise below the limit.
+pub fn highest_below(d: &[u16], limit: u16) -> Option<u16> {
+    d.iter().copied().filter(|rise| *rise < limit).max()
 }
 
 // A rise and one more, if it is not 0: cells that have another period may rise once more in some p rounds than in

@@ -1,6 +1,6 @@
 -- The reading accepts exactly the byte strings that the layout describes, and its network holds what they contain.
 -- Assumes nothing.
-use mathlib.Core.Path.{◌≡◌, refl}
+use mathlib.Core.Path.{◌≡◌, refl, ◌∙◌}
 use mathlib.Core.Logic.{◌↔◌}
 use mathlib.Core.List.{List}
 use Prim.Native.Nat.{ℕ}
@@ -11,7 +11,31 @@ use Rattle.sheet.specs.Reading.{Progress, Go, progress, answered, network_in, ne
 use Rattle.layout.specs.Layout.{Layout}
 use Rattle.layout.specs.Contains.{Contains}
 use Rattle.layout.proofs.Written.{layout_of}
-use Rattle.layout.proofs.Read.{layout_read}
+use Rattle.sheet.proofs.Whole.{in_length}
+use Rattle.layout.specs.Contents.{Contents}
+use Rattle.layout.proofs.Read.{sections_read}
+
+-- the reading comes to its end with a network that holds the contents
+record IsRead (sheet : List ℕ) (c : Contents) : Type 0 where
+  pub network : Network
+  pub at : ℕ
+  pub number : ℕ
+  pub goes : progress sheet ≡ Go network at number
+  pub held : Contains sheet network c
+
+layout_read : (sheet : List ℕ) (l : Layout sheet) → IsRead sheet l.contents
+layout_read sheet l =
+    let c = l.contents in
+    let r =
+    sections_read sheet c.horizon c.names c.signals c.rules c.reactions c.cases l.keeps
+    l.written in
+    record {
+      network = r.network;
+      at = r.at;
+      number = r.number;
+      goes = in_length sheet l.short ∙ r.goes;
+      held = r.held.holds;
+    }
 
 -- what is accepted is a reading that has come to its end
 by-accepted : {A : Type 0} (p : Progress) → answered p ≡ Ok (network_in (answered p))

@@ -1,7 +1,8 @@
 -- What stands behind the rules: the section of reactions begins and has one line more, and so has the section of cases.
 -- Assumes nothing.
-use mathlib.Core.Path.{◌≡◌}
+use mathlib.Core.Path.{◌≡◌, refl}
 use mathlib.Core.Bool.{true}
+use mathlib.Core.Option
 use mathlib.Core.Option.{Option, some}
 use mathlib.Core.List.{List, [], ◌∷◌, ◌++◌}
 use Prim.Native.Nat.{ℕ, ◌≤◌, ◌<◌}
@@ -16,17 +17,37 @@ use Rattle.sheet.proofs.Arrays.{arrays-reaction, arrays-label}
 use Rattle.names.specs.Names.{is_name_lem}
 use Rattle.names.specs.Defined.{mask_of}
 use Rattle.layout.specs.Contents.{Signal, Rule, Reaction, Case, signal_letters}
-use Rattle.layout.specs.Contains.{Bears}
+use Rattle.layout.specs.Contains.{Bears, Contains}
 use Rattle.layout.proofs.Kept.{NewReaction, reaction-kept, NewCase, case_kept}
 use Rattle.layout.proofs.Extends.{contents, contents_with, contents_of}
-use Rattle.layout.proofs.Reacts.{none-listed, reaction-contains}
-use Rattle.layout.proofs.Placed.{none-placed, case_contains, case_listed, case_marks}
+use Rattle.layout.proofs.Reacts.{reaction-contains}
+use Rattle.layout.proofs.Placed.{case_contains, case_listed, case_marks}
 use Rattle.layout.proofs.Stands.{Stands}
+
+-- what lists the same: a section that begins lists nothing, as where it is absent
+as_listed : {sheet : List ℕ} {Γ : Network} {h : ℕ} {ns : List (List ℕ)} {xs : List Signal} {rs : List Rule}
+    {o r : Option (List Reaction)} {q t : Option (List Case)} → Option.get_or o [] ≡ Option.get_or r []
+    → Option.get_or q [] ≡ Option.get_or t [] → Contains sheet Γ (contents_of h ns xs rs o q)
+    → Contains sheet Γ (contents_of h ns xs rs r t)
+as_listed e f c = record {
+  horizon = c.horizon;
+  events = c.events;
+  named = c.named;
+  signals = c.signals;
+  lettered = c.lettered;
+  observed = c.observed;
+  rules = c.rules;
+  means = c.means;
+  reacts = rw (← e) c.reacts;
+  unsaid = rw (← e) c.unsaid;
+  labelled = rw (← f) c.labelled;
+  unlabelled = rw (← f) c.unlabelled;
+}
 
 module _ {sheet : List ℕ} {Γ : Network} {h : ℕ} {ns : List (List ℕ)} {xs : List Signal} {rs : List Rule} where
   pub reactions_begin : Stands sheet Γ (contents h ns xs rs) → Stands sheet Γ (contents_with h ns xs rs (some []))
   reactions_begin c = record {
-    holds = none-listed c.holds;
+    holds = as_listed refl refl c.holds;
     arrays = c.arrays;
     names = c.names;
     signals = c.signals;
@@ -59,7 +80,7 @@ module _ {sheet : List ℕ} {Γ : Network} {h : ℕ} {ns : List (List ℕ)} {xs 
   module _ {o : Option (List Reaction)} where
     pub cases_begin : Stands sheet Γ (contents_with h ns xs rs o) → Stands sheet Γ (contents_of h ns xs rs o (some []))
     cases_begin c = record {
-      holds = none-placed c.holds;
+      holds = as_listed refl refl c.holds;
       arrays = c.arrays;
       names = c.names;
       signals = c.signals;

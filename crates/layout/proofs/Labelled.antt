@@ -30,7 +30,8 @@ use Rattle.layout.specs.Labelled.{Complete, Labelled}
 use Rattle.layout.proofs.Finds.{letter-found, mask_is}
 use Rattle.layout.proofs.Stands.{Stands}
 use Rattle.layout.proofs.Asked.{mask-lettered, in_truth}
-use Rattle.layout.proofs.Complete.{mask, sum, Keeping, at-line, by-line, complete_of, of_complete}
+use Rattle.layout.proofs.Includes.{mask, sum, Keeping}
+use Rattle.layout.proofs.Complete.{at-line, by-line, complete_of, of_complete}
 
 module _ {sheet : List ℕ} {Γ : Network} {c : Contents} (s : Stands sheet Γ c)
     (few : length c.signals ≤ L.signals) where

@@ -5,6 +5,7 @@ pub mod Labels
 pub mod Search
 pub mod Finds
 pub mod Extends
+pub mod Keyed
 pub mod Reacts
 pub mod Kept
 pub mod Placed
@@ -20,10 +21,12 @@ pub mod RuleLine
 pub mod Rules
 pub mod Reactions
 pub mod Asked
+pub mod Includes
 pub mod Complete
 pub mod Labelled
 pub mod CaseLine
 pub mod Cases
+pub mod CountLine
 pub mod Section
 pub mod Optional
 pub mod OptionalCases

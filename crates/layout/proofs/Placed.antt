@@ -5,8 +5,7 @@ use mathlib.Core.Bool.{true, false}
 use mathlib.Core.Option.{Option, some}
 use mathlib.Core.List.{List, [], ◌∷◌, ◌++◌, map-append}
 use Prim.Native.Nat.{ℕ, ◌<◌}
-use native.Mathlib.Omega.{arith}
-use lib.ListN.{length, get_or, length-map, get_or-map, get_or-eq_default}
+use lib.ListN.{length, get_or, get_or-eq_default}
 use lib.Seq.{get_or-set_same, get_or-set_other}
 use Rattle.prelude.specs.Lists.{In, Distinct}
 use Rattle.prelude.proofs.Lists.{by_place}
@@ -19,26 +18,8 @@ use Rattle.names.specs.Names.{is_name_lem}
 use Rattle.names.specs.Defined.{mask_of}
 use Rattle.layout.specs.Contents.{Signal, Rule, Reaction, Case, no_case, signal_letters, case_events}
 use Rattle.layout.specs.Contains.{Bears, Contains}
-use Rattle.layout.proofs.Extends.{contents_with, contents_of}
-
--- the section of cases begins
-pub none-placed : {sheet : List ℕ} {Γ : Network} {h : ℕ} {ns : List (List ℕ)} {xs : List Signal} {rs : List Rule}
-    {o : Option (List Reaction)} → Contains sheet Γ (contents_with h ns xs rs o)
-    → Contains sheet Γ (contents_of h ns xs rs o (some []))
-none-placed c = record {
-  horizon = c.horizon;
-  events = c.events;
-  named = c.named;
-  signals = c.signals;
-  lettered = c.lettered;
-  observed = c.observed;
-  rules = c.rules;
-  means = c.means;
-  reacts = c.reacts;
-  unsaid = c.unsaid;
-  labelled = c.labelled;
-  unlabelled = c.unlabelled;
-}
+use Rattle.layout.proofs.Keyed.{said_with, unsaid_with}
+use Rattle.layout.proofs.Extends.{contents_of}
 
 -- one label more, of the event u, whose name has no line yet
 module _ {sheet : List ℕ} {Γ : Network} {h : ℕ} {ns : List (List ℕ)} {xs : List Signal} {rs : List Rule}
@@ -61,6 +42,9 @@ module _ {sheet : List ℕ} {Γ : Network} {h : ℕ} {ns : List (List ℕ)} {xs 
             clash (is_name_lem k.event) name (ap is_name_lem none)
       ]
 
+  names : (v : ℕ) → v ≡ u → get_or ns v [] ≡ k.event
+  names v s = rw s its.name
+
   -- what stands in the longer list
   events-are : case_events (ks ++ k ∷ []) ≡ case_events ks ++ k.event ∷ []
   events-are = map-append (λ (j : Case). j.event) ks (k ∷ [])
@@ -75,20 +59,6 @@ module _ {sheet : List ℕ} {Γ : Network} {h : ℕ} {ns : List (List ℕ)} {xs 
     other : (v : ℕ) → (v ≡ u → ⊥) → event_label grown v ≡ event_label Γ v
     other v n = get_or-set_other Γ.labels u v (mask (signal_letters xs) k) no_label n
 
-    labelled : (i : ℕ) → i < length (ks ++ k ∷ []) → (v : ℕ) → get_or ns v [] ≡ (get_or (ks ++ k ∷ []) i no_case).event
-        → event_label grown v ≡ mask (signal_letters xs) (get_or (ks ++ k ∷ []) i no_case)
-    labelled =
-        by_place no_case ks k (λ i j. (v : ℕ) → get_or ns v [] ≡ j.event → event_label grown v ≡ mask
-        (signal_letters xs) j)
-        (λ i m v e.
-        let listed : In (get_or ns v []) (case_events ks) [] = record {
-          place = i;
-          place_lt = omega (arith, length-map ks (λ j. j.event));
-          is = get_or-map (λ j. j.event) ks i no_case ∙ sym e;
-        } in
-        other v (λ s. new (rw (s, its.name) at listed)) ∙ c.labelled v i m e)
-        (λ v e. rw (same-event v e) (get_or-set_same Γ.labels u (mask (signal_letters xs) k) no_label room))
-
     pub case_contains : Contains sheet grown (contents_of h ns xs rs o (some (ks ++ k ∷ [])))
     case_contains = record {
       horizon = c.horizon;
@@ -101,8 +71,13 @@ module _ {sheet : List ℕ} {Γ : Network} {h : ℕ} {ns : List (List ℕ)} {xs 
       means = c.means;
       reacts = c.reacts;
       unsaid = c.unsaid;
-      labelled = λ v i l. labelled i l v;
-      unlabelled = λ v n. other v (λ s. n (rw s last_in)) ∙ c.unlabelled v (λ i. n (earlier_in v i));
+      labelled = λ v i l.
+          said_with (λ j. j.event) (mask (signal_letters xs)) no_case ks k u new v (get_or ns v []) (same-event v)
+          (names v) (other v) (λ s. rw s (get_or-set_same Γ.labels u (mask (signal_letters xs) k) no_label room))
+          (λ i. c.labelled v i) i l;
+      unlabelled = λ v.
+          unsaid_with (λ j. j.event) (mask (signal_letters xs)) no_case ks k u new v (get_or ns v []) (same-event v)
+          (names v) (other v) no_label (c.unlabelled v);
     }
 
   -- the events that have a line are marked, and no others

@@ -1,6 +1,6 @@
--- A sheet that is the text of contents which keep the layout's rules is read to its end, and the network holds these
--- contents. Assumes nothing.
-use mathlib.Core.Path.{◌≡◌, refl, ◌∙◌, ap}
+-- A sheet that is the text of contents which keep the layout's rules is read section by section to its end, and the
+-- network holds these contents. Assumes nothing.
+use mathlib.Core.Path.{◌≡◌, refl, ap}
 use mathlib.Core.Option.{Option, none, get_or}
 use mathlib.Core.List.{List, [], ◌++◌}
 use Prim.Native.Nat.{ℕ, ◌≤◌, zero-le}
@@ -9,17 +9,14 @@ use Rattle.text.specs.Lines.{after_line}
 use Rattle.text.proofs.Numbers.{magnitude-decimal}
 use Rattle.network.specs.Limits as L
 use Rattle.network.specs.Build.{empty}
-use Rattle.network.specs.declared.Network.{Network}
 use Rattle.line.specs.Tests.{second_number}
 use Rattle.line.specs.Sections.{horizon_heading}
 use Rattle.line.specs.declared.Section.TheVariants.{Events, Signals, Rules, Reactions, Cases}
 use Rattle.sheet.specs.Reading.{Progress, Go, read_horizon_lem, read_section_lem, read_optional_lem, read_end}
-use Rattle.sheet.specs.Reading.{progress}
-use Rattle.sheet.proofs.Whole.{to_events, to_signals, to_rules, to_reactions, to_cases, to_end, in_length}
-use Rattle.layout.specs.Contents.{Signal, Rule, Reaction, Case, Contents}
+use Rattle.sheet.proofs.Whole.{to_events, to_signals, to_rules, to_reactions, to_cases, to_end}
+use Rattle.layout.specs.Contents.{Signal, Rule, Reaction, Case}
 use Rattle.layout.specs.Keeps.{Keeps}
-use Rattle.layout.specs.Layout.{Layout, reactions_text, cases_text, text_of}
-use Rattle.layout.specs.Contains.{Contains}
+use Rattle.layout.specs.Layout.{reactions_text, cases_text, text_of}
 use Rattle.layout.proofs.Kept.{KeptNames, KeptSignals, KeptRules, KeptReactions}
 use Rattle.layout.proofs.Extends.{contents, contents_with, contents_of}
 use Rattle.layout.proofs.Stands.{Stands, empty_stands}
@@ -29,7 +26,8 @@ use Rattle.layout.proofs.Signals.{signals-understood}
 use Rattle.layout.proofs.Rules.{rules-understood}
 use Rattle.layout.proofs.Optional.{reactions-reads}
 use Rattle.layout.proofs.OptionalCases.{cases-reads}
-use Rattle.layout.proofs.Section.{count-line-reads, section-reads}
+use Rattle.layout.proofs.CountLine.{count-line-reads}
+use Rattle.layout.proofs.Section.{section-reads}
 use Rattle.layout.proofs.Text.{
   horizon_text,
   events_text,
@@ -122,7 +120,7 @@ module _ (sheet : List ℕ) (h : ℕ) (ns : List (List ℕ)) (xs : List Signal) 
       behind = r.behind;
     }
 
-    sections_read : Keeps (contents_of h ns xs rs o q) → sheet ≡ text_of (contents_of h ns xs rs o q)
+    pub sections_read : Keeps (contents_of h ns xs rs o q) → sheet ≡ text_of (contents_of h ns xs rs o q)
         → AtCases (to_end sheet)
     sections_read k t =
         let behind-reactions = cases_text q ++ [] in
@@ -144,25 +142,3 @@ module _ (sheet : List ℕ) (h : ℕ) (ns : List (List ℕ)) (xs : List Signal) 
         (apart sheet (horizon_text h) (events_text ns) (signals_text xs) (rules_text rs) (reactions_text o)
         (cases_text q)
         t)))))))
-
--- the reading comes to its end with a network that holds the contents
-pub record IsRead (sheet : List ℕ) (c : Contents) : Type 0 where
-  pub network : Network
-  pub at : ℕ
-  pub number : ℕ
-  pub goes : progress sheet ≡ Go network at number
-  pub held : Contains sheet network c
-
-pub layout_read : (sheet : List ℕ) (l : Layout sheet) → IsRead sheet l.contents
-layout_read sheet l =
-    let c = l.contents in
-    let r =
-    sections_read sheet c.horizon c.names c.signals c.rules c.reactions c.cases l.keeps
-    l.written in
-    record {
-      network = r.network;
-      at = r.at;
-      number = r.number;
-      goes = in_length sheet l.short ∙ r.goes;
-      held = r.held.holds;
-    }

@@ -24,7 +24,8 @@ use Rattle.layout.proofs.Signals.{signals-understood}
 use Rattle.layout.proofs.Rules.{rules-understood}
 use Rattle.layout.proofs.Optional.{ReactionsRead, reactions-read}
 use Rattle.layout.proofs.OptionalCases.{cases-read}
-use Rattle.layout.proofs.Section.{count-line-read, SectionRead, section-read}
+use Rattle.layout.proofs.CountLine.{count-line-read}
+use Rattle.layout.proofs.Section.{SectionRead, section-read}
 use Rattle.layout.proofs.Text.{
   horizon_text,
   events_text,

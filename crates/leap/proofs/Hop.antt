@@ -16,13 +16,13 @@ use Rattle.rounds.specs.Cap.{cap}
 use Rattle.rounds.specs.Rounds.{held}
 use Rattle.rounds.proofs.Effects.{length-held, step_rises, step_near}
 use Rattle.moves.specs.Moves.{Placed}
-use Rattle.moves.specs.Levels.{Some}
+use Rattle.moves.specs.Levels.{SomeRise}
 use Rattle.leap.specs.Tables.{Advanced}
 use Rattle.leap.proofs.Strategies.{held_moved, placed-within, some-cell}
 use Rattle.leap.proofs.Tables.{moved-whole}
 
 module _ {Γ : Network} where
-  pub advanced_hop : {t d o : List ℕ} {lo hi : ℕ} (p j : ℕ) → Γ.events ≤ 16 → Times Γ d → Some d (scenarios Γ * 16)
+  pub advanced_hop : {t d o : List ℕ} {lo hi : ℕ} (p j : ℕ) → Γ.events ≤ 16 → Times Γ d → SomeRise d (scenarios Γ * 16)
       → (lo ≡ 0) × (hi ≡ 10080) → Times Γ o × Placed t d lo hi j Γ.horizon (scenarios Γ * 16) o
       → AtMost (iterate p (propagate Γ)) (held Γ t) (held Γ d) j
       → AtLeast (iterate p (propagate Γ)) (held Γ t) (held Γ d) j → Advanced Γ (j * p) t o

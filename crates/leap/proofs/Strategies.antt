@@ -21,7 +21,7 @@ use Rattle.rounds.specs.Cap.{cap}
 use Rattle.rounds.specs.Rounds.{held}
 use Rattle.rounds.proofs.Cap.{within_cap}
 use Rattle.moves.specs.Moves.{part_of, Placed}
-use Rattle.moves.specs.Levels.{Some, NextLevel}
+use Rattle.moves.specs.Levels.{SomeRise, NextLevel}
 
 -- what is few at each row and column is few at each cell
 cell-few : {Γ : Network} {e : List ℕ} → Times Γ e → (i : ℕ) → i < scenarios Γ * 16 → get_or e i 0 ≤ 10080
@@ -98,7 +98,7 @@ module _ (Γ : Network) (few : Γ.events ≤ 16) where
       })
 
   -- where some rise of the table is not 0, some rise of the strategy is not
-  pub some-cell : {d : List ℕ} → Times Γ d → Some d (scenarios Γ * 16)
+  pub some-cell : {d : List ℕ} → Times Γ d → SomeRise d (scenarios Γ * 16)
       → (c : ℕ) × (c < Γ.events * scenarios Γ) × (0 < get_or (held Γ d) c 0)
   some-cell {d} D S =
       let w = cell_of 16 (scenarios Γ) S.cell (omega (arith, S.inside)) in

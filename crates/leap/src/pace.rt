@@ -1,6 +1,5 @@
 // The end of a run that passes a limit, seen from its fastest times: the others need no period, only bounds.
-ghost use Rattle.std.specs.Prelude.{◌≡◌, ◌+◌, ◌*◌, ◌≤◌, ◌<◌, length, IfSome};
-ghost use Rattle.network.specs.Limits as L;
+ghost use Rattle.std.specs.Prelude.{◌+◌, ◌*◌, ◌≤◌, ◌<◌, IfSome};
 ghost use Rattle.rows.specs.Rows.{Times};
 ghost use Rattle.leap.specs.Passing.{Closing, Passing};
 
@@ -28,8 +27,7 @@ fn closing(compiled: &Compiled, low: &Table, high: &Table, most: u32) -> Option<
         }
         moves::copy(&b[..cells], &mut below);
         match compiled.round(&above, &mut b) {
-            Effect::Passes => return None,
-            Effect::Rests => return None,
+            Effect::Passes | Effect::Rests => return None,
             Effect::Rises => {}
         }
         moves::copy(&b[..cells], &mut above);
@@ -63,6 +61,7 @@ fn passes_after(upper: &Guess<'_>, e: &Table, left: u32) -> Option<u32>
     }
     let q = closing(upper.compiled, &low, &high, upper.p)?;
     let r = upper.rounds() + (upper.p + q);
+    // An `if`, since what `then_some` answers would take a law of its own in the proof.
     if left < r {
         return None;
     }
@@ -75,14 +74,15 @@ pub fn finish(compiled: &Compiled, a: &Table, since: &Table, p: u32, left: u32) 
     requires { Times compiled.now.frame.network a.now }
     ensures { IfSome result (λ r. (r ≤ left) × Passing compiled.now.frame.network r a.now) }
 {
-    // a longer period is not worth its test
+    // A longer period is not worth its test.
     if 65535 < p {
         return None;
     }
     let cells = compiled.frame.cells();
     let d = moves::rise(&since[..cells], &a[..cells]);
-    let top = guess::highest_below(&d[..cells], 65535);
-    let m = guess::margin(guess::highest_below(&d[..cells], top));
+    // The highest of all, since no rise is as high as this limit.
+    let top = guess::highest_below(&d[..cells], u16::MAX)?;
+    let m = guess::highest_below(&d[..cells], top).map_or(0, guess::margin);
     if top <= m {
         return None;
     }
@@ -95,7 +95,7 @@ pub fn finish(compiled: &Compiled, a: &Table, since: &Table, p: u32, left: u32) 
         p,
         left,
     );
-    // fewer moves are not worth their test
+    // Fewer moves are not worth their test.
     if j < 8 {
         return None;
     }

@@ -1,6 +1,7 @@
 // Whether p rounds add the rises d to a table, and j times again, or at most d, or at least d: by rounds from tables
-// far on. Each test says true only where it is so; where it says false nothing is known.
-ghost use Rattle.std.specs.Prelude.{◌≡◌, true, ◌+◌, ◌*◌, ◌≤◌, ◌<◌, length, IfSome, MatchOption};
+// far on. Each test says true only where it is so; where it says false nothing is known. `Far` stands in three
+// `requires`, since a type for it would have to hold the guess a second time.
+ghost use Rattle.std.specs.Prelude.{◌≡◌, true, ◌*◌, ◌≤◌, ◌<◌, IfSome, MatchOption};
 ghost use Rattle.fixpoint.specs.Near.{iterate};
 ghost use Rattle.fixpoint.specs.Straight.{AtMost, AtLeast};
 ghost use Rattle.network.specs.Limits as L;
@@ -23,16 +24,16 @@ pub fn advance(compiled: &Compiled, from: &Table, p: u32) -> Option<Table>
     requires { Times compiled.now.frame.network from.now }
     ensures { IfSome result (λ u. Advanced compiled.now.frame.network p from.now u) }
 {
-    let cells = compiled.frame.cells();
     let mut a = *from;
     let mut b = [0; Network::CELLS];
+    let (mut here, mut next) = (&mut a, &mut b);
     for _ in 0..p {
-        match compiled.round(&a, &mut b) {
+        match compiled.round(here, next) {
             Effect::Passes | Effect::Rests => return None,
-            Effect::Rises => moves::copy(&b[..cells], &mut a),
+            Effect::Rises => std::mem::swap(&mut here, &mut next),
         }
     }
-    Some(a)
+    Some(*here)
 }
 
 // The guess that p rounds add the rises d to the table t, and j times again.
@@ -100,7 +101,8 @@ impl Guess<'_> {
         moves::next_level(&d[..cells], l)
     }
 
-    // Whether each cell of rise l goes as far as the span says in p rounds from the table so moved on.
+    // Whether each cell of rise l goes as far as the span says in p rounds from the table so moved on. (`is_some_and`
+    // was tried: the search did not prove the answer.)
     fn at_level(&self, l: u16, part: Part, span: Span) -> bool
         ensures { result ≡ true → AtLevel self.now.compiled.now.frame.network self.now.p self.now.j self.now.t.now
             self.now.d.now l part.lo part.hi span.least span.most }
@@ -131,7 +133,8 @@ impl Guess<'_> {
     }
 
     // Whether p rounds add at most d to t, and j times again, level by level. At the highest level no cell is faster,
-    // and p rounds make x of t.
+    // and p rounds make x of t. (Here and in `at_least` a loop of its own: one loop with the test as a closure would
+    // have to hand on what each test says of a level, and be no plainer.)
     pub fn at_most(&self, x: &Table, o: &Table) -> bool
         requires { Advanced self.now.compiled.now.frame.network self.now.p self.now.t.now x.now
             × Far self.now.compiled.now.frame.network self.now.p self.now.j self.now.t.now self.now.d.now

@@ -15,16 +15,14 @@ use Rattle.prelude.specs.Search.{answers}
 use Rattle.prelude.specs.Checks.{first_failing_lem}
 use Rattle.prelude.specs.Bytes.{same}
 use Rattle.prelude.proofs.Tests.{zero-is-one}
-use Rattle.text.specs.Lines.{field}
+use Rattle.text.specs.Lines.{fields, field}
 use Rattle.refusal.specs.declared.Cause.{Cause}
 use Rattle.refusal.specs.declared.Cause.TheVariants as C
 use Rattle.network.specs.declared.Network.{Network}
 use Rattle.names.specs.Names.{is_name_lem, is_one_letter_lem}
 use Rattle.names.specs.Defined.{gives_signal_lem}
 use Rattle.line.specs.Tests.{count_tests, letters_tests, section_tests, event_of, signal_of, event_tests, signal_tests}
-use Rattle.line.specs.Answers.{answer, entry_by}
-use Rattle.line.specs.declared.Section.{Section}
-use Rattle.line.specs.declared.entry.Entry.{Entry}
+use Rattle.line.specs.Answers.{answer}
 
 -- an answer is the cause of a refusal, or what is read where none was found
 module _ {A : Type 0} (o : Option Cause) (x : A) where
@@ -61,10 +59,9 @@ pub found-is : {T : Type 0} (o : Option T) (r : P.Option T) (b v : Bool) → r �
     → answers o ≡ v
 found-is o r b v e f g = sym (is_some-option_of o) ∙ ap is_some (sym e) ∙ sym f ∙ g
 
--- an answer of the same line
-pub moved : {x : Result Entry Cause} (l m : List ℕ) (s : Section) (sheet : List ℕ) (Γ : Network) → l ≡ m
-    → x ≡ entry_by l s sheet Γ → x ≡ entry_by m s sheet Γ
-moved l m s sheet Γ e h = h ∙ ap (λ (k : List ℕ). entry_by k s sheet Γ) e
+-- a field of the same line
+pub of_line : {l m f : List ℕ} (k : ℕ) → f ≡ field k (fields l) → l ≡ m → f ≡ field k (fields m)
+of_line k e h = e ∙ ap (λ (g : List ℕ). field k (fields g)) h
 
 -- the letters of the same label
 pub moved-letters : (Γ : Network) (f g : List ℕ) {o : Option Cause} → f ≡ g → first_failing_lem (letters_tests Γ f) ≡ o

@@ -1,6 +1,6 @@
 // A line of each section behind its heading: by its fields, and at the start of what remains of the sheet.
 ghost use Rattle.std.specs.Prelude.{◌≡◌, ◌&&◌};
-ghost use Rattle.names.specs.Names.{is_name_lem, is_one_letter_lem, is_label_lem, label_of};
+ghost use Rattle.names.specs.Names.{is_name_lem, is_label_lem, label_of};
 ghost use Rattle.names.specs.Defined.{mask_of};
 ghost use Rattle.line.specs.Tests.{letters_tests};
 ghost use Rattle.line.specs.Answers.{passing, entry_by, entry_at};
@@ -35,9 +35,7 @@ pub struct Line {
 fn event_fields(line: &[u8], defined: &Defined) -> Result<Entry, Cause>
     ensures { result ≡ entry_by line.now Events defined.now.sheet.now defined.now.network.now }
 {
-    let Some(fields) = Fields::<1>::of(line) else {
-        return Err(Cause::WrongFields);
-    };
+    let fields = Fields::<1>::of(line).ok_or(Cause::WrongFields)?;
     let name = fields.at(0);
     if !token::is_name(name) {
         return Err(Cause::IllFormedName);
@@ -48,26 +46,16 @@ fn event_fields(line: &[u8], defined: &Defined) -> Result<Entry, Cause>
     Ok(Entry::Event)
 }
 
-// The two fields of a signal are well formed.
-fn is_signal(letter: &[u8], event: &[u8]) -> bool
-    ensures { result ≡ is_one_letter_lem letter.now && is_name_lem event.now }
-{
-    token::is_one_letter(letter) && token::is_name(event)
-}
-
 // `letter,event`. An event that is not defined gives no signal, so that what it gives is asked once it is found.
 fn signal_fields(line: &[u8], defined: &Defined) -> Result<Entry, Cause>
     ensures { result ≡ entry_by line.now Signals defined.now.sheet.now defined.now.network.now }
 {
-    let Some(fields) = Fields::<2>::of(line) else {
-        return Err(Cause::WrongFields);
-    };
-    let field = fields.at(0);
+    let fields = Fields::<2>::of(line).ok_or(Cause::WrongFields)?;
+    let letter = token::one_letter(fields.at(0)).ok_or(Cause::IllFormedName)?;
     let event = fields.at(1);
-    if !is_signal(field, event) {
+    if !token::is_name(event) {
         return Err(Cause::IllFormedName);
     }
-    let letter = token::first(field);
     if defined.place_of(letter).is_some() {
         return Err(Cause::Duplicate);
     }
@@ -107,9 +95,7 @@ fn is_rule(from: &[u8], to: &[u8], label: &[u8]) -> bool
 fn rule_fields(line: &[u8], defined: &Defined) -> Result<Entry, Cause>
     ensures { result ≡ entry_by line.now Rules defined.now.sheet.now defined.now.network.now }
 {
-    let Some(fields) = Fields::<5>::of(line) else {
-        return Err(Cause::WrongFields);
-    };
+    let fields = Fields::<5>::of(line).ok_or(Cause::WrongFields)?;
     let kind = field::kind_of(fields.at(0)).ok_or(Cause::WrongFields)?;
     let bound = field::limit_of(fields.at(3))?;
     let first = fields.at(1);
@@ -134,17 +120,10 @@ fn rule_fields(line: &[u8], defined: &Defined) -> Result<Entry, Cause>
 fn reaction_fields(line: &[u8], defined: &Defined) -> Result<Entry, Cause>
     ensures { result ≡ entry_by line.now Reactions defined.now.sheet.now defined.now.network.now }
 {
-    let Some(fields) = Fields::<2>::of(line) else {
-        return Err(Cause::WrongFields);
-    };
+    let fields = Fields::<2>::of(line).ok_or(Cause::WrongFields)?;
     let minutes = field::count_of(fields.at(1), Network::FASTEST, Network::SLOWEST)?;
-    let letter = fields.at(0);
-    if !token::is_one_letter(letter) {
-        return Err(Cause::IllFormedName);
-    }
-    let signal = defined
-        .place_of(token::first(letter))
-        .ok_or(Cause::Undefined)?;
+    let letter = token::one_letter(fields.at(0)).ok_or(Cause::IllFormedName)?;
+    let signal = defined.place_of(letter).ok_or(Cause::Undefined)?;
     if defined.network.reactions[signal] != 0 {
         return Err(Cause::Duplicate);
     }
@@ -162,9 +141,7 @@ fn is_placed(name: &[u8], label: &[u8]) -> bool
 fn label_fields(line: &[u8], defined: &Defined) -> Result<Entry, Cause>
     ensures { result ≡ entry_by line.now Cases defined.now.sheet.now defined.now.network.now }
 {
-    let Some(fields) = Fields::<2>::of(line) else {
-        return Err(Cause::WrongFields);
-    };
+    let fields = Fields::<2>::of(line).ok_or(Cause::WrongFields)?;
     let name = fields.at(0);
     let field = fields.at(1);
     if !is_placed(name, field) {

@@ -1,10 +1,9 @@
 // A line and its fields: numbers and kinds.
-ghost use Rattle.std.specs.Prelude.{◌≡◌, ◌≤◌, true, false, MatchResult};
+ghost use Rattle.std.specs.Prelude.{◌≡◌, true, false, MatchResult};
 ghost use Rattle.prelude.specs.Options.{option_of};
 ghost use Rattle.prelude.specs.Bytes.{is_in};
 ghost use Rattle.text.specs.Lines.{line_feed, up_to};
 ghost use Rattle.text.specs.Number.{magnitude, value_of};
-ghost use Rattle.network.specs.Limits as L;
 ghost use Rattle.refusal.specs.declared.Cause.TheVariants.{MissingLine};
 ghost use Rattle.line.specs.Tests.{count_tests, limit_tests, kind_of};
 ghost use Rattle.line.specs.Answers.{passing};
@@ -19,9 +18,7 @@ pub(crate) fn line_of(rest: &[u8]) -> Result<&[u8], Cause>
         (λ line. (line.now ≡ up_to line_feed rest.now) × (is_in line_feed rest.now ≡ true))
         (λ e. (e ≡ MissingLine) × (is_in line_feed rest.now ≡ false)) }
 {
-    let Some(end) = text::find(rest, b'\n') else {
-        return Err(Cause::MissingLine);
-    };
+    let end = text::find(rest, b'\n').ok_or(Cause::MissingLine)?;
     Ok(&rest[..end])
 }
 
@@ -37,12 +34,12 @@ pub(crate) fn kind_of(f: &[u8]) -> Option<Kind>
     }
 }
 
-// The limit of a rule, with its sign.
+// The limit of a rule, with its sign. (A size of at most 10,080 fits an i32; `From` takes no u32 to one.)
 pub(crate) fn limit_of(f: &[u8]) -> Result<i32, Cause>
     ensures { result ≡ passing (limit_tests f.now) (value_of f.now) }
 {
     let most = u32::from(Network::HORIZON);
-    let number = text::read_number(f, most).ok_or(Cause::IllFormedNumber)?;
+    let number = text::read_number(f, Network::HORIZON).ok_or(Cause::IllFormedNumber)?;
     match number {
         Number::Plus(v) if v <= most => Ok(v as i32),
         Number::Minus(v) if v <= most => Ok(-(v as i32)),
@@ -50,15 +47,13 @@ pub(crate) fn limit_of(f: &[u8]) -> Result<i32, Cause>
     }
 }
 
-// The count of a section, from lo to hi. It fits 16 bits, as hi does.
+// The count of a section, from lo to hi. (It fits 16 bits, as hi does; `From` doesn't narrow.)
 pub(crate) fn count_of(f: &[u8], lo: u16, hi: u16) -> Result<u16, Cause>
-    requires { hi ≤ L.horizon }
     ensures { result ≡ passing (count_tests lo hi f.now) (magnitude f.now) }
 {
-    let most = u32::from(hi);
-    let number = text::read_number(f, most).ok_or(Cause::IllFormedNumber)?;
+    let number = text::read_number(f, hi).ok_or(Cause::IllFormedNumber)?;
     match number {
-        Number::Plus(v) if u32::from(lo) <= v && v <= most => Ok(v as u16),
+        Number::Plus(v) if u32::from(lo) <= v && v <= u32::from(hi) => Ok(v as u16),
         _ => Err(Cause::OutOfRange),
     }
 }

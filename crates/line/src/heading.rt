@@ -10,29 +10,28 @@ use network::Network;
 use refusal::Cause;
 use text::split::Fields;
 
-// What such a line says: its count, and how long it is without its line feed.
+// What such a line says: its count, and how long it is without its line feed. (A type beside Line: one with a parameter
+// for what it says would name neither an entry nor a count.)
 #[derive(Clone, Copy)]
 pub struct CountLine {
     pub count: u16,
     pub length: usize,
 }
 
-// The count of a section, from lo to hi, on a line with its word.
+// The count of a section, from lo to hi, on a line with its word. (Word and limits are three parameters: a struct for
+// them would be made at each call and opened at once.)
 fn section_fields(line: &[u8], word: &[u8], lo: u16, hi: u16) -> Result<u16, Cause>
-    requires { hi ≤ L.horizon }
     ensures { result ≡ section_by line.now word.now lo hi }
 {
-    let Some(fields) = Fields::<2>::of(line) else {
-        return Err(Cause::WrongFields);
-    };
+    let fields = Fields::<2>::of(line).ok_or(Cause::WrongFields)?;
     if fields.at(0) != word {
         return Err(Cause::WrongFields);
     }
     field::count_of(fields.at(1), lo, hi)
 }
 
+// The line of a section that begins here.
 pub fn section_line(rest: &[u8], word: &[u8], lo: u16, hi: u16) -> Result<CountLine, Cause>
-    requires { hi ≤ L.horizon }
     ensures { result ≡ section_at rest.now word.now lo hi }
 {
     let line = field::line_of(rest)?;
@@ -43,7 +42,8 @@ pub fn section_line(rest: &[u8], word: &[u8], lo: u16, hi: u16) -> Result<CountL
     })
 }
 
-// The line that a section begins with, on a sheet of n events.
+// The line that a section begins with, on a sheet of n events. (Each limit fits 16 bits, and so does n; `From` doesn't
+// narrow.)
 pub fn heading_of(section: Section, n: usize, rest: &[u8]) -> Result<CountLine, Cause>
     requires { n ≤ L.events }
     ensures { result ≡ heading_at rest.now (heading_of_lem n section) }

@@ -1,20 +1,14 @@
-// All labels of a sheet, tested once the last of them is read.
+// All labels of a sheet, tested once the last of them is read. Each function says itself what it asks of the network: a
+// type that carries it would be opened again for each of four calls.
 ghost use Rattle.std.specs.Prelude.{◌≡◌, ◌<◌};
 ghost use Rattle.network.specs.Limits as L;
 ghost use Rattle.network.specs.WellFormed.{FewLetters};
-ghost use Rattle.line.specs.Labelling.{Read, is_none_lem, is_part_lem, lacks_none_lem, events_include_lem};
+ghost use Rattle.line.specs.Labelling.{Read, is_part_lem, lacks_none_lem, events_include_lem};
 ghost use Rattle.line.specs.Labelling.{rules_include_lem, all_include, are_complete_lem, whole_tests};
 ghost use Rattle.line.specs.Answers.{passing};
 
 use network::{Label, Network};
 use refusal::Cause;
-
-// The label is a dash.
-pub fn is_none(label: Label) -> bool
-    ensures { result ≡ is_none_lem label }
-{
-    label.positive == 0 && label.negative == 0
-}
 
 // Each letter of the sum m stands in the sum n.
 fn is_part(m: u8, n: u8) -> bool
@@ -38,12 +32,9 @@ fn events_include(network: &Network, p: usize, needed: Label) -> bool
     requires { Read network.now × (p < L.signals) × FewLetters needed }
     ensures { result ≡ events_include_lem network.now p needed }
 {
-    for label in &network.labels[..network.events] {
-        if !lacks_none(p, needed, *label) {
-            return false;
-        }
-    }
-    true
+    network.labels[..network.events]
+        .iter()
+        .all(|&label| lacks_none(p, needed, label))
 }
 
 // No rule's label does.
@@ -51,12 +42,9 @@ fn rules_include(network: &Network, p: usize, needed: Label) -> bool
     requires { Read network.now × (p < L.signals) × FewLetters needed }
     ensures { result ≡ rules_include_lem network.now p needed }
 {
-    for rule in &network.constraints[..network.rules] {
-        if !lacks_none(p, needed, rule.label) {
-            return false;
-        }
-    }
-    true
+    network.constraints[..network.rules]
+        .iter()
+        .all(|rule| lacks_none(p, needed, rule.label))
 }
 
 // No label that uses signal p lacks part of the label of the event that gives it.
@@ -73,12 +61,7 @@ fn are_complete(network: &Network) -> bool
     requires { Read network.now }
     ensures { result ≡ are_complete_lem network.now }
 {
-    for p in 0..network.signals {
-        if !all_include(network, p) {
-            return false;
-        }
-    }
-    true
+    (0..network.signals).all(|p| all_include(network, p))
 }
 
 // The tests of all labels.
@@ -86,7 +69,7 @@ pub fn whole_of(network: &Network) -> Result<(), Cause>
     requires { Read network.now }
     ensures { result ≡ passing (whole_tests network.now) tt }
 {
-    if !is_none(network.labels[0]) {
+    if network.labels[0] != Label::DASH {
         return Err(Cause::StartLabelled);
     }
     if !are_complete(network) {

@@ -1,20 +1,19 @@
 // The printed listing of a strategy: each function writes a part of it behind what the page holds.
 #![tactic(auto)]
 
-ghost use Rattle.std.specs.Prelude.{◌≡◌, [], ◌∷◌, map, ◌+◌, ◌*◌, ◌/◌, ◌^◌, ◌≤◌, length, get_or};
-ghost use Rattle.text.specs.Lines.{comma, line};
+ghost use Rattle.std.specs.Prelude.{◌≡◌, ◌+◌, ◌≤◌, length};
 ghost use Rattle.network.specs.Limits as L;
 ghost use Rattle.network.specs.Build.{name_of_lem, cells};
 ghost use Rattle.listing.specs.Listing.{scenario_text, header, time_text, listing};
 ghost use Rattle.listing.specs.Line.{fields_of, mark_of_lem, times_of, line_of, lines_of};
 ghost use Rattle.listing.specs.Most.{most_names, most_times, most_header, most_line, most_lines};
-ghost use Rattle.page.specs.Joined.{join_from};
 ghost use Rattle.page.specs.Pushed.{Pushed};
 ghost use Rattle.page.specs.HandedOut.{HandedOut};
 
 use network::Network;
 use network::accepted::Accepted;
 use network::formed::Formed;
+use network::times::Strategy;
 use page::Page;
 
 // The names of all events, and the line feed.
@@ -40,7 +39,8 @@ pub fn push_header<const N: usize>(page: &mut Page<N>, accepted: &Accepted)
     push_names(page, accepted);
 }
 
-// The mark, T or F, of the truth that is v's last binary digit.
+// The mark, T or F, of the truth that is v's last binary digit. (By the digit, as the definition has it:
+// network::has asks for a bit.)
 fn mark_of(v: usize) -> u8
     ensures { result ≡ mark_of_lem v }
 {
@@ -48,10 +48,11 @@ fn mark_of(v: usize) -> u8
 }
 
 // The truths of the propositions in scenario s, whose binary digits they are.
-pub fn push_truths<const N: usize>(page: &mut Page<N>, s: usize, signals: usize)
-    requires { (signals ≤ L.signals) × (length page.old + L.signals ≤ N) }
-    ensures { Pushed L.signals page.old (scenario_text signals s) page.new }
+pub fn push_truths<const N: usize>(page: &mut Page<N>, formed: &Formed, s: usize)
+    requires { length page.old + L.signals ≤ N }
+    ensures { Pushed L.signals page.old (scenario_text formed.now.network.signals s) page.new }
 {
+    let signals = formed.network.signals;
     if signals == 0 {
         page.push(b'-');
         return;
@@ -86,23 +87,24 @@ fn push_times<const N: usize>(page: &mut Page<N>, row: &[u16])
 }
 
 // The line of scenario s, which has this row of the table.
-fn push_line<const N: usize>(page: &mut Page<N>, s: usize, signals: usize, row: &[u16])
-    requires { (signals ≤ L.signals) × (length row.now ≤ L.events) × (length page.old + most_line ≤ N) }
-    ensures { Pushed most_line page.old (line_of signals s row.now) page.new }
+fn push_line<const N: usize>(page: &mut Page<N>, formed: &Formed, s: usize, row: &[u16])
+    requires { (length row.now ≤ L.events) × (length page.old + most_line ≤ N) }
+    ensures { Pushed most_line page.old (line_of formed.now.network.signals s row.now) page.new }
 {
-    push_truths(page, s, signals);
+    push_truths(page, formed, s);
     push_times(page, row);
 }
 
-// The lines of all scenarios.
-fn push_lines<const N: usize>(page: &mut Page<N>, formed: &Formed, table: &[u16])
-    requires { (length page.old + most_lines ≤ N) × (length table.now ≡ cells formed.now.network) }
-    ensures { Pushed most_lines page.old (lines_of formed.now.network table.now) page.new }
+// The lines of all scenarios. Rows by number, since the number is written too, and over `chunks_exact` the proof stayed
+// open.
+fn push_lines<const N: usize>(page: &mut Page<N>, strategy: &Strategy)
+    requires { length page.old + most_lines ≤ N }
+    ensures { Pushed most_lines page.old (lines_of strategy.now.formed.now.network strategy.now.table.now) page.new }
 {
-    let signals = formed.network.signals;
+    let formed = strategy.formed;
     let events = formed.network.events;
-    for s in 0..network::scenario_count(signals) {
-        push_line(page, s, signals, &table[s * events..][..events]);
+    for s in 0..formed.scenario_count() {
+        push_line(page, formed, s, &strategy.table[s * events..][..events]);
     }
 }
 
@@ -112,14 +114,18 @@ pub const LONGEST_HEADER: usize = 149;
 pub const LONGEST: usize = 1765;
 
 // The listing of any table of the network's size into out: how many bytes were written, or None where out is too short
-// for them.
+// for them. The table's length is asked for: a Strategy beside the sheet would have to be said to be of its network.
 pub fn write(accepted: &Accepted, table: &[u16], out: &mut [u8]) -> Option<usize>
     requires { length table.now ≡ cells accepted.now.formed.network }
     ensures { HandedOut (listing accepted.now.sheet.now accepted.now.formed.network table.now)
         out.old out.new result }
 {
+    let strategy = Strategy {
+        formed: &accepted.formed,
+        table,
+    };
     let mut page = Page::<LONGEST>::new();
     push_header(&mut page, accepted);
-    push_lines(&mut page, &accepted.formed, table);
+    push_lines(&mut page, &strategy);
     page.hand_out(out)
 }

@@ -1,19 +1,15 @@
 -- What is found of the first n numbers of tables, as slices, is found of the tables. Assumes nothing.
-use mathlib.Core.Path.{◌≡◌, ◌∙◌, sym}
-use mathlib.Core.Bool.{true}
+use mathlib.Core.Path.{◌≡◌, ◌∙◌}
 use mathlib.Core.List.{List}
-use Prim.Native.Nat.{ℕ, ◌+◌, ◌-◌, ◌*◌, ◌≤◌, ◌<◌}
+use Prim.Native.Nat.{ℕ, ◌-◌, ◌*◌, ◌≤◌, ◌<◌}
 use native.Mathlib.Omega.{arith}
 use lib.ListN.{length, get_or, take, replicate, length-replicate}
-use Rattle.std.specs.Option.{MatchOption, is_some}
-use Rattle.std.specs.declared.option.Option.{Option}
-use Rattle.std.specs.declared.option.Option.TheVariants.{None, Some as Something}
 use Rattle.std.proofs.lemmas.List.{get_or-take, length-take-le}
 use Rattle.network.specs.Build.{scenarios}
 use Rattle.network.specs.declared.Network.{Network}
 use Rattle.rows.specs.Rows.{Times, Wrote}
 use Rattle.moves.specs.Moves.{Clipped}
-use Rattle.moves.specs.Levels.{Some, Highest, NextLevel}
+use Rattle.moves.specs.Levels.{SomeRise}
 use Rattle.moves.proofs.Moves.{clipped_times, wrote-times}
 
 module _ {n : ℕ} where
@@ -50,13 +46,8 @@ module _ {n : ℕ} where
         other = rw l at W.other;
       }
 
-  -- some level above 0 is found
-  pub some_risen : {d : List ℕ} (r : Option ℕ) → n ≤ length d
-      → MatchOption r (Highest (take n d) 0 (length (take n d))) (λ l. NextLevel (take n d) 0 (length (take n d)) l)
-      → is_some r ≡ true → Some d n
-  some_risen None h N z = cc
-  some_risen {d} (Something l) h N z =
-      let w = N.found in
-      let e = front_length d h in
-      let b : w.0 < n = omega (arith, w.1) in
-      record { cell = w.0; inside = b; up = omega (arith, w.2, N.more, get_or-take n d w.0 0 b) }
+  -- some rise is not 0
+  pub some_risen : {d : List ℕ} → n ≤ length d → SomeRise (take n d) (length (take n d)) → SomeRise d n
+  some_risen {d} h S =
+      let b : S.cell < n = omega (arith, S.inside, front_length d h) in
+      record { cell = S.cell; inside = b; up = omega (arith, S.up, get_or-take n d S.cell 0 b) }

@@ -1,3 +1,4 @@
--- Tables that rounds may go from; what is found of slices of tables.
+-- Tables that rounds may go from; the next level; what is found of slices of tables.
 pub mod Moves
+pub mod Levels
 pub mod Fronts

@@ -2,7 +2,7 @@
 use Rattle.std.specs.Prelude.{◌≡◌, ◌⊎◌, List, ℕ, ◌≤◌, ◌<◌, get_or}
 
 -- some rise is not 0
-pub record Some (d : List ℕ) (cells : ℕ) : Type 0 where
+pub record SomeRise (d : List ℕ) (cells : ℕ) : Type 0 where
   pub cell : ℕ
   pub inside : cell < cells
   pub up : 0 < get_or d cell 0

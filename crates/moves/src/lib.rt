@@ -1,14 +1,18 @@
 // Tables moved on: each time by j times a part of its rise. Rises stand in tables like times, and a level is one of
 // their values; a slice has the times or rises of the cells that count. Nothing here knows of rounds. A test that says
-// true promises what it tested; one that says false promises nothing.
+// true promises what it tested; one that says false promises nothing. Tables are written by index: of what a chain
+// writes through `iter_mut` and `zip` a proof would know nothing. Each loop reads one or two tables beside the one that
+// it writes, so that numbers serve all. That counts of moves and levels are at most a horizon is asked where they come
+// in: what holds them, `Guess` and `Tries`, says so.
 #![tactic(auto)]
 
 ghost use Rattle.std.specs.Prelude.{◌≡◌, true, ◌+◌, ◌-◌, ◌*◌, ◌%◌, ◌≤◌, ◌<◌, length, get_or, replicate};
-ghost use Rattle.std.specs.Prelude.{MatchOption, IfSome};
+ghost use Rattle.std.specs.Prelude.{MatchOption, IfSome, min, ltb};
+ghost use Rattle.std.specs.List.{filter, reduce};
 ghost use Rattle.network.specs.Limits as L;
 ghost use Rattle.rows.specs.Rows.{Wrote};
 ghost use Rattle.moves.specs.Moves.{part_of, Placed, Between, Clipped};
-ghost use Rattle.moves.specs.Levels.{Highest, NextLevel};
+ghost use Rattle.moves.specs.Levels.{SomeRise, Highest, NextLevel};
 
 use network::Network;
 use rows::Table;
@@ -51,6 +55,7 @@ pub struct Part {
 }
 
 impl Part {
+    // Of a rise, what is above l.
     pub fn above(l: u16) -> Self
         ensures { (result.lo ≡ l) × (result.hi ≡ L.horizon) }
     {
@@ -60,6 +65,7 @@ impl Part {
         }
     }
 
+    // Of a rise, at most l.
     pub fn up_to(l: u16) -> Self
         requires { l ≤ L.horizon }
         ensures { (result.lo ≡ 0) × (result.hi ≡ l) }
@@ -67,17 +73,14 @@ impl Part {
         Part { lo: 0, hi: l }
     }
 
-    // Where j moves take the time t of cell i, whose rise is d, if that is within the limits.
-    fn moved(&self, i: usize, t: u16, d: u16, j: u32, horizon: u16) -> Option<u16>
+    // Where j moves take the time t, whose rise is d, if that is at most the limit.
+    fn moved(&self, t: u16, d: u16, j: u32, limit: u16) -> Option<u16>
         requires { j ≤ L.horizon }
-        ensures { IfSome result
-            (λ v. (v ≡ t + j * part_of self.now.lo self.now.hi d) × (v ≤ horizon)
-            × (i % L.events ≡ 0 → v ≡ 0)) }
+        ensures { IfSome result (λ v. (v ≡ t + j * part_of self.now.lo self.now.hi d) × (v ≤ limit)) }
     {
         let v = reached(t, d.saturating_sub(self.lo).min(self.hi), j);
-        // event 0 stays at 0
-        if v <= u32::from(horizon) && (i % Network::EVENTS != 0 || v == 0) {
-            // at most the horizon
+        if v <= u32::from(limit) {
+            // The limit fits 16 bits. (By `then_some` the cast would stand before the test, and did not prove.)
             return Some(v as u16);
         }
         None
@@ -92,10 +95,26 @@ impl Part {
     {
         let mut o = [0; Network::CELLS];
         for i in 0..t.len() {
-            o[i] = self.moved(i, t[i], d[i], j, horizon)?;
+            // Event 0 stays at 0.
+            let limit = if i % Network::EVENTS == 0 { 0 } else { horizon };
+            o[i] = self.moved(t[i], d[i], j, limit)?;
         }
         Some(o)
     }
+}
+
+// Whether some rise is not 0.
+pub fn is_risen(d: &[u16]) -> bool
+    ensures { result ≡ true → SomeRise d.now (length d.now) }
+{
+    d.iter().any(|rise| *rise != 0)
+}
+
+// The least of the rises that are above l.
+fn least_above(d: &[u16], l: u16) -> Option<u16>
+    ensures { result ≡ reduce min (filter (λ r. ltb l r) d.now) }
+{
+    d.iter().copied().filter(|rise| l < *rise).min()
 }
 
 // The least level above l.
@@ -103,16 +122,10 @@ pub fn next_level(d: &[u16], l: u16) -> Option<u16>
     ensures { MatchOption result (Highest d.now l (length d.now))
         (λ r. NextLevel d.now l (length d.now) r) }
 {
-    let mut next = None;
-    for rise in d {
-        if l < *rise && next.is_none_or(|least| *rise < least) {
-            next = Some(*rise);
-        }
-    }
-    next
+    least_above(d, l)
 }
 
-// At least so many minutes and at most so many.
+// At least so many minutes and at most so many; u32::MAX is as good as no bound, since times have 16 bits.
 #[derive(Clone, Copy)]
 pub struct Span {
     pub least: u32,
@@ -124,10 +137,8 @@ impl Span {
     fn is_between(&self, t: u16, o: u16) -> bool
         ensures { result ≡ true → (t + self.now.least ≤ o) × (o ≤ t + self.now.most) }
     {
-        match o.checked_sub(t) {
-            Some(gone) => self.least <= u32::from(gone) && u32::from(gone) <= self.most,
-            None => false,
-        }
+        o.checked_sub(t).is_some_and(|gone| self.least <= u32::from(gone)
+            && u32::from(gone) <= self.most)
     }
 
     // Whether each time whose rise is l has gone so far from t to o.
@@ -142,8 +153,8 @@ impl Span {
     }
 }
 
-// The highest rise stays, none stays none, and any other becomes m: bounds that are guessed, so no more is promised
-// than that rounds may go from what they are.
+// The highest rise stays, none stays none, and any other becomes m. These are guesses at bounds: no more is promised
+// than that none is over a horizon where its rise is not, and that 0 stays.
 pub fn clip(d: &[u16], top: u16, m: u16) -> Table
     requires { (length d.now ≤ L.cells) × (m ≤ L.horizon) }
     ensures { Clipped d.now (length d.now) result }

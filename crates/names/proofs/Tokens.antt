@@ -1,17 +1,17 @@
 -- Laws of names, letters and labels, byte by byte: a scan of f that has come to i is about `drop i f`. Assumes nothing.
 use mathlib.Core.Path.{◌≡◌, refl, sym, ◌∙◌, ap}
 use mathlib.Core.Logic.{inl, inr}
-use mathlib.Core.Bool.{Bool, true, false, ◌||◌, not, cond, beq, and-false}
+use mathlib.Core.Bool.{Bool, true, false, ◌&&◌, ◌||◌, not, cond, beq, and-false}
 use mathlib.Core.List.{List, [], ◌∷◌}
-use Prim.Native.Nat.{ℕ, suc, ◌+◌, ◌≤◌, ◌<◌}
+use Prim.Native.Nat.{ℕ, zero, suc, ◌+◌, ◌≤◌, ◌<◌}
 use native.Mathlib.Omega.{arith}
 use borrow.Author.Tests.{leb-true, le-leb, lt-leb, eq-eqb, ne_eqb}
 use lib.Dec.{eqb, leb}
 use lib.ListN.{length, get_or, drop}
-use Rattle.std.specs.List.{list_all}
+use Rattle.std.specs.List.{list_all, enumerate_from}
 use Rattle.prelude.specs.Bytes.{is_in, distinct}
-use Rattle.prelude.proofs.Tests.{and-true as and_parts, clash, lt_or_ge, eq_or_ne}
-use Rattle.text.proofs.Lines.{drop_here}
+use Rattle.prelude.proofs.Tests.{and-true as and_parts, clash, either, lt_or_ge, eq_or_ne}
+use Rattle.text.proofs.Lines.{drop_here, drop-end}
 use Rattle.names.specs.Names.{is_letter_lem, is_name_lem, literals, letters_of}
 use Rattle.names.specs.Defined.{all_defined_lem, weight, weights}
 use Rattle.names.specs.Scan.{is_met_lem, added_by_lem}
@@ -97,13 +97,37 @@ module _ (k : ℕ) (letters : List ℕ) where
       ]
 
 module _ (t : List ℕ) (i : ℕ) where
-  pub distinct-on : i < length t → (get_or t i 0 ≡ 33 → ⊥) → is_in (get_or t i 0) (drop (i + 1) t) ≡ false
+  distinct-on : i < length t → (get_or t i 0 ≡ 33 → ⊥) → is_in (get_or t i 0) (drop (i + 1) t) ≡ false
       → distinct (letters_in (drop i t)) ≡ distinct (letters_in (drop (i + 1) t))
   distinct-on h n e = ap distinct (letters-at t i h n) ∙ rw (is_in-letters (get_or t i 0) (drop (i + 1) t) n ∙ e)
 
-  pub distinct-stop : i < length t → (get_or t i 0 ≡ 33 → ⊥) → is_in (get_or t i 0) (drop (i + 1) t) ≡ true
+  distinct-stop : i < length t → (get_or t i 0 ≡ 33 → ⊥) → is_in (get_or t i 0) (drop (i + 1) t) ≡ true
       → distinct (letters_in (drop i t)) ≡ false
   distinct-stop h n e = ap distinct (letters-at t i h n) ∙ rw (is_in-letters (get_or t i 0) (drop (i + 1) t) n ∙ e)
+
+-- whether the byte at an index is a bang, or does not stand again behind it
+abbrev pub once : List ℕ → ℕ × ℕ → Bool
+once t p = eqb p.1 33 || not (is_in p.1 (drop (p.0 + 1) t))
+
+distinct-at : (t : List ℕ) (i : ℕ) → i < length t
+    → distinct (letters_in (drop i t)) ≡ once t (i, get_or t i 0) && distinct (letters_in (drop (i + 1) t))
+distinct-at t i h =
+    let b = get_or t i 0 in
+    elim (eq_or_ne b 33) [
+      | inl e ↦ ap distinct (letters_bang_at t i h e) ∙ sym (rw (eq-eqb b 33 e))
+      | inr n ↦ elim (either (is_in b (drop (i + 1) t))) [
+        | inl y ↦ distinct-stop t i h n y ∙ sym (rw (ne_eqb b 33 n, y))
+        | inr y ↦ distinct-on t i h n y ∙ sym (rw (ne_eqb b 33 n, y))
+      ]
+    ]
+
+pub distinct-each : (t : List ℕ) (n i : ℕ) → i + n ≡ length t
+    → distinct (letters_in (drop i t)) ≡ list_all (once t) (enumerate_from i (drop i t))
+distinct-each t zero i h = rw (drop-end t i (omega arith))
+distinct-each t (suc n) i h =
+    distinct-at t i (omega arith)
+    ∙ ap (λ (z : Bool). once t (i, get_or t i 0) && z) (distinct-each t n (i + 1) (omega arith))
+    ∙ sym (ap (λ (s : List ℕ). list_all (once t) (enumerate_from i s)) (drop_here t i (omega arith)))
 
 -- the sum of the weights, byte by byte
 weights_cons : (k : ℕ) (letters : List ℕ) (v bang : Bool) (b : ℕ) (s : List ℕ)

@@ -16,31 +16,21 @@ fn is_met(b: u8, defined: &Defined) -> bool
     b == b'!' || defined.place_of(b).is_some()
 }
 
-// Whether each letter is defined. (A loop: of `all`, whose closure holds a struct of references, the proof didn't
-// close.)
+// Whether each letter is defined.
 pub fn all_defined(t: &[u8], defined: &Defined) -> bool
     ensures { result ≡ all_defined_lem defined.now.network.now.signals defined.now.network.now.letters
         (letters_of (literals false t.now)) }
 {
-    for &b in t {
-        if !is_met(b, defined) {
-            return false;
-        }
-    }
-    true
+    t.iter().all(|&b| is_met(b, defined))
 }
 
 // Whether no letter stands twice.
 pub fn is_distinct(t: &[u8]) -> bool
     ensures { result ≡ distinct (letters_of (literals false t.now)) }
 {
-    for i in 0..t.len() {
-        let b = t[i];
-        if b != b'!' && t[i + 1..].contains(&b) {
-            return false;
-        }
-    }
-    true
+    t.iter()
+        .enumerate()
+        .all(|(i, b)| *b == b'!' || !t[i + 1..].contains(b))
 }
 
 // The weight of signal p.
@@ -51,14 +41,11 @@ fn power(p: usize) -> u8
     1 << p
 }
 
-// The weight of a letter, or 0 where it is not defined.
+// The weight of a letter, or 0 where it is not defined, as in the definition: who sums weights has seen that all are.
 fn weight_of(defined: &Defined, letter: u8) -> u8
     ensures { result ≡ weight defined.now.network.now.signals defined.now.network.now.letters letter }
 {
-    match defined.place_of(letter) {
-        Some(p) => power(p),
-        None => 0,
-    }
+    defined.place_of(letter).map_or(0, power)
 }
 
 // What one byte of a label adds to the sum of the letters with this truth.
@@ -71,7 +58,8 @@ fn added_by(defined: &Defined, truth: bool, bang: bool, b: u8) -> u8
     weight_of(defined, b)
 }
 
-// The sum of the weights of the letters with this truth.
+// The sum of the weights of the letters with this truth. (A walk as `token::are_literals` is one: each asks something
+// else of a byte.)
 fn weights_of(t: &[u8], defined: &Defined, truth: bool) -> u8
     requires { weights defined.now.network.now.signals defined.now.network.now.letters truth (literals false t.now)
         < 2 ^ defined.now.network.now.signals }

@@ -22,9 +22,7 @@ impl<'a> Defined<'a> {
         ensures { result.now ≡ take (get_or self.now.network.now.lengths u 0)
             (drop (get_or self.now.network.now.starts u 0) self.now.sheet.now) }
     {
-        let start = self.network.starts[u];
-        let end = start + self.network.lengths[u];
-        &self.sheet[start..end]
+        self.network.name_in(self.sheet, u)
     }
 
     // The first event with the name f.
@@ -32,15 +30,10 @@ impl<'a> Defined<'a> {
         ensures { result ≡ option_of (event_named self.now.sheet.now self.now.network.now.events
             self.now.network.now.starts self.now.network.now.lengths f.now) }
     {
-        for u in 0..self.network.events {
-            if self.name(u) == f {
-                return Some(u);
-            }
-        }
-        None
+        (0..self.network.events).find(|&u| self.name(u) == f)
     }
 
-    // The letters of the signals, and the events that give them.
+    // The letters of the signals.
     fn letters(&self) -> &'a [u8]
         ensures { (result.now ≡ take self.now.network.now.signals self.now.network.now.letters)
             × (self.now.network.now.signals ≤ length self.now.network.now.letters) }
@@ -48,6 +41,7 @@ impl<'a> Defined<'a> {
         &self.network.letters[..self.network.signals]
     }
 
+    // The events that give the signals.
     fn observations(&self) -> &'a [usize]
         ensures { (result.now ≡ take self.now.network.now.signals self.now.network.now.observations)
             × (self.now.network.now.signals ≤ length self.now.network.now.observations) }

@@ -1,5 +1,6 @@
 // Names, letters and labels, byte by byte.
 ghost use Rattle.std.specs.Prelude.{◌≡◌, false, ◌||◌, get_or};
+ghost use Rattle.std.specs.Bool.{then_some};
 ghost use Rattle.std.specs.List.{list_all};
 ghost use Rattle.text.specs.Number.{is_digit};
 ghost use Rattle.names.specs.Names.{is_letter_lem, is_name_lem, is_one_letter_lem, are_literals_lem, is_dash_lem};
@@ -11,14 +12,14 @@ ghost use Rattle.names.specs.Scan.{may_follow_lem};
 pub fn is_letter(b: u8) -> bool
     ensures { result ≡ is_letter_lem b }
 {
-    matches!(b, b'a'..=b'z')
+    b.is_ascii_lowercase()
 }
 
 // A byte of a name behind its first.
 fn is_later(b: u8) -> bool
     ensures { result ≡ is_letter_lem b || is_digit b }
 {
-    matches!(b, b'a'..=b'z' | b'0'..=b'9')
+    is_letter(b) || b.is_ascii_digit()
 }
 
 // Whether all bytes may stand behind the first of a name.
@@ -39,18 +40,14 @@ pub fn is_name(f: &[u8]) -> bool
     }
 }
 
-// The first byte of a field, or 0 where it is empty.
-pub fn first(f: &[u8]) -> u8
-    ensures { result ≡ get_or f.now 0 0 }
+// A signal's letter: a field of one byte.
+pub fn one_letter(f: &[u8]) -> Option<u8>
+    ensures { result ≡ then_some (is_one_letter_lem f.now) (get_or f.now 0 0) }
 {
-    f.first().copied().unwrap_or(0)
-}
-
-// A signal's letter.
-pub fn is_one_letter(f: &[u8]) -> bool
-    ensures { result ≡ is_one_letter_lem f.now }
-{
-    f.len() == 1 && is_letter(f[0])
+    match f {
+        [b] if is_letter(*b) => Some(*b),
+        _ => None,
+    }
 }
 
 // Whether a byte may stand here in a label, with a bang before it or not.
@@ -60,7 +57,8 @@ fn may_follow(bang: bool, b: u8) -> bool
     if b == b'!' { !bang } else { is_letter(b) }
 }
 
-// Letters, each with an optional bang before it.
+// Letters, each with an optional bang before it. (Other walks over a label ask something else of each byte, so that one
+// function for all of them would be no plainer.)
 fn are_literals(f: &[u8]) -> bool
     ensures { result ≡ are_literals_lem false f.now }
 {
@@ -74,11 +72,11 @@ fn are_literals(f: &[u8]) -> bool
     !bang
 }
 
-#[tactic(auto, using(prelude::proofs::Bytes::equal_is))]
+// The label of every case.
 fn is_dash(f: &[u8]) -> bool
     ensures { result ≡ is_dash_lem f.now }
 {
-    f == b"-".as_slice()
+    matches!(f, b"-")
 }
 
 // A label.

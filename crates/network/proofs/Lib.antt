@@ -6,6 +6,7 @@ pub mod Labels
 pub mod Jointly
 pub mod Signed
 pub mod Bounds
+pub mod Reach
 pub mod Strategy
 pub mod Told
 pub mod Least

@@ -2,14 +2,13 @@
 -- test that is computed for all of them. Assumes nothing.
 use mathlib.Core.Path.{◌≡◌, refl, ◌∙◌}
 use mathlib.Core.Bool.{Bool, true, false, ◌&&◌, ◌||◌, not, beq}
-use Prim.Native.Nat.{ℕ, zero, suc, ◌/◌, ◌^◌, ◌<◌}
-use lib.Bits.{bit_and, bit_or, bit_xor}
+use Prim.Native.Nat.{ℕ, zero, suc, ◌<◌}
+use lib.Bits.{bit_and}
 use lib.Dec.{eqb}
 use Rattle.prelude.specs.Bounded.{all_below}
 use Rattle.prelude.proofs.Tests.{beq-true}
 use Rattle.prelude.proofs.Bounded.{true_of_all_below}
-use Rattle.network.specs.Scenario.{truth, agree, satisfies}
-use Rattle.network.specs.Happens.{mentions}
+use Rattle.network.specs.Scenario.{truth, satisfies}
 use Rattle.network.specs.declared.Label.{Label}
 
 -- two tests that agree on all pairs below 16 are equal there
@@ -22,33 +21,6 @@ module _ (f g : ℕ → ℕ → Bool) where
       beq-true (f a b) (g a b)
       (true_of_all_below (λ b. beq (f a b) (g a b)) 16
       (true_of_all_below (λ a. all_below 16 (λ b. beq (f a b) (g a b))) 16 e a h) b l)
-
--- the bit of s ^ r at p
-abbrev same_bit : ℕ → ℕ → ℕ → Bool
-same_bit p s r = eqb (bit_and (bit_xor s r / 2 ^ p) 1) 0
-
--- for each of the four propositions
-four : all_below 4 (λ p. same (same_bit p) (λ s r. agree s r p)) ≡ true
-four = refl
-
-pub agree-bits : (s r p : ℕ) → s < 16 → r < 16 → p < 4 → same_bit p s r ≡ agree s r p
-agree-bits s r p hs hr hp =
-    sixteen (same_bit p) (λ s r. agree s r p)
-    (true_of_all_below (λ p. same (same_bit p) (λ s r. agree s r p)) 4 four p hp) s r hs hr
-
--- the bit of a | b at p: a letter stands in either of a label's sums
-abbrev or_bit : ℕ → ℕ → ℕ → Bool
-or_bit p a b = eqb (bit_and (bit_or a b / 2 ^ p) 1) 1
-
-four_or : all_below 4 (λ p. same (or_bit p) (λ a b. truth a p || truth b p)) ≡ true
-four_or = refl
-
-pub mentions-bits : (ℓ : Label) (p : ℕ) → ℓ.positive < 16 → ℓ.negative < 16 → p < 4
-    → or_bit p ℓ.positive ℓ.negative ≡ mentions ℓ p
-mentions-bits ℓ p a b hp =
-    sixteen (or_bit p) (λ a b. truth a p || truth b p)
-    (true_of_all_below (λ p. same (or_bit p) (λ a b. truth a p || truth b p)) 4 four_or p hp)
-    ℓ.positive ℓ.negative a b
 
 -- s has all the propositions of the mask m, or none of them
 abbrev has : ℕ → ℕ → ℕ → Bool

@@ -47,88 +47,31 @@ empty h = record {
 module _ (Γ : Network) where
   -- one more event, named by the part of the sheet that begins at start
   abbrev pub with_event : ℕ → ℕ → Network
-  with_event start length = record {
-    horizon = Γ.horizon;
+  with_event start length = record Γ {
     events = Γ.events + 1;
     starts = set Γ.starts Γ.events start;
     lengths = set Γ.lengths Γ.events length;
-    signals = Γ.signals;
-    letters = Γ.letters;
-    observations = Γ.observations;
-    reactions = Γ.reactions;
-    rules = Γ.rules;
-    constraints = Γ.constraints;
-    labels = Γ.labels;
-    labelled = Γ.labelled;
   }
 
   -- one more signal: its letter, and the event that gives it
   abbrev pub with_signal : ℕ → ℕ → Network
-  with_signal letter observation = record {
-    horizon = Γ.horizon;
-    events = Γ.events;
-    starts = Γ.starts;
-    lengths = Γ.lengths;
+  with_signal letter observation = record Γ {
     signals = Γ.signals + 1;
     letters = set Γ.letters Γ.signals letter;
     observations = set Γ.observations Γ.signals observation;
-    reactions = Γ.reactions;
-    rules = Γ.rules;
-    constraints = Γ.constraints;
-    labels = Γ.labels;
-    labelled = Γ.labelled;
   }
 
   -- one more rule
   abbrev pub with_rule : Constraint → Network
-  with_rule c = record {
-    horizon = Γ.horizon;
-    events = Γ.events;
-    starts = Γ.starts;
-    lengths = Γ.lengths;
-    signals = Γ.signals;
-    letters = Γ.letters;
-    observations = Γ.observations;
-    reactions = Γ.reactions;
-    rules = Γ.rules + 1;
-    constraints = set Γ.constraints Γ.rules c;
-    labels = Γ.labels;
-    labelled = Γ.labelled;
-  }
+  with_rule c = record Γ { rules = Γ.rules + 1; constraints = set Γ.constraints Γ.rules c }
 
   -- signal p is trusted after so many minutes
   abbrev pub with_reaction : ℕ → ℕ → Network
-  with_reaction p minutes = record {
-    horizon = Γ.horizon;
-    events = Γ.events;
-    starts = Γ.starts;
-    lengths = Γ.lengths;
-    signals = Γ.signals;
-    letters = Γ.letters;
-    observations = Γ.observations;
-    reactions = set Γ.reactions p minutes;
-    rules = Γ.rules;
-    constraints = Γ.constraints;
-    labels = Γ.labels;
-    labelled = Γ.labelled;
-  }
+  with_reaction p minutes = record Γ { reactions = set Γ.reactions p minutes }
 
   -- event u happens where this label holds; its line has been read
   abbrev pub with_label : ℕ → Label → Network
-  with_label u ℓ = record {
-    horizon = Γ.horizon;
-    events = Γ.events;
-    starts = Γ.starts;
-    lengths = Γ.lengths;
-    signals = Γ.signals;
-    letters = Γ.letters;
-    observations = Γ.observations;
-    reactions = Γ.reactions;
-    rules = Γ.rules;
-    constraints = Γ.constraints;
-    labels = set Γ.labels u ℓ;
-    labelled = set Γ.labelled u true;
-  }
+  with_label u ℓ = record Γ { labels = set Γ.labels u ℓ; labelled = set Γ.labelled u true }
 
   -- the name of event u, as a part of the sheet
   abbrev pub name_of_lem : List ℕ → ℕ → List ℕ

@@ -1,6 +1,6 @@
 -- Execution strategies (004, Definition 6): a time for each event in each scenario. Document 01 calls one a table,
 -- its times minutes.
-use Rattle.std.specs.Prelude.{Bool, ◌&&◌, List, ℕ, ◌+◌, ◌*◌, max, leb, get_or}
+use Rattle.std.specs.Prelude.{Bool, ◌&&◌, cond, List, ℕ, ◌+◌, ◌*◌, max, leb, get_or, Option, Some, None}
 use Rattle.prelude.specs.Bounded.{min_where}
 use Rattle.network.specs.Limits as L
 use Rattle.network.specs.Build.{observation, reaction_stated}
@@ -28,6 +28,10 @@ module _ (Γ : Network) (σ : List ℕ) where
   -- from when on the truth of p is known in s: "its minute plus its reaction"
   abbrev pub known_from : ℕ → ℕ → ℕ
   known_from s p = known_after_lem Γ.events σ s (observation Γ p) (reaction Γ p)
+
+  -- that time, where p is given in s
+  abbrev pub given_from : ℕ → ℕ → Option ℕ
+  given_from s p = cond (given Γ s p) (Some (known_from s p)) None
 
   -- whether it is known at the time m: it is given in s, and "counts once its minute plus its reaction is at most the
   -- minute in question" (02, points 6 and 3); document 01 says heard

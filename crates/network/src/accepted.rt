@@ -19,9 +19,6 @@ impl<'a> Accepted<'a> {
         requires { u < self.now.formed.network.events }
         ensures { (result.now ≡ name_of_lem self.now.formed.network self.now.sheet.now u) × (length result.now ≤ 8) }
     {
-        let network = &self.formed.network;
-        let start = network.starts[u];
-        let end = start + network.lengths[u];
-        &self.sheet[start..end]
+        self.formed.network.name_in(self.sheet, u)
     }
 }

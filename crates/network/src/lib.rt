@@ -2,12 +2,12 @@
 // its propositions, their events its observation events, and the rules its constraints.
 #![tactic(auto)]
 
-ghost use Rattle.std.specs.Prelude.{◌≡◌, ◌*◌, ◌^◌, ◌≤◌, ◌<◌};
+ghost use Rattle.std.specs.Prelude.{◌≡◌, ◌+◌, ◌≤◌, ◌<◌, length, get_or};
 ghost use Rattle.network.specs.Limits as L;
 ghost use Rattle.network.specs.Scenario as S;
 ghost use Rattle.network.specs.Happens as E;
-ghost use Rattle.network.specs.Build.{limits, empty};
-ghost use Rattle.network.specs.WellFormed.{InLimits};
+ghost use Rattle.network.specs.Build.{limits, empty, name_of_lem};
+ghost use Rattle.network.specs.WellFormed.{InLimits, FewLetters};
 ghost use Rattle.network.specs.Biased as B;
 ghost use Rattle.network.specs.Joint.{join, joint_of};
 
@@ -63,7 +63,7 @@ pub struct Constraint {
 
 impl Constraint {
     // What stands where no constraint does.
-    const NONE: Self = Self {
+    pub const NONE: Self = Self {
         kind: Kind::Max,
         from: 0,
         to: 0,
@@ -76,6 +76,10 @@ impl Constraint {
 // Proposition p has the letter letters[p], the observation event observations[p] and in reactions[p] the reaction that
 // its line states, or 0 where it has none. Event u happens where labels[u] holds, and labelled[u] says whether it has a
 // line. Behind the counts the arrays hold what the empty network has.
+// The arrays stand side by side, and hold no structs: a line of the sheet fills one place of one or two of them, and a
+// search goes through one as a slice. No reaction is 0, the papers' own number for it, which one `max` makes 1. A label
+// without its line is the dash and no None: only the reader of the sheet tells the two apart, and all else would have
+// to open an Option for the dash.
 #[derive(Clone, Copy)]
 pub struct Network {
     pub horizon: u16,
@@ -105,6 +109,7 @@ pub struct Limits {
 }
 
 impl Network {
+    // The limits of document 01: the latest minute, and the most events, signals and rules.
     pub const HORIZON: u16 = 10080;
 
     pub const EVENTS: usize = 16;
@@ -123,7 +128,8 @@ impl Network {
 
     pub const SLOWEST: u16 = 60;
 
-    // What a cell of a table holds whose event does not happen in its case.
+    // What a cell of a table holds whose event does not happen in its case. A number and no Option: tables are lent by
+    // C and by callers as minutes of 16 bits (include/opening.h).
     pub const BLANK: u16 = 65535;
 
     // As many cases as the signals make, and as many cells as a table then has.
@@ -165,11 +171,32 @@ impl Network {
             labelled: [false; Self::EVENTS],
         }
     }
+
+    // The name of event u, as a part of its sheet.
+    pub fn name_in<'a>(&self, sheet: &'a [u8], u: usize) -> &'a [u8]
+        requires { (u < L.events)
+            × (get_or self.now.starts u 0 + get_or self.now.lengths u 0 ≤ length sheet.now) }
+        ensures { result.now ≡ name_of_lem self.now sheet.now u }
+    {
+        let start = self.starts[u];
+        let end = start + self.lengths[u];
+        &sheet[start..end]
+    }
 }
 
-// Whether s satisfies the label: all of its true letters, and none of its false ones.
+// Whether n has the bit p: in a scenario's number, whether proposition p is true there; in a sum of a label, whether
+// its letter stands there.
+pub fn has(n: usize, p: usize) -> bool
+    requires { p < L.signals }
+    ensures { result ≡ S.truth n p }
+{
+    (n >> p) & 1 == 1
+}
+
+// Whether s satisfies the label: all of its true letters, and none of its false ones. (That a label's sums are below 16
+// is asked, and is no fact of `Label`: the model's definitions name its two sums alone.)
 pub fn satisfies(s: usize, label: Label) -> bool
-    requires { (s < L.cases) × (label.positive < L.cases) × (label.negative < L.cases) }
+    requires { (s < L.cases) × FewLetters label }
     ensures { result ≡ S.satisfies s label }
 {
     let positive = usize::from(label.positive);
@@ -179,11 +206,10 @@ pub fn satisfies(s: usize, label: Label) -> bool
 
 // Whether the letter of p stands in the label, with either sign.
 pub fn mentions(label: Label, p: usize) -> bool
-    requires { (label.positive < L.cases) × (label.negative < L.cases) × (p < L.signals) }
+    requires { p < L.signals }
     ensures { result ≡ E.mentions label p }
 {
-    let letters = usize::from(label.positive | label.negative);
-    (letters >> p) & 1 == 1
+    has(usize::from(label.positive), p) || has(usize::from(label.negative), p)
 }
 
 // The label under which a constraint counts: its own and those of its two events.
@@ -193,23 +219,8 @@ pub fn joint(own: Label, from: Label, to: Label) -> Label
     own.join(from.join(to))
 }
 
-// How many scenarios so many propositions have.
-pub fn scenario_count(signals: usize) -> usize
-    requires { signals ≤ L.signals }
-    ensures { result ≡ 2 ^ signals }
-{
-    1 << signals
-}
-
-// How many cells the table of a network has.
-pub fn cell_count(events: usize, signals: usize) -> usize
-    requires { (events ≤ L.events) × (signals ≤ L.signals) }
-    ensures { result ≡ events * 2 ^ signals }
-{
-    events * scenario_count(signals)
-}
-
-// The limit plus 10,080, so never negative.
+// The limit plus 10,080: from 0 to 20,160, which fits 16 bits. (`From` doesn't narrow.) That a limit is in its
+// range is asked, here and above: an i32 is what document 01 has, and what the scope names.
 pub fn biased(bound: i32) -> u16
     requires { InLimits bound }
     ensures { result ≡ B.biased bound }

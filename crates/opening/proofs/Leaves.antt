@@ -1,12 +1,12 @@
 -- What the calls that write leave in lent memory: laws of all of them, and of those that write text, by what the writer
 -- did. Assumes nothing.
-use mathlib.Core.Path.{◌≡◌, refl, ◌∙◌}
+use mathlib.Core.Path.{◌≡◌, refl, ◌∙◌, ap}
 use mathlib.Core.Logic.{inl, inr}
 use mathlib.Core.Bool.{Bool, true, false}
 use mathlib.Core.List.{List, [], ◌∷◌}
 use Prim.Native.Nat.{ℕ}
 use lib.ListN.{length}
-use Rattle.std.specs.Prelude.{Option, Some, None, Result, Ok, Err, ok_or}
+use Rattle.std.specs.Prelude.{Option, Some, None, Result, Ok, Err, ok_or, MatchResult, IsErrAnd}
 use Rattle.prelude.proofs.Tests.{either, zero-is-one}
 use Rattle.page.specs.HandedOut.{is_room, count_of, memory_after, HandedOut}
 use Rattle.refusal.specs.declared.Cause.TheVariants.{BufferTooShort, TooManyRows}
@@ -32,6 +32,13 @@ use Rattle.opening.proofs.Prologue.{handed-refused, handed_fails, handed_works}
 abbrev pub refused_by : {E : Type 0} → (E → Refusal) → Result ℕ E → OrRefusal ℕ
 refused_by of (Ok n) = Ok n
 refused_by of (Err e) = Err (of e)
+
+-- `map_err` answers so
+pub mapped : {E : Type 0} (of : E → Refusal) (d : Result ℕ E) (answer : OrRefusal ℕ)
+    → MatchResult d (λ n. answer ≡ Ok n) (λ e. IsErrAnd answer (λ x. x ≡ of e)) → answer ≡ refused_by of d
+mapped of (Ok n) answer h = h
+mapped of (Err e) (Ok n) h = absurd h
+mapped of (Err e) (Err x) h = ap (λ (y : Refusal). Err y) h
 
 -- what was promised of one definition is promised of an equal one
 pub leaves_as : {l k : Left (OrRefusal ℕ)} {r : OrRefusal ℕ} {m : List ℕ} → l ≡ k → Leaves l r m → Leaves k r m

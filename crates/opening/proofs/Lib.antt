@@ -6,4 +6,5 @@ pub mod SolverLeaves
 pub mod ReaderLeaves
 pub mod Playing
 pub mod Taken
+pub mod Fills
 pub mod Pairs

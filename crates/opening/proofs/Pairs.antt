@@ -1,64 +1,32 @@
 -- Minutes written as pairs of bytes: a call that fills a table with its minutes gives the same answer for pairs, and
--- what was written is written as pairs. The solver and the reader of listings are such calls. Assumes nothing.
+-- what was written is written as pairs. Assumes nothing.
 use mathlib.Core.Path.{◌≡◌, refl, sym, ◌∙◌, ap, subst}
 use mathlib.Core.Logic.{inl, inr}
-use mathlib.Core.Bool.{Bool, true}
-use mathlib.Core.List.{List, [], ◌∷◌, ◌++◌, append_assoc}
+use mathlib.Core.Bool.{Bool}
+use mathlib.Core.List.{List, ◌++◌, append_assoc}
 use Prim.Native.Nat.{ℕ, ◌/◌, ◌≤◌, min}
 use native.Mathlib.Omega.{arith}
 use borrow.Author.Tests.{leb-true, le-leb, lt-leb}
 use lib.Dec.{leb}
-use lib.ListN.{length, take, drop, length-take, length-drop, length-append}
+use lib.ListN.{length, take, drop, replicate, length-take, length-drop, length-append}
 use lib.Seq.{take_at, length-take-le}
 use Rattle.prelude.specs.Checks.{Hold, FirstFails}
 use Rattle.prelude.proofs.Tests.{lt_or_ge}
-use Rattle.refusal.specs.declared.Cause.TheVariants.{BufferTooShort, Inconsistent}
 use Rattle.refusal.specs.declared.Refusal.{Refusal}
+use Rattle.network.specs.Limits as L
 use Rattle.network.specs.Build.{cells}
 use Rattle.network.specs.declared.Network.{Network}
 use Rattle.sheet.specs.Reading.{network_of, Accepts}
 use Rattle.sheet.proofs.WellFormed.{accepted_well_formed}
-use Rattle.solver.specs.Solve.{solve, found}
-use Rattle.solver.proofs.Least.{solve-least}
-use Rattle.listing.specs.Listing.{header}
-use Rattle.readback.proofs.RoundTrip.{length-recovered}
 use Rattle.calls.specs.Values.{OrRefusal, done}
-use Rattle.calls.specs.Call.{without_line_lem, Tests, call, Left, Leaves}
+use Rattle.calls.specs.Call.{Tests, call, Left, Leaves}
 use Rattle.calls.specs.Lent.{Lent, in_place_lem, in_pairs}
-use Rattle.calls.specs.Calls.{writing, refusing, rests}
-use Rattle.calls.specs.Recover.{recovery_tests, recovered_in}
+use Rattle.calls.specs.Calls.{writing, refusing}
 use Rattle.calls.specs.Bench.{packed_count_lem, packed_left}
 use Rattle.calls.proofs.Call.{Ends, faulty, failed, worked, ends, call-refused, call_fails, call_works}
 use Rattle.calls.proofs.Handed.{cells-few}
-use Rattle.calls.proofs.Solving.{rests-true}
 use Rattle.opening.specs.Packed.{HasRoom, packed_table_lem}
-
--- a call that fills a table: its tests, one of which is that there is room for the table, and the minutes of it
-pub record Fills (sheet : List ℕ) : Type 0 where
-  pub tests : Bool → Network → Tests
-  pub text : Network → List ℕ
-  pub sized : Accepts sheet → (roomy : Bool) → Hold (tests roomy (network_of sheet))
-      → (length (text (network_of sheet)) ≡ cells (network_of sheet)) × (roomy ≡ true)
-
-abbrev pub solver_fills : (sheet : List ℕ) → Fills sheet
-solver_fills sheet = record {
-  tests = λ roomy Γ. (roomy, without_line_lem BufferTooShort) ∷ (rests (solve Γ).end, without_line_lem Inconsistent) ∷
-      [];
-  text = λ Γ. found Γ;
-  sized = λ a roomy h.
-      let Γ = (network_of sheet) in
-      ((solve-least Γ (accepted_well_formed sheet a).0 ((rests-true (solve Γ).end).0 h.1.0)).solves.sized, h.0);
-}
-
-abbrev pub reader_fills : (sheet bytes : List ℕ) → Fills sheet
-reader_fills sheet bytes = record {
-  tests = λ roomy Γ.
-      recovery_tests (header sheet Γ) Γ.signals Γ.events bytes (roomy, without_line_lem BufferTooShort);
-  text = recovered_in sheet bytes;
-  sized = λ a roomy h.
-      let Γ = (network_of sheet) in
-      (length-recovered (header sheet Γ) Γ.signals Γ.events bytes, h.1.1.0);
-}
+use Rattle.opening.proofs.Fills.{Fills}
 
 -- minutes are lent for as many whole pairs as a table may need
 module _ (sheet : List ℕ) (fills : Fills sheet) (b z : List ℕ) (size : length z ≡ 256) (k : ℕ)
@@ -169,3 +137,14 @@ module _ (sheet : List ℕ) (fills : Fills sheet) (b z : List ℕ) (size : lengt
 
   pub pairs_go : {w : OrRefusal ℕ} {x : List ℕ} → Leaves (into (in_place_lem m)) w x → Goes w x
   pairs_go left = record { sized = pairs_sized left; room = pairs_room left; packed = pairs_packed left }
+
+-- the array of the bench's calls before they go
+abbrev zeros : List ℕ
+zeros = replicate L.cells 0
+
+pub from_zeros : (sheet : List ℕ) (fills : Fills sheet) (b : List ℕ) (k : ℕ) (lent : k ≡ min (length b / 2) 256)
+    {w : OrRefusal ℕ} {x : List ℕ} {r : ℕ} {after : List ℕ}
+    → Leaves (into sheet fills b zeros refl k lent (in_place_lem (take k zeros))) w x
+    → Leaves (packed_table_lem w (x ++ drop k zeros) b) r after
+    → Leaves (packed_left (into sheet fills b zeros refl k lent (in_pairs b))) r after
+from_zeros sheet fills b k lent left packed = rw (← (pairs_go sheet fills b zeros refl k lent left).packed) packed

@@ -12,12 +12,12 @@ use Rattle.network.specs.declared.Network.{Network}
 use Rattle.checker.specs.Verdict.{verdict}
 use Rattle.checker.specs.declared.Verdict.TheVariants.{Pass}
 use Rattle.dispatch.specs.Said.{due_on}
-use Rattle.dispatch.specs.declared.Unheard.{Unheard}
-use Rattle.dispatch.specs.declared.Unheard.TheVariants as P
+use Rattle.dispatch.specs.declared.Unanswered.{Unanswered}
+use Rattle.dispatch.specs.declared.Unanswered.TheVariants as P
 use Rattle.calls.specs.Values.{OrRefusal}
 use Rattle.calls.specs.Call.{without_line_lem, Tests}
 use Rattle.calls.specs.Play.{named, ever_heard, events_of, is_pass, events_due_on_lem}
-use Rattle.opening.specs.Prologue.{handed_in_lem, of_unheard}
+use Rattle.opening.specs.Prologue.{handed_in_lem, of_unanswered}
 use Rattle.opening.proofs.Prologue.{handed-refused, handed_fails, handed_works}
 use Rattle.opening.proofs.Leaves.{refused_by}
 
@@ -41,16 +41,17 @@ module _ (sheet t : List ℕ) (m x : ℕ) where
     unfolding events_due_on_lem
     due_fails v = handed_fails sheet t Err rest work Γ q _ (inl (v, refl))
 
-    pub due-answers : verdict Γ t ≡ Pass → refused_by of_unheard (due_on Γ t m x) ≡ events_due_on_lem sheet t m x
+    pub due-answers : verdict Γ t ≡ Pass → refused_by of_unanswered (due_on Γ t m x) ≡ events_due_on_lem sheet t m x
     unfolding events_due_on_lem
     due-answers v = by_said (due_on Γ t m x) refl
       where
         pass : is_pass (verdict Γ t) ≡ true
         pass = ap is_pass v
 
-        by_said : (d : Result ℕ Unheard) → due_on Γ t m x ≡ d → refused_by of_unheard d ≡ events_due_on_lem sheet t m x
+        by_said : (d : Result ℕ Unanswered) → due_on Γ t m x ≡ d
+            → refused_by of_unanswered d ≡ events_due_on_lem sheet t m x
         by_said (Ok y) s =
-            ap (λ (z : Result ℕ Unheard). Ok (events_of z)) (sym s)
+            ap (λ (z : Result ℕ Unanswered). Ok (events_of z)) (sym s)
             ∙ handed_works sheet t Err rest work Γ q (pass, (ap named s, (ap ever_heard s, tt)))
         by_said (Err P.Misnamed) s =
             handed_fails sheet t Err rest work Γ q _ (inr (pass, inl (ap named s, refl)))

@@ -6,8 +6,8 @@ use Rattle.refusal.specs.declared.Cause.TheVariants as C
 use Rattle.refusal.specs.declared.Refusal.{Refusal}
 use Rattle.network.specs.Build.{cells}
 use Rattle.network.specs.declared.Network.{Network}
-use Rattle.dispatch.specs.declared.Unheard.{Unheard}
-use Rattle.dispatch.specs.declared.Unheard.TheVariants as H
+use Rattle.dispatch.specs.declared.Unanswered.{Unanswered}
+use Rattle.dispatch.specs.declared.Unanswered.TheVariants as H
 use Rattle.readback.specs.declared.Unread.{Unread}
 use Rattle.readback.specs.declared.Unread.TheVariants as U
 use Rattle.calls.specs.Values.{OrRefusal}
@@ -25,6 +25,6 @@ of_unread (U.NoMinute l) = refusal C.NoMinute l
 of_unread U.TooShort = without_line_lem C.BufferTooShort
 
 -- 15 and 16
-abbrev pub of_unheard : Unheard → Refusal
-of_unheard H.Misnamed = without_line_lem C.MisnamedSignal
-of_unheard H.NeverHeard = without_line_lem C.NeverHeard
+abbrev pub of_unanswered : Unanswered → Refusal
+of_unanswered H.Misnamed = without_line_lem C.MisnamedSignal
+of_unanswered H.NeverHeard = without_line_lem C.NeverHeard

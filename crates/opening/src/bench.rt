@@ -1,7 +1,7 @@
 // The calls of the workshop bench, which is written in C: byte slices and numbers only. A table travels as two bytes a
 // minute, low byte first, and an answer is one number, whose bytes include/opening.h explains. Each is the public call
 // on the minutes of the bytes. C has them by the crate `opening_c`, a static library, which no crate can stand on.
-ghost use Rattle.std.specs.Prelude.{◌≡◌, ◌+◌, ◌/◌, ◌^◌, ◌<◌, min, length};
+ghost use Rattle.std.specs.Prelude.{◌≡◌, ◌/◌, ◌<◌, min};
 ghost use Rattle.network.specs.Limits as L;
 ghost use Rattle.calls.specs.Values.{done, number_values};
 ghost use Rattle.calls.specs.Call.{Leaves};
@@ -14,12 +14,12 @@ use checker::{Breach, Verdict};
 use network::Network;
 use refusal::Refusal;
 
-// One more than any sheet's table has.
+// One more than any sheet's table has. No Option of a table: the call itself then answers 11 in its turn.
 const TAKEN: usize = Network::CELLS + 1;
 
-// The minutes of the bytes, in front of the table; where they are no sheet's, as many as no sheet's table has.
-fn take(bytes: &[u8], table: &mut [u16]) -> usize
-    requires { length table.old ≡ L.cells + 1 }
+// The minutes of the bytes, in front of the table; where they are no sheet's, as many as no sheet's table has. (The
+// count comes back beside the array: a type of both would serve three calls and be opened at once in each.)
+fn take(bytes: &[u8], table: &mut [u16; TAKEN]) -> usize
     ensures { Taken bytes.now result table.new }
 {
     let count = bytes.len() / 2;
@@ -38,22 +38,21 @@ fn room(bytes: usize) -> usize
 }
 
 // An answer: what it tells, behind a number and a line of 0, or a refusal's number, and its line in the next two bytes.
-fn packed(answer: Result<u64, Refusal>) -> u64
-    requires { (number_values answer).value < 2 ^ 40 }
+fn packed(answer: Result<u32, Refusal>) -> u64
     ensures { result ≡ B.packed_count_lem (number_values answer) }
 {
     match answer {
-        Ok(value) => 16777216 * value,
+        Ok(value) => 16777216 * u64::from(value),
         Err(refusal) => u64::from(refusal.cause.number()) + 256 * u64::from(refusal.line),
     }
 }
 
-// The answer of a call that writes.
+// The answer of a call that writes: a count that fits 16 bits, so that the cast loses nothing.
 fn packed_written(written: Result<usize, Refusal>) -> u64
     requires { (number_values written).value < 65536 }
     ensures { result ≡ B.packed_count_lem (number_values written) }
 {
-    packed(written.map(|count| count as u64))
+    packed(written.map(|count| count as u32))
 }
 
 // The answer of a call that writes minutes, and as many of them in the table's bytes.
@@ -99,10 +98,7 @@ pub fn opening_judge(sheet: &[u8], table: &[u8]) -> u64
 {
     let mut minutes = [0u16; TAKEN];
     let count = take(table, &mut minutes);
-    match crate::judge_table(sheet, &minutes[..count]) {
-        Ok(verdict) => packed(Ok(u64::from(word(verdict)))),
-        Err(refusal) => packed(Err(refusal)),
-    }
+    packed(crate::judge_table(sheet, &minutes[..count]).map(word))
 }
 
 // The solver for C.
@@ -152,8 +148,6 @@ pub fn opening_due(sheet: &[u8], table: &[u8], minute: u16, heard: &[u8]) -> u64
     let mut minutes = [0u16; TAKEN];
     let count = take(table, &mut minutes);
     let said = dispatch::heard_text::said(heard);
-    match crate::events_due_on(sheet, &minutes[..count], minute, said) {
-        Ok(events) => packed(Ok(u64::from(events))),
-        Err(refusal) => packed(Err(refusal)),
-    }
+    let due = crate::events_due_on(sheet, &minutes[..count], minute, said);
+    packed(due.map(u32::from))
 }

@@ -7,13 +7,14 @@ ghost use Rattle.calls.specs.Call.{Leaves};
 ghost use Rattle.calls.specs.Calls.{summary, judgement, solving, listed, housed};
 ghost use Rattle.calls.specs.Play.{events_due_lem, events_due_on_lem};
 ghost use Rattle.calls.specs.Recover.{recovering};
-ghost use Rattle.opening.specs.Prologue.{handed_in_lem, of_unread, of_unheard};
+ghost use Rattle.opening.specs.Prologue.{handed_in_lem, of_unread, of_unanswered};
 
 use calls::Counts;
 use checker::Verdict;
-use dispatch::{Heard, Said, Unheard};
+use dispatch::{Heard, Said, Unanswered};
 use network::Network;
 use network::accepted::Accepted;
+use network::times::Strategy;
 use readback::Unread;
 use refusal::{Cause, Refusal};
 
@@ -36,8 +37,7 @@ fn handed_in(sheet: &[u8], minutes: usize) -> Result<Accepted<'_>, Refusal>
         (λ r. handed_in_lem sheet.now minutes ≡ Err r) }
 {
     let accepted = sheet::read(sheet)?;
-    let network = &accepted.formed.network;
-    if minutes != network::cell_count(network.events, network.signals) {
+    if minutes != accepted.formed.cell_count() {
         return Err(Refusal::without_line(Cause::WrongTableLength));
     }
     Ok(accepted)
@@ -62,7 +62,11 @@ pub fn judge_table(sheet: &[u8], table: &[u16]) -> Result<Verdict, Refusal>
     ensures { result ≡ judgement sheet.now table.now }
 {
     let accepted = handed_in(sheet, table.len())?;
-    Ok(checker::check(&accepted.formed, table))
+    let strategy = Strategy {
+        formed: &accepted.formed,
+        table,
+    };
+    Ok(checker::check(&strategy))
 }
 
 // The least good table into the first cells of the table.
@@ -70,15 +74,13 @@ pub fn solve_sheet(sheet: &[u8], table: &mut [u16]) -> Result<usize, Refusal>
     ensures { Leaves (solving sheet.now table.old) result table.new }
 {
     let accepted = sheet::read(sheet)?;
-    let network = &accepted.formed.network;
-    let cells = network::cell_count(network.events, network.signals);
+    let cells = accepted.formed.cell_count();
     if table.len() < cells {
         return Err(Refusal::without_line(Cause::BufferTooShort));
     }
-    match solver::solve(&accepted.formed, table) {
-        Ok(_) => Ok(cells),
-        Err(_) => Err(Refusal::without_line(Cause::Inconsistent)),
-    }
+    let solved = solver::solve(&accepted.formed, table);
+    solved.map_err(|_| Refusal::without_line(Cause::Inconsistent))?;
+    Ok(cells)
 }
 
 // The listing of any table of the right length, into the first bytes of out.
@@ -107,10 +109,7 @@ pub fn read_listing(sheet: &[u8], printed: &[u8], table: &mut [u16]) -> Result<u
         table.new }
 {
     let accepted = sheet::read(sheet)?;
-    match readback::read(&accepted, printed, table) {
-        Ok(minutes) => Ok(minutes),
-        Err(unread) => Err(of_unread(unread)),
-    }
+    readback::read(&accepted, printed, table).map_err(of_unread)
 }
 
 // The sheet in its house form, into the first bytes of out.
@@ -118,19 +117,18 @@ pub fn write_house(sheet: &[u8], out: &mut [u8]) -> Result<usize, Refusal>
     ensures { Leaves (housed sheet.now out.old) result out.new }
 {
     let accepted = sheet::read(sheet)?;
-    let Some(remaining) = tighten::remaining(&accepted.formed) else {
-        return Err(Refusal::without_line(Cause::TooManyRows));
-    };
+    let too_many = Refusal::without_line(Cause::TooManyRows);
+    let remaining = tighten::remaining(&accepted.formed).ok_or(too_many)?;
     canonical::write(&accepted, &remaining, out).ok_or(Refusal::without_line(Cause::BufferTooShort))
 }
 
 // Why a list that no case can have heard is refused.
-fn of_unheard(unheard: Unheard) -> Refusal
-    ensures { result ≡ of_unheard unheard }
+fn of_unanswered(unanswered: Unanswered) -> Refusal
+    ensures { result ≡ of_unanswered unanswered }
 {
-    match unheard {
-        Unheard::Misnamed => Refusal::without_line(Cause::MisnamedSignal),
-        Unheard::NeverHeard => Refusal::without_line(Cause::NeverHeard),
+    match unanswered {
+        Unanswered::Misnamed => Refusal::without_line(Cause::MisnamedSignal),
+        Unanswered::NeverHeard => Refusal::without_line(Cause::NeverHeard),
     }
 }
 
@@ -140,13 +138,14 @@ pub fn events_due_on(sheet: &[u8], table: &[u16], minute: u16, said: Said) -> Re
     ensures { result ≡ events_due_on_lem sheet.now table.now minute said.mask }
 {
     let accepted = handed_in(sheet, table.len())?;
-    if let Verdict::Breach(_) = checker::check(&accepted.formed, table) {
+    let strategy = Strategy {
+        formed: &accepted.formed,
+        table,
+    };
+    if let Verdict::Breach(_) = checker::check(&strategy) {
         return Err(Refusal::without_line(Cause::TableFails));
     }
-    match dispatch::due(&accepted.formed, table, minute, said) {
-        Ok(events) => Ok(events),
-        Err(unheard) => Err(of_unheard(unheard)),
-    }
+    dispatch::due(&strategy, minute, said).map_err(of_unanswered)
 }
 
 // The events due at the minute, by the list of the signals heard before it.

@@ -2,27 +2,25 @@
 // tests first whether there is room. Everything else in that memory stays as it was.
 #![tactic(auto)]
 
-ghost use Rattle.std.specs.Prelude.{◌≡◌, List, [], ◌∷◌, ℕ, ◌+◌, ◌≤◌, ◌<◌, length, take};
+ghost use Rattle.std.specs.Prelude.{◌≡◌, List, [], ◌∷◌, ℕ, ◌+◌, ◌≤◌, ◌<◌, length};
 ghost use Rattle.text.specs.Lines.{comma};
 ghost use Rattle.text.specs.Decimal.{decimal};
 ghost use Rattle.page.specs.Pushed.{Pushed};
 ghost use Rattle.page.specs.HandedOut.{HandedOut};
 
+use counted::Counted;
 use std::marker::Model;
 
 // Memory of N bytes, written from the front. Contracts see it as the bytes that are written.
 #[derive(Drop)]
 pub struct Page<const N: usize> {
-    bytes: [u8; N],
-    end: usize,
+    bytes: Counted<u8, N>,
 }
 
 impl<const N: usize> Model for Page<N> {
     ghost Value = { List ℕ };
 
-    ghost view = { λ p. take p.end p.bytes };
-
-    ghost invariant = { λ p. p.end ≤ N };
+    ghost view = { λ p. p.bytes };
 }
 
 impl<const N: usize> Page<N> {
@@ -31,8 +29,7 @@ impl<const N: usize> Page<N> {
         ensures { result ≡ [] }
     {
         Page {
-            bytes: [0; N],
-            end: 0,
+            bytes: Counted::new([0; N]),
         }
     }
 
@@ -40,14 +37,14 @@ impl<const N: usize> Page<N> {
     pub fn len(&self) -> usize
         ensures { result ≡ length self.now }
     {
-        self.end
+        self.bytes.len()
     }
 
     // The bytes that are written.
     pub fn text(&self) -> &[u8]
         ensures { result.now ≡ self.now }
     {
-        &self.bytes[..self.end]
+        self.bytes.as_slice()
     }
 
     // One byte.
@@ -55,8 +52,7 @@ impl<const N: usize> Page<N> {
         requires { length self.old < N }
         ensures { Pushed 1 self.old (b ∷ []) self.new }
     {
-        self.bytes[self.end] = b;
-        self.end += 1;
+        self.bytes.push(b);
     }
 
     // Bytes, one behind the other.
@@ -64,10 +60,7 @@ impl<const N: usize> Page<N> {
         requires { length self.old + length s.now ≤ N }
         ensures { Pushed (length s.now) self.old s.now self.new }
     {
-        let end = self.end + s.len();
-        let bytes = &mut self.bytes[..];
-        bytes[self.end..end].copy_from_slice(s);
-        self.end = end;
+        self.bytes.push_all(s);
     }
 
     // A field of a line, behind its comma.
@@ -84,8 +77,7 @@ impl<const N: usize> Page<N> {
         requires { length self.old + 5 ≤ N }
         ensures { Pushed 5 self.old (decimal v) self.new }
     {
-        let digits = text::spell(v);
-        self.push_all(&digits.bytes[..digits.count]);
+        self.push_all(text::digits::spell(v).as_slice());
     }
 
     // The text into the front of lent memory: how many bytes that were, or None where the memory is too short for them.

@@ -1,4 +1,6 @@
-// A table as bytes, two a minute and the low byte first: how it travels to and from the bench's C program.
+// A table as bytes, two a minute and the low byte first: how it travels to and from the bench's C program. Both loops
+// go by index, since each turn reads or writes two bytes for one minute, and of what is written through
+// `iter_mut().zip(..)` a proof would know nothing.
 #![tactic(auto)]
 
 ghost use Rattle.std.specs.Prelude.{◌≡◌, ◌++◌, ◌*◌, ◌/◌, ◌≤◌, length, drop};

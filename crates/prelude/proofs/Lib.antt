@@ -1,10 +1,13 @@
 -- Laws of `specs/`, and of tests and cells, for the proofs of the crates above. No contract cites them.
 pub mod Tests
+pub mod Answering
 pub mod Search
 pub mod Options
 pub mod Positions
 pub mod Checks
 pub mod Bounded
+pub mod Chains
+pub mod Finds
 pub mod Minima
 pub mod Parts
 pub mod Gather

@@ -3,41 +3,23 @@
 -- end. What a search found is the first answer (`some_of_first_below`), and what it did not find is nowhere
 -- (`none_of_first_below`); where it looks for a test that fails, all pass (`all_pass`). Assumes nothing.
 use mathlib.Core.Path.{◌≡◌, refl, sym, ◌∙◌}
-use mathlib.Core.Logic.{◌⊎◌, inl, inr}
-use mathlib.Core.Bool.{Bool, true, false}
+use mathlib.Core.Logic.{inl, inr}
+use mathlib.Core.Bool.{Bool, true}
 use mathlib.Core.Option.{Option, none, some}
 use Prim.Native.Nat.{ℕ, zero, suc, ◌+◌, ◌-◌, ◌≤◌, ◌<◌, zero-le}
 use native.Mathlib.Nat.{sub-zero}
 use native.Mathlib.Numerals.{add-one}
 use native.Mathlib.Omega.{arith}
-use Rattle.prelude.specs.Search.{or_else, first_from, first_below, when, unless, answers}
-use Rattle.prelude.proofs.Tests.{zero-is-one, eq_or_ne}
-
--- an answer or none
-pub some_or_none : {A : Type 0} (o : Option A) → ((a : A) × (o ≡ some a)) ⊎ (o ≡ none)
-some_or_none none = inr refl
-some_or_none (some a) = inl (a, refl)
-
--- no answer is none
-pub some-not-none {ℓ} : {A : Type 0} {B : Type ℓ} (a : A) → ◌≡◌ {A = Option A} (some a) none → B
-some-not-none a e = zero-is-one cc
-
-pub none-not-some {ℓ} : {A : Type 0} {B : Type ℓ} (a : A) → ◌≡◌ {A = Option A} none (some a) → B
-none-not-some a e = some-not-none a (sym e)
+use Rattle.prelude.specs.Search.{first_from, first_below, unless}
+use Rattle.prelude.proofs.Tests.{eq_or_ne}
+pub use Rattle.prelude.proofs.Answering.{some_or_none, some-not-none, none-not-some, or_else_none, or_else_some}
+pub use Rattle.prelude.proofs.Answering.{true_of_unless, unless-true, unless-some, when-some, when-none}
+pub use Rattle.prelude.proofs.Answering.{answered, unanswered}
 
 -- the search for f's first answer below n has come to i
 pub record Searching {A : Type 0} (f : ℕ → Option A) (n i : ℕ) : Type 0 where
   pub within : i ≤ n
   pub rest : first_from i (n - i) f ≡ first_below n f
-
-module _ {A : Type 0} where
-  pub or_else_none : (a b : Option A) → or_else a b ≡ none → (a ≡ none) × (b ≡ none)
-  or_else_none none b e = (refl, e)
-  or_else_none (some a) b e = some-not-none a e
-
-  pub or_else_some : (o p : Option A) (a : A) → or_else o p ≡ some a → (o ≡ some a) ⊎ ((o ≡ none) × (p ≡ some a))
-  or_else_some none p a e = inr (refl, e)
-  or_else_some (some b) p a e = inl e
 
 module _ {A : Type 0} (f : ℕ → Option A) where
   turn_hit : (i n m : ℕ) (a : A) → n - i ≡ suc m → f i ≡ some a → first_from i (n - i) f ≡ some a
@@ -137,42 +119,13 @@ module _ {A : Type 0} (f g : ℕ → Option A) where
   pub first_below-same : (n : ℕ) → ((k : ℕ) → k < n → f k ≡ g k) → first_below n f ≡ first_below n g
   first_below-same n h = first_from-same 0 n (λ k l. h k (omega arith))
 
-module _ {A : Type 0} where
-  pub true_of_unless : (b : Bool) (a : A) → unless b a ≡ none → b ≡ true
-  true_of_unless true a e = refl
-  true_of_unless false a e = some-not-none a e
+-- the first that fails a test: there is none exactly where each passes
+module _ {A : Type 0} (test : ℕ → Bool) (answer : ℕ → A) (n : ℕ) where
+  abbrev failing : ℕ → Option A
+  failing k = unless (test k) (answer k)
 
-  pub unless-true : (b : Bool) (a : A) → b ≡ true → unless b a ≡ none
-  unless-true b a e = rw e
+  pub all_pass : first_below n failing ≡ none → (k : ℕ) → k < n → test k ≡ true
+  all_pass e k h = true_of_unless (test k) (answer k) (none_of_first_below failing n e k h)
 
-  pub unless-some : (b : Bool) (a c : A) → unless b a ≡ some c → (b ≡ false) × (a ≡ c)
-  unless-some true a c e = none-not-some c e
-  unless-some false a c e = (refl, cc)
-
-  pub when-some : (b : Bool) (a c : A) → when b a ≡ some c → (b ≡ true) × (a ≡ c)
-  when-some true a c e = (refl, cc)
-  when-some false a c e = none-not-some c e
-
-  pub when-none : (b : Bool) (a : A) → when b a ≡ none → b ≡ false
-  when-none true a e = some-not-none a e
-  when-none false a e = refl
-
-  -- what answers has an answer
-  pub answered : (o : Option A) → answers o ≡ true → (a : A) × (o ≡ some a)
-  answered none e = zero-is-one cc
-  answered (some a) e = (a, refl)
-
-  pub unanswered : (o : Option A) → answers o ≡ false → o ≡ none
-  unanswered none e = refl
-  unanswered (some a) e = zero-is-one cc
-
-  -- the first that fails a test: there is none exactly where each passes
-  module _ (test : ℕ → Bool) (answer : ℕ → A) (n : ℕ) where
-    abbrev failing : ℕ → Option A
-    failing k = unless (test k) (answer k)
-
-    pub all_pass : first_below n failing ≡ none → (k : ℕ) → k < n → test k ≡ true
-    all_pass e k h = true_of_unless (test k) (answer k) (none_of_first_below failing n e k h)
-
-    pub none_of_all-pass : ((k : ℕ) → k < n → test k ≡ true) → first_below n failing ≡ none
-    none_of_all-pass p = first_below-none failing n (λ k h. unless-true (test k) (answer k) (p k h))
+  pub none_of_all-pass : ((k : ℕ) → k < n → test k ≡ true) → first_below n failing ≡ none
+  none_of_all-pass p = first_below-none failing n (λ k h. unless-true (test k) (answer k) (p k h))

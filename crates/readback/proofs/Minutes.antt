@@ -7,6 +7,7 @@ use mathlib.Core.List.{List, [], ◌∷◌}
 use Prim.Native.Nat.{ℕ, ◌≤◌, ◌<◌}
 use Rattle.std.specs.Prelude.{Some, None}
 use native.Mathlib.Omega.{arith}
+use Rattle.prelude.proofs.Options.{then_some_none, then_some_some}
 use Rattle.prelude.specs.Bytes.{ascii}
 use Rattle.prelude.proofs.Tests.{either, and-true, and_both, eq_or_ne}
 use Rattle.prelude.proofs.Bytes.{same_true}
@@ -21,7 +22,6 @@ use Rattle.listing.specs.Listing.{time_text}
 use Rattle.listing.proofs.Times.{time_text-blank, time_text-time}
 use Rattle.readback.specs.Minute.{latest, is_blank, is_minute, minute_of}
 use Rattle.readback.specs.Answers.{digits_in_lem, minute_in_lem}
-use Rattle.readback.proofs.Optional.{then_some_none, then_some_some}
 
 -- what an answer says of the text
 module _ (f : List ℕ) where

@@ -16,6 +16,7 @@ use Rattle.prelude.proofs.Search.{some_or_none, FoundAt, some_of_first_below}
 use Rattle.prelude.proofs.Search.{or_else_some, true_of_unless, unless-some, when-some, all_pass}
 use Rattle.readback.specs.Form.{longest_read, Fitting, Stand, Next, FirstMisfit, Misfit}
 use Rattle.readback.specs.Rows.{line_number_lem, place_of, row_fits_lem, row_misfit, rows_misfit, header_fits, misfit}
+use Rattle.readback.proofs.Optional.{unless_or_else}
 use Rattle.readback.proofs.Passes.{length_decides}
 use Rattle.readback.proofs.Begun.{FitsTo, begins_at, fits-to}
 use Rattle.readback.proofs.Formed.{stands-all, ended_of, formed_iff}
@@ -92,23 +93,15 @@ module _ (head : List ℕ) (k n : ℕ) (bytes : List ℕ) where
     of_header : or_else (unless (header_fits head bytes) 1) (rows_misfit bytes first k n) ≡ some l
         → FirstMisfit head k n bytes l
     of_header e =
-        elim (or_else_some (unless (header_fits head bytes) 1) _ l e) [
-          | inl a ↦ let p = unless-some (header_fits head bytes) 1 l a in no_header p.0 p.1
-          | inr a ↦ of_rows (true_of_unless (header_fits head bytes) 1 a.0) a.1
-        ]
+        elim (unless_or_else (header_fits head bytes) 1 _ l e)
+        [ inl p ↦ no_header p.0 p.1 | inr p ↦ of_rows p.0 p.1 ]
 
     first-misfit : misfit head k n bytes ≡ some l → Misfit head k n bytes l
     unfolding misfit
     first-misfit e =
-        elim (or_else_some (unless (leb (length bytes) longest_read) 1) _ l e) [
-          | inl a ↦
-              let p = unless-some (leb (length bytes) longest_read) 1 l a in
-              inl (leb-false (length bytes) longest_read p.0, sym p.1)
-          | inr a ↦
-              inr (
-                leb-true (length bytes) longest_read (true_of_unless (leb (length bytes) longest_read) 1 a.0),
-                of_header a.1,
-              )
+        elim (unless_or_else (leb (length bytes) longest_read) 1 _ l e) [
+          | inl p ↦ inl (leb-false (length bytes) longest_read p.0, sym p.1)
+          | inr p ↦ inr (leb-true (length bytes) longest_read p.0, of_header p.1)
         ]
 
   -- where the header and m rows fit, what is due behind fewer lines is there

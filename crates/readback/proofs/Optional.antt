@@ -1,19 +1,13 @@
--- What an answer says that is there where a test holds, and one with an error in its place. Assumes nothing.
+-- What an answer says that is there where a test holds or fails, and one with an error in its place. Assumes nothing.
 use mathlib.Core.Path.{◌≡◌, refl}
+use mathlib.Core.Logic.{◌⊎◌, inl, inr}
 use mathlib.Core.Bool.{Bool, true, false, cond}
+use mathlib.Core.Option as O
 use Rattle.std.specs.Prelude.{Option, Some, None, Ok, Err, ok_or}
-use Rattle.std.specs.Bool.{then_some}
+use Rattle.prelude.specs.Search.{or_else, unless}
 use Rattle.prelude.proofs.Tests.{zero-is-one}
 
 module _ {A : Type 0} where
-  pub then_some_none : (b : Bool) (a : A) → then_some b a ≡ None → b ≡ false
-  then_some_none true a e = zero-is-one cc
-  then_some_none false a e = refl
-
-  pub then_some_some : (b : Bool) (a x : A) → then_some b a ≡ Some x → (b ≡ true) × (a ≡ x)
-  then_some_some true a x e = (refl, cc)
-  then_some_some false a x e = zero-is-one cc
-
   pub cond_none : (b : Bool) (a : A) → cond b (Some a) None ≡ None → b ≡ false
   cond_none true a e = zero-is-one cc
   cond_none false a e = refl
@@ -21,6 +15,12 @@ module _ {A : Type 0} where
   pub cond_some : (b : Bool) (a x : A) → cond b (Some a) None ≡ Some x → (b ≡ true) × (a ≡ x)
   cond_some true a x e = (refl, cc)
   cond_some false a x e = zero-is-one cc
+
+  -- of a test and what is tested behind it
+  pub unless_or_else : (b : Bool) (a : A) (o : O.Option A) (x : A) → or_else (unless b a) o ≡ O.some x
+      → ((b ≡ false) × (a ≡ x)) ⊎ ((b ≡ true) × (o ≡ O.some x))
+  unless_or_else true a o x e = inr (refl, e)
+  unless_or_else false a o x e = inl (refl, cc)
 
 module _ {A E : Type 0} where
   pub ok_or_err : (o : Option A) (e x : E) → ok_or o e ≡ Err x → (o ≡ None) × (x ≡ e)

@@ -11,6 +11,7 @@ use native.Mathlib.Omega.{arith}
 use borrow.Rule.Slice.PartMut.{put_mid, mid_of}
 use Rattle.std.specs.Prelude.{Option, Some, None, Ok, Err, ⊤}
 use lib.ListN.{length, get_or, take, drop}
+use Rattle.prelude.proofs.Options.{then_some_none, then_some_some}
 use Rattle.prelude.specs.Search.{first_below}
 use Rattle.prelude.proofs.Tests.{zero-is-one, and-true, lt_or_ge}
 use Rattle.prelude.proofs.Search.{Searching, searching_start, searching_on, found_at, found_nothing}
@@ -25,7 +26,6 @@ use Rattle.readback.specs.Rows.{rows_misfit}
 use Rattle.readback.specs.Rows.{row_unread, rows_unread}
 use Rattle.readback.specs.Answers.{RowRead, RowsRead}
 use Rattle.readback.specs.declared.Unread.TheVariants as U
-use Rattle.readback.proofs.Optional.{then_some_none, then_some_some}
 use Rattle.readback.proofs.Part.{part_count, part-size, part-before, part-inside}
 use Rattle.readback.proofs.Passes.{count_of_row, next_place}
 

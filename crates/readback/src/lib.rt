@@ -22,7 +22,7 @@ use text::Number;
 // The most bytes of a listing that is read back, and the last minute that is printed in digits.
 pub const LONGEST: usize = 4096;
 
-const LATEST: u32 = 65534;
+const LATEST: u16 = 65534;
 
 // The most bytes of a scenario's mark.
 const MARK: usize = Network::SIGNALS;
@@ -38,35 +38,34 @@ pub enum Unread {
     TooShort,
 }
 
-// The minute that a text in digits is.
+// The minute that a text in digits is. (It fits 16 bits, as LATEST does; `From` doesn't narrow.)
 fn digits_in(f: &[u8]) -> Option<u16>
     ensures { result ≡ digits_in_lem f.now }
 {
-    let Number::Plus(v) = text::read_number(f, LATEST)? else {
-        return None;
-    };
-    if LATEST < v {
-        return None;
+    match text::read_number(f, LATEST)? {
+        Number::Plus(v) if v <= u32::from(LATEST) => Some(v as u16),
+        _ => None,
     }
-    Some(v as u16)
 }
 
 // The minute that any text is: a dash stands where the event does not happen.
 fn minute_in(f: &[u8]) -> Option<u16>
     ensures { result ≡ minute_in_lem f.now }
 {
+    // No `match`: it has three ways to no dash, which the prover's search leaves open.
     if f == b"-".as_slice() {
         return Some(Network::BLANK);
     }
     digits_in(f)
 }
 
-// Whether a text is the mark of scenario s.
+// Whether a text is the mark of scenario s. (A scenario's number and its network are two parameters: a struct for them
+// would be made at each turn of a loop and opened at once.)
 fn is_mark(f: &[u8], s: usize, formed: &Formed) -> bool
     ensures { result ≡ same f.now (scenario_text formed.now.network.signals s) }
 {
     let mut mark = Page::<MARK>::new();
-    listing::push_truths(&mut mark, s, formed.network.signals);
+    listing::push_truths(&mut mark, formed, s);
     f == mark.text()
 }
 
@@ -74,7 +73,7 @@ fn is_mark(f: &[u8], s: usize, formed: &Formed) -> bool
 fn comma_count(line: &[u8]) -> usize
     ensures { result ≡ count_by (λ b. b == comma) line.now }
 {
-    line.iter().filter(|b| **b == b',').count()
+    line.iter().filter(|&&b| b == b',').count()
 }
 
 // Whether a line has the mark of scenario s, and a text for each event behind it.
@@ -98,7 +97,7 @@ fn row_at(rest: &[u8], s: usize, formed: &Formed) -> Option<usize>
     is_row(&rest[..e], s, formed).then_some(e)
 }
 
-// The line of scenario s in the listing.
+// The line of scenario s in the listing, which is at most 18.
 fn line_number(s: usize) -> u16
     requires { s ≤ L.cases }
     ensures { result ≡ line_number_lem s }
@@ -106,7 +105,7 @@ fn line_number(s: usize) -> u16
     (s + 2) as u16
 }
 
-// The minutes of a line's texts, which are as many as the cells of the row.
+// The minutes of a line's texts, which are as many as the cells of the row, or None where a text is no minute.
 fn read_row(line: &[u8], row: &mut [u16]) -> Option<()>
     requires { length (fields line.now) ≡ length row.old + 1 }
     ensures { RowRead line.now row.old row.new result }
@@ -132,11 +131,11 @@ struct Rows<'a> {
 
 impl<'a> Rows<'a> {
     // Each row fits, and nothing is left over behind them.
-    fn form(&self) -> Result<(), Unread>
+    fn check_form(&self) -> Result<(), Unread>
         ensures { let network = self.now.formed.now.network in
             result ≡ form_answer (rows_misfit self.now.printed.now self.now.first network.signals network.events) }
     {
-        let count = network::scenario_count(self.formed.network.signals);
+        let count = self.formed.scenario_count();
         let mut at = self.first;
         for s in 0..count {
             let misfit = Unread::OtherForm(line_number(s));
@@ -150,7 +149,7 @@ impl<'a> Rows<'a> {
     }
 
     // The minutes of all rows, which fit, into cells for those of any sheet.
-    fn cells(&self, times: &mut [u16]) -> Result<(), Unread>
+    fn read_cells(&self, times: &mut [u16]) -> Result<(), Unread>
         requires { let network = self.now.formed.now.network in
             (rows_misfit self.now.printed.now self.now.first network.signals network.events ≡ none)
             × (length times.old ≡ L.cells) }
@@ -159,7 +158,7 @@ impl<'a> Rows<'a> {
     {
         let events = self.formed.network.events;
         let mut at = self.first;
-        for s in 0..network::scenario_count(self.formed.network.signals) {
+        for s in 0..self.formed.scenario_count() {
             let end = at + text::until(&self.printed[at..], b'\n');
             let start = s * events;
             let row = &mut times[start..start + events];
@@ -178,9 +177,8 @@ impl<'a> Rows<'a> {
             table.old table.new result }
     {
         let mut times = [0u16; Network::CELLS];
-        self.cells(&mut times)?;
-        let network = &self.formed.network;
-        let cells = network::cell_count(network.events, network.signals);
+        self.read_cells(&mut times)?;
+        let cells = self.formed.cell_count();
         if table.len() < cells {
             return Err(Unread::TooShort);
         }
@@ -214,6 +212,6 @@ pub fn read(accepted: &Accepted, printed: &[u8], table: &mut [u16]) -> Result<us
         first,
         formed: &accepted.formed,
     };
-    rows.form()?;
+    rows.check_form()?;
     rows.read(table)
 }

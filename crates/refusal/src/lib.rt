@@ -52,7 +52,7 @@ pub enum Cause {
     IncompleteLabel = 21,
 }
 
-// A line is counted from 1; 0 where the refusal concerns no line.
+// A line is counted from 1; 0 where the refusal concerns no line, as the papers and include/opening.h have it.
 #[derive(Clone, Copy, PartialEq, Eq)]
 pub struct Refusal {
     pub cause: Cause,
@@ -60,7 +60,7 @@ pub struct Refusal {
 }
 
 impl Cause {
-    // The number of the cause in these documents.
+    // The number of the cause in the documents: its discriminant, which only a cast gives.
     pub fn number(self) -> u8
         ensures { result ≡ number_of self }
     {

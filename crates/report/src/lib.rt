@@ -6,37 +6,13 @@ ghost use Rattle.std.specs.Prelude.{◌≡◌, IfOk, IfSome, OnErr, IsErr};
 ghost use Rattle.std.specs.Counts.{IsPrefixLen};
 ghost use Rattle.std.specs.Result.{result_ok};
 
-use checker::{Breach, Verdict};
 use refusal::Refusal;
 use std::io;
-
-// `pass`, `late C E`, `rule C R` or `unheard S R E`
-fn print_verdict(rt: &impl Print, verdict: Verdict) -> io::Result<()> {
-    match verdict {
-        Verdict::Pass => println!(rt; "pass"),
-        Verdict::Breach(Breach::Late { scenario, event }) => {
-            println!(rt; "late {scenario} {event}")
-        }
-        Verdict::Breach(
-            Breach::Rule {
-                scenario,
-                constraint,
-            },
-        ) => println!(rt; "rule {scenario} {constraint}"),
-        Verdict::Breach(
-            Breach::Unheard {
-                scenario,
-                other,
-                event,
-            },
-        ) => println!(rt; "unheard {scenario} {other} {event}"),
-    }
-}
 
 // The verdict on a table, or the refusal.
 pub fn judge(rt: &impl Print, sheet: &[u8], table: &[u16]) -> io::Result<()> {
     match opening::judge_table(sheet, table) {
-        Ok(verdict) => print_verdict(rt, verdict),
+        Ok(verdict) => println!(rt; "{verdict}"),
         Err(refusal) => println!(rt; "{refusal}"),
     }
 }
@@ -54,6 +30,9 @@ fn count(rt: &impl Print, word: &str, written: Result<usize, Refusal>) -> io::Re
         }
     }
 }
+
+// The four calls that write have one shape here, and none takes the call as a closure: each ties what it counts to the
+// memory that it lent.
 
 // The least good table: its minutes. Where there is none, or the sheet is refused, that is printed behind the word.
 pub fn solve(
@@ -110,7 +89,7 @@ pub fn listing(
 }
 
 // The listing of a table, or the word and the refusal. No listing is longer than the page.
-pub fn list(rt: &impl Print, word: &str, sheet: &[u8], table: &[u16]) -> io::Result<()> {
+pub fn print_listing(rt: &impl Print, word: &str, sheet: &[u8], table: &[u16]) -> io::Result<()> {
     let mut page = [0u8; opening::LISTING_BYTES];
     match listing(rt, word, sheet, table, &mut page)? {
         Some(n) => rt.write_all(&page[..n]),

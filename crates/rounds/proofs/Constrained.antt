@@ -1,14 +1,12 @@
 -- The bounds of a constraint ask what its two halves ask, where its label holds; those of all constraints, each under
 -- its joint label, ask what the definition does. Assumes nothing.
-use mathlib.Core.Path.{◌≡◌, refl, ◌∙◌}
-use mathlib.Core.Bool.{Bool, true, false, ◌&&◌, cond}
+use mathlib.Core.Path.{◌≡◌, ◌∙◌}
+use mathlib.Core.Bool.{Bool, true, false, cond}
 use mathlib.Core.List.{List, [], ◌∷◌, ◌++◌}
-use Prim.Native.Nat.{ℕ, zero, suc, ◌+◌, ◌-◌, ◌<◌, max}
+use Prim.Native.Nat.{ℕ, ◌+◌, ◌-◌, ◌<◌, max}
 use native.Mathlib.Numerals.{add-one}
 use native.Mathlib.Omega.{arith}
-use lib.Dec.{eqb}
-use lib.IntN.{ℤ, pos, negsuc, neg_ℤ}
-use lib.ListN.{length, get_or}
+use lib.ListN.{length}
 use Rattle.network.specs.Build.{constraint, scenarios}
 use Rattle.network.specs.Scenario.{satisfies}
 use Rattle.network.specs.WellFormed.{InLimits, WellFormed, Proper}
@@ -18,14 +16,13 @@ use Rattle.network.specs.declared.Label.{Label}
 use Rattle.network.specs.declared.Network.{Network}
 use Rattle.network.proofs.Jointly.{covers-joint}
 use Rattle.rows.proofs.Gapless.{sixteen}
-use Rattle.rows.specs.Rows.{RowIn}
 use Rattle.bounds.specs.declared.bound.Bound.{Bound}
 use Rattle.bounds.specs.declared.list.BoundList.{BoundList}
-use Rattle.bounds.specs.Weight.{weight_of}
+use Rattle.bounds.specs.Weight.{weight_of, lower_weight}
 use Rattle.bounds.specs.Listed.{Listable, Is, asking, asks, case, in_case, Added}
 use Rattle.bounds.proofs.Asked.{asks-append}
-use Rattle.rounds.specs.Propagate.{least_from, least_to, is_upper, is_lower, upper_if, lower_if}
 use Rattle.rounds.specs.Compiled.{Constrained, jointly, Asking, constraints_ask}
+use Rattle.rounds.proofs.Halves.{upper_is, lower-is, no_upper, no_lower}
 
 -- a constraint of a network, also one that is not on its sheet
 pub listable : {Γ : Network} → WellFormed Γ → (c : Constraint) → Proper Γ c → Listable c
@@ -38,17 +35,6 @@ listable {Γ} W c p =
       label = record { positive = omega (arith, p.label.positive); negative = omega (arith, p.label.negative) };
     }
 
--- a weight adds what the definition does, for each sign, around zero and at both ends
-upper-adds : (b : ℕ) (w : ℤ) → InLimits w → b + weight_of w - 10080 ≡ least_from b w
-upper-adds b (pos zero) h = omega arith
-upper-adds b (pos (suc w)) h = omega arith
-upper-adds b (negsuc w) h = omega arith
-
-lower-adds : (a : ℕ) (w : ℤ) → InLimits w → a + weight_of (neg_ℤ w) - 10080 ≡ least_to a w
-lower-adds a (pos zero) h = omega arith
-lower-adds a (pos (suc w)) h = omega arith
-lower-adds a (negsuc w) h = omega arith
-
 -- what is asked behind a bound that is listed
 added-asks : {ℓ : Label} {b : Bound} {lists lists' : List BoundList} {k : ℕ} → Added ℓ b lists lists' k → (s : ℕ)
     → s < k → (row : List ℕ) (u : ℕ)
@@ -59,44 +45,12 @@ added-asks {ℓ} {b} {lists} A s h row u = rw (A.adds s h) (either_way (satisfie
   either_way true bs = asks-append bs b row u
   either_way false bs = omega arith
 
--- a half that counts, and one that does not
-counts : (a k b : Bool) (x y h : ℕ) → k ≡ true → x - h ≡ y → cond a (cond b x 0) 0 - h ≡ cond (a && (k && b)) y 0
-counts true k true x y h e p = rw e p
-counts true k false x y h e p = rw e (omega arith)
-counts false k b x y h e p = omega arith
-
-pub not-counted : (a k b : Bool) (y : ℕ) → k ≡ false → cond (a && (k && b)) y 0 ≡ 0
-not-counted true k b y e = rw e
-not-counted false k b y e = refl
-
 -- the bias is taken off each part
 without_bias : (x m a h y : ℕ) → x ≡ max m a → a - h ≡ y → x - h ≡ max (m - h) y
 without_bias x m a h y e p = omega arith
 
 joined : (x y z p q : ℕ) → x ≡ max p z → p ≡ max q y → x ≡ max q (max y z)
 joined x y z p q e f = omega arith
-
-module _ (c : Constraint) (limits : InLimits c.bound) (Γ : Network) (σ row : List ℕ) (s u : ℕ)
-    (from : c.from < Γ.events) (to : c.to < Γ.events) (R : RowIn Γ σ s row) where
-  upper_is : (b : Bound) → Is b c.from c.to (weight_of c.bound) → is_upper c.kind ≡ true
-      → cond (satisfies s c.label) (asking b row u) 0 - 10080 ≡ upper_if Γ σ (satisfies s c.label) s u c
-  upper_is b B e =
-      rw (B.target_is, B.source_is, B.weight_is, ← R.at c.to to)
-      (counts (satisfies s c.label) (is_upper c.kind) (eqb c.from u) _ _ 10080 e
-      (upper-adds (get_or row c.to 0) c.bound limits))
-
-  lower-is : (b : Bound) → Is b c.to c.from (weight_of (neg_ℤ c.bound)) → is_lower c.kind ≡ true
-      → cond (satisfies s c.label) (asking b row u) 0 - 10080 ≡ lower_if Γ σ (satisfies s c.label) s u c
-  lower-is b B e =
-      rw (B.target_is, B.source_is, B.weight_is, ← R.at c.from from)
-      (counts (satisfies s c.label) (is_lower c.kind) (eqb c.to u) _ _ 10080 e
-      (lower-adds (get_or row c.from 0) c.bound limits))
-
-  no_upper : is_upper c.kind ≡ false → upper_if Γ σ (satisfies s c.label) s u c ≡ 0
-  no_upper e = not-counted (satisfies s c.label) (is_upper c.kind) (eqb c.from u) _ e
-
-  no_lower : is_lower c.kind ≡ false → lower_if Γ σ (satisfies s c.label) s u c ≡ 0
-  no_lower e = not-counted (satisfies s c.label) (is_lower c.kind) (eqb c.to u) _ e
 
 -- a constraint is listed
 module _ (c : Constraint) (limits : InLimits c.bound) {k : ℕ} where
@@ -116,7 +70,7 @@ module _ (c : Constraint) (limits : InLimits c.bound) {k : ℕ} where
   }
 
   pub constrained_min : {lists lists' : List BoundList} (b : Bound) → c.kind ≡ Min
-      → Is b c.to c.from (weight_of (neg_ℤ c.bound)) → Added c.label b lists lists' k → Constrained c lists lists' k
+      → Is b c.to c.from (lower_weight c.bound) → Added c.label b lists lists' k → Constrained c lists lists' k
   constrained_min b q B A = record {
     sized = A.sized;
     grows = λ s. omega (arith, A.grows s);
@@ -131,7 +85,7 @@ module _ (c : Constraint) (limits : InLimits c.bound) {k : ℕ} where
   }
 
   pub constrained_fix : {lists lists₁ lists₂ : List BoundList} (a b : Bound) → c.kind ≡ Fix
-      → Is a c.from c.to (weight_of c.bound) → Is b c.to c.from (weight_of (neg_ℤ c.bound))
+      → Is a c.from c.to (weight_of c.bound) → Is b c.to c.from (lower_weight c.bound)
       → Added c.label a lists lists₁ k → Added c.label b lists₁ lists₂ k → Constrained c lists lists₂ k
   constrained_fix a b q A B X Y = record {
     sized = Y.sized ∙ X.sized;

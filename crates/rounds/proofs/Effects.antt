@@ -11,7 +11,7 @@ use Rattle.fixpoint.specs.Near.{Nonexpansive}
 use Rattle.fixpoint.specs.Run.{within, ran, run_from}
 use Rattle.fixpoint.specs.Run as run
 use Rattle.fixpoint.specs.Leads.{Leads}
-use Rattle.fixpoint.proofs.Run.{rest_turn, pass_turn}
+use Rattle.fixpoint.proofs.Turns.{rest_turn, pass_turn}
 use Rattle.fixpoint.proofs.Leads.{leads_one}
 use Rattle.network.specs.Build.{scenarios}
 use Rattle.network.specs.declared.Network.{Network}

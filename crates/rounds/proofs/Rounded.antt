@@ -6,16 +6,14 @@ use mathlib.Core.Bool.{true, false, cond}
 use mathlib.Core.List.{List}
 use Prim.Native.Nat.{ℕ, ◌+◌, ◌-◌, ◌*◌, ◌≤◌, ◌<◌}
 use native.Mathlib.Omega.{arith}
-use lib.ListN.{length, get_or}
-use lib.Seq.{ext_get_or}
+use lib.ListN.{get_or}
 use Rattle.prelude.specs.Bounded.{max_below}
 use Rattle.prelude.specs.Bytes.{same}
 use Rattle.prelude.proofs.Tests.{zero-is-one, lt_or_ge, false_of_not-true}
 use Rattle.prelude.proofs.Bounded.{le_max_below, max_below_le}
 use Rattle.prelude.proofs.Bytes.{same_true, same_of_eq}
-use Rattle.prelude.proofs.Cells.{by-cell}
 use Rattle.fixpoint.specs.Run.{within}
-use Rattle.network.specs.Build.{scenarios, cells}
+use Rattle.network.specs.Build.{scenarios}
 use Rattle.network.specs.Happens.{happens}
 use Rattle.network.specs.WellFormed.{WellFormed}
 use Rattle.network.specs.declared.Network.{Network}
@@ -30,7 +28,8 @@ use Rattle.rounds.specs.Compiled.{Compiles}
 use Rattle.rounds.specs.Rounds.{raised_at, effect_of, Rounded}
 use Rattle.rounds.proofs.Rounding.{Rounding, greatest, le_greatest, greatest_le}
 use Rattle.rounds.proofs.Raised.{raised_is, raised-beyond, raised_away}
-use Rattle.rounds.proofs.Rising.{length-propagate, time-propagate, raised-up}
+use Rattle.rounds.proofs.ByCell.{length-propagate, time-propagate, equal-by-cell}
+use Rattle.rounds.proofs.Rising.{raised-up}
 use Rattle.rounds.proofs.Cap.{cond-few, within_cap, cap-within}
 
 module _ {Γ : Network} {lists : List BoundList} {t new climb highest : List ℕ} (W : WellFormed Γ) (C : Compiles Γ lists)
@@ -64,14 +63,11 @@ module _ {Γ : Network} {lists : List BoundList} {t new climb highest : List ℕ
 
   pub gapless-made : gapless Γ.events (scenarios Γ) new ≡ propagate Γ σ
   gapless-made =
-      let n : length (gapless Γ.events (scenarios Γ) new) ≡ cells Γ = length-gapless Γ.events (scenarios Γ) new in
-      ext_get_or 0 (gapless Γ.events (scenarios Γ) new) (propagate Γ σ) (n ∙ sym (length-propagate Γ σ)) (λ i b.
-      by-cell Γ.events (scenarios Γ)
-      (λ k. get_or (gapless Γ.events (scenarios Γ) new) k 0 ≡ get_or (propagate Γ σ) k 0)
+      equal-by-cell Γ (gapless Γ.events (scenarios Γ) new) (propagate Γ σ) (length-gapless Γ.events (scenarios Γ) new)
+      (length-propagate Γ σ)
       (λ s u h l.
-      gapless-at Γ.events (scenarios Γ) new s u h l ∙
-      (R.done s u h (omega (arith, sixteen_events)) ∙ sym (made_at s u h l)))
-      i (omega (arith, n)))
+      gapless-at Γ.events (scenarios Γ) new s u h l
+      ∙ (R.done s u h (omega (arith, sixteen_events)) ∙ sym (made_at s u h l)))
 
   -- the limits
   origin-is : get_or highest 0 0 ≡ max_below (scenarios Γ) (λ r. made r 0)
@@ -113,19 +109,15 @@ module _ {Γ : Network} {lists : List BoundList} {t new climb highest : List ℕ
 
   same-is : greatest climb ≡ 0 → same (propagate Γ σ) σ ≡ true
   same-is e =
-      let n : length σ ≡ cells Γ = length-gapless Γ.events (scenarios Γ) t in
       same_of_eq (propagate Γ σ) σ
-      (ext_get_or 0 (propagate Γ σ) σ (length-propagate Γ σ ∙ sym n) (λ i b.
-      by-cell Γ.events (scenarios Γ) (λ k. get_or (propagate Γ σ) k 0 ≡ get_or σ k 0)
-      (λ s u h l.
-      omega (
+      (equal-by-cell Γ (propagate Γ σ) σ (length-propagate Γ σ) (length-gapless Γ.events (scenarios Γ) t)
+      (λ s u h l. omega (
         arith,
         made_at s u h l,
         gapless-at Γ.events (scenarios Γ) t s u h l,
         above s u h l,
         le_greatest _ _ R.climb_is s u h (omega (arith, sixteen_events)),
-      ))
-      i (omega (arith, length-propagate Γ σ))))
+      )))
 
   climb_of : same (propagate Γ σ) σ ≡ true → greatest climb ≡ 0
   climb_of e =

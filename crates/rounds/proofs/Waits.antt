@@ -1,32 +1,28 @@
 -- The waits of labels, one lower bound for each signal of each label, ask what the definition does. Assumes nothing.
 use mathlib.Core.Path.{◌≡◌, refl, ◌∙◌}
-use mathlib.Core.Logic.{inl, inr}
-use mathlib.Core.Bool.{Bool, true, false, ◌&&◌, cond}
+use mathlib.Core.Bool.{true, false}
 use mathlib.Core.List.{List}
 use Prim.Native.Nat.{ℕ, ◌+◌, ◌≤◌, ◌<◌, max}
 use native.Mathlib.Numerals.{add-one}
 use native.Mathlib.Omega.{arith}
-use borrow.Author.Tests.{eqb-true, eqb-false, eq-eqb, ne_eqb}
 use lib.Dec.{eqb}
-use lib.IntN.{pos, neg_ℤ}
-use Rattle.prelude.specs.Bounded.{max_below}
-use Rattle.prelude.proofs.Tests.{either, by_cond, false_of_not-true}
-use Rattle.prelude.proofs.Bounded.{le_max_below, max_below_le}
-use Rattle.network.specs.Build.{no_label, observation, event_label, constraint, scenarios}
-use Rattle.network.specs.Constraint.{covers}
+use lib.IntN.{pos}
+use Rattle.prelude.proofs.Tests.{false_of_not-true}
+use Rattle.network.specs.Build.{no_label, observation, event_label, scenarios}
 use Rattle.network.specs.Happens.{mentions, happens}
-use Rattle.network.specs.Strategy.{time, reaction, known_from}
+use Rattle.network.specs.Strategy.{time, reaction}
 use Rattle.network.specs.WellFormed.{Proper, WellFormed}
 use Rattle.network.specs.declared.Network.{Network}
 use Rattle.network.proofs.Labels.{mentions-none}
-use Rattle.rounds.specs.Propagate.{is_upper, is_lower, least_from, lower_if, constraints_bound, waits_bound}
+use Rattle.rounds.specs.Propagate.{least_from}
 use Rattle.bounds.specs.declared.bound.Bound.{Bound}
 use Rattle.bounds.specs.declared.list.BoundList.{BoundList}
-use Rattle.bounds.specs.Weight.{weight_of}
+use Rattle.bounds.specs.Weight.{lower_weight}
 use Rattle.bounds.specs.Listed.{Is, Added}
-use Rattle.rounds.specs.Compiled.{wait, wait_asks, Asking, constraints_ask, all_ask, Compiles}
-use Rattle.rounds.proofs.Maxima.{max_below_ext, max_below-zero}
-use Rattle.rounds.proofs.Constrained.{not-counted, constrained_min}
+use Rattle.rounds.specs.Compiled.{wait, Asking, constraints_ask, all_ask, Compiles}
+use Rattle.rounds.proofs.Halves.{not-counted}
+use Rattle.rounds.proofs.Constrained.{constrained_min}
+use Rattle.rounds.proofs.WaitsAsk.{waits-are, unlabelled-waits, constraints-beyond, waits-beyond}
 
 module _ {Γ : Network} where
   -- longer lists that ask the same
@@ -59,7 +55,7 @@ module _ {Γ : Network} where
 
       pub wait-next : {lists' : List BoundList} (b : Bound) → w < Γ.events → p < Γ.signals
           → mentions (event_label Γ w) p ≡ true
-          → Is b w (observation Γ p) (weight_of (neg_ℤ (pos (reaction Γ p))))
+          → Is b w (observation Γ p) (lower_weight (pos (reaction Γ p)))
           → Added (event_label Γ w) b lists lists' (scenarios Γ) → Asking Γ lists' (m + 1) (all_ask Γ w (p + 1))
       unfolding happens
       wait-next b hw hp e I B =
@@ -92,61 +88,6 @@ module _ {Γ : Network} where
     pub waits-next : {lists : List BoundList} {m n : ℕ} → Asking Γ lists m (all_ask Γ w Γ.signals) → m ≤ n
         → Asking Γ lists n (all_ask Γ (w + 1) 0)
     waits-next A l = asking_as A l (λ σ s u. rw (add-one w) (omega arith))
-
--- the waits of other events ask nothing of u, and its own ask what its label does
-module _ (Γ : Network) (σ : List ℕ) (s u : ℕ) where
-  others : (w : ℕ) → (w ≡ u → ⊥) → wait_asks Γ σ s u w Γ.signals ≡ 0
-  others w n =
-      let none = max_below_le _ Γ.signals 0 (λ p _.
-      by_cond (λ (x : ℕ). x ≤ 0) (mentions (event_label Γ w) p) (lower_if Γ σ (happens Γ s w) s u (wait Γ w p)) 0
-      (λ _.
-      by_cond (λ (x : ℕ). x ≤ 0) (happens Γ s w && eqb w u) (known_from Γ σ s p) 0
-      (λ e. absurd (n (eqb-true w u (both (happens Γ s w) (eqb w u) e))))
-      (λ _. omega arith))
-      (λ _. omega arith)) in
-      omega (arith, none)
-    where
-      both : (a b : Bool) → a && b ≡ true → b ≡ true
-      both true b e = e
-      both false b e = cc
-
-  own : happens Γ s u ≡ true → wait_asks Γ σ s u u Γ.signals ≡ waits_bound Γ σ s u
-  own e = max_below_ext _ _ Γ.signals (λ p _. rw (e, eq-eqb u u refl))
-
-  pub waits-are : u < Γ.events → happens Γ s u ≡ true
-      → max_below Γ.events (λ w. wait_asks Γ σ s u w Γ.signals) ≡ waits_bound Γ σ s u
-  waits-are hu e =
-      let up = max_below_le (λ w. wait_asks Γ σ s u w Γ.signals) Γ.events (waits_bound Γ σ s u) (λ w _.
-      elim (either (eqb w u)) [
-        | inl q ↦ rw (eqb-true w u q) (omega (arith, own e))
-        | inr q ↦ omega (arith, others w (eqb-false w u q))
-      ]) in
-      omega (arith, own e, up, le_max_below (λ w. wait_asks Γ σ s u w Γ.signals) Γ.events u hu)
-
-  pub unlabelled-waits : ((p : ℕ) → mentions (event_label Γ u) p ≡ false) → waits_bound Γ σ s u ≡ 0
-  unlabelled-waits n = omega (
-    arith,
-    max_below_le (λ p. cond (mentions (event_label Γ u) p) (known_from Γ σ s p) 0) Γ.signals 0
-        (λ p _. rw (n p) (omega arith)),
-  )
-
--- behind the events neither the constraints nor the waits ask anything
-module _ {Γ : Network} (W : WellFormed Γ) (σ : List ℕ) (s u : ℕ) (h : Γ.events ≤ u) where
-  constraints-beyond : constraints_bound Γ σ s u ≡ 0
-  constraints-beyond = max_below-zero Γ.rules _ (λ i l.
-      let c = constraint Γ i in
-      let p = W.proper i l in
-      rw (ne_eqb c.from u (λ e. omega (arith, p.from)), ne_eqb c.to u (λ e. omega (arith, p.to)))
-      (none (covers Γ c s) (is_upper c.kind) (is_lower c.kind) _ _)) where
-        none : (t a b : Bool) (x y : ℕ) → max (cond (t && (a && false)) x 0) (cond (t && (b && false)) y 0) ≡ 0
-        none true true true x y = refl
-        none true true false x y = refl
-        none true false true x y = refl
-        none true false false x y = refl
-        none false a b x y = refl
-
-  waits-beyond : max_below Γ.events (λ w. wait_asks Γ σ s u w Γ.signals) ≡ 0
-  waits-beyond = max_below-zero Γ.events _ (λ w l. others Γ σ s u w (λ e. omega arith))
 
 -- all listed
 module _ {Γ : Network} (W : WellFormed Γ) {lists : List BoundList} where

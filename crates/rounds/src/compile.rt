@@ -12,7 +12,8 @@ use bounds::lists::{self, Lists};
 use network::{Constraint, Kind, Label};
 use rows::frame::Frame;
 
-// The one or two bounds of a constraint, under its own label.
+// The one or two bounds of a constraint, under its own label. (In the crate tighten a rule becomes numbers in the same
+// way; a function for both would take a closure and be no shorter.)
 fn list_constraint(lists: &mut Lists, frame: &Frame, c: &Constraint)
     requires { Listable c.now × NoLonger 126 lists.old }
     ensures { Constrained c.now lists.old lists.new frame.now.scenarios }
@@ -45,8 +46,7 @@ pub fn list_constraints(lists: &mut Lists, frame: &Frame)
         (constraints_ask frame.now.network frame.now.network.rules) }
 {
     let network = &frame.network;
-    for i in 0..network.rules {
-        let c = &network.constraints[i];
+    for c in &network.constraints[..network.rules] {
         let joint = joined(c, network.labels[c.from], network.labels[c.to]);
         list_constraint(lists, frame, &joint);
     }
@@ -71,13 +71,12 @@ pub fn list_waits(lists: &mut Lists, frame: &Frame)
         (constraints_ask frame.now.network frame.now.network.rules) }
     ensures { Compiles frame.now.network lists.new }
 {
-    // where no event has a label none waits
+    // Where no event has a label none waits.
     if !frame.labelled {
         return;
     }
     let network = &frame.network;
-    for w in 0..network.events {
-        let label = network.labels[w];
+    for (w, &label) in network.labels[..network.events].iter().enumerate() {
         for p in 0..network.signals {
             if network::mentions(label, p) {
                 let wait = wait_of(network.observations[p], w, frame.reactions[p], label);

@@ -57,6 +57,8 @@ impl<'a> Compiled<'a> {
         let mut first = [0; Network::CASES];
         known::first_known(row, &self.frame, s, &mut first);
         let mut o = self.lists[s].raised(row);
+        // By number: d is the set of signals on which two scenarios differ, and both a place in `first` and what turns
+        // s into the other scenario.
         for d in 1..self.frame.scenarios {
             rows::raise_by_scenario(t, s ^ d, first[d], &mut o);
         }
@@ -69,7 +71,7 @@ impl<'a> Compiled<'a> {
         requires { Times self.now.frame.network t.now }
         ensures { Rounded self.now.frame.network t.now new.new result }
     {
-        let mut marks = Marks::none();
+        let mut marks = Marks::new();
         for s in 0..self.frame.scenarios {
             let mut row = [0; Network::EVENTS];
             rows::read_row(t, s, &mut row);

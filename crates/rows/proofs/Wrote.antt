@@ -5,8 +5,10 @@ use mathlib.Core.List.{List, ◌++◌}
 use Prim.Native.Nat.{ℕ, ◌+◌, ◌-◌, ◌≤◌, ◌<◌}
 use native.Mathlib.Nat.{zero-add}
 use native.Mathlib.Omega.{arith}
-use lib.ListN.{length, get_or, set, drop, length-set, length-append, length-drop, get_or-append}
-use lib.Seq.{ext_get_or, get_or-set_same, get_or-set_other, get_or-drop, get_or-append-add}
+use borrow.Rule.Slice.PartMut.{put_mid}
+use lib.ListN.{length, get_or, set, take, drop, length-set, length-append, length-drop, get_or-append}
+use lib.Seq.{ext_get_or, get_or-set_same, get_or-set_other, get_or-take, get_or-drop, get_or-append-add, length-take-le}
+use Rattle.std.proofs.lemmas.List.{get_or-append_right}
 use Rattle.prelude.specs.Bounded.{tabulate}
 use Rattle.prelude.proofs.Tests.{eq_or_ne, lt_or_ge}
 use Rattle.prelude.proofs.Bounded.{length-tabulate, get_d_tabulate}
@@ -73,6 +75,39 @@ module _ (f : ℕ → ℕ) where
             ];
         other =
             λ k l. j.other k (later a m n k l) ∙ h.other k (shorter a m (m + n) k (omega arith) l);
+      }
+
+  -- k numbers from place a on are written as a list of their own, which is put back
+  pub wrote_part : {o xs : List ℕ} (a k n : ℕ) → k ≡ n → a + n ≤ length o
+      → Wrote (take k (drop a o)) xs 0 (length (take k (drop a o))) f → Wrote o (put_mid a k o xs) a n f
+  wrote_part {o} {xs} a k n e l h =
+      let front : length (take a o) ≡ a = length-take-le a o (omega arith) in
+      let size : length xs ≡ k =
+      h.sized ∙ length-take-le k (drop a o) (omega (arith, length-drop a o)) in
+      let behind = drop k (drop a o) in
+      record {
+        sized = omega (
+          arith,
+          length-append (take a o) (xs ++ behind),
+          length-append xs behind,
+          length-drop k (drop a o),
+          length-drop a o,
+        );
+        here = λ u m.
+            let index : a + u - a ≡ u = omega arith in
+            let within : u < length (take k (drop a o)) = omega (arith, h.sized) in
+            get_or-append_right (take a o) (xs ++ behind) a (a + u) 0 front (omega arith)
+            ∙ rw index (get_or-append xs behind 0 u (omega arith) ∙ (rw zero-add at (h.here u within)));
+        other = λ i c. elim c [
+          | inl m ↦ get_or-append (take a o) (xs ++ behind) 0 i (omega arith) ∙ get_or-take a o i 0 m
+          | inr m ↦
+              let place : a + (k + (i - a - k)) ≡ i = omega arith in
+              get_or-append_right (take a o) (xs ++ behind) a i 0 front (omega arith)
+              ∙ get_or-append_right xs behind k (i - a) 0 size (omega arith)
+              ∙ get_or-drop k (drop a o) (i - a - k) 0
+              ∙ get_or-drop a o (k + (i - a - k)) 0
+              ∙ rw place
+        ];
       }
 
   -- all of it, from the start on

@@ -14,7 +14,8 @@ use network::{Label, Network, times};
 
 // A network, and what rounds would else work out again and again: how many scenarios it has; its reactions, which here
 // are at least 1, also where the sheet has no line; and whether an event has a label: where none has, no label is
-// looked at.
+// looked at, for speed. The network and what is known of it stand here without a Formed around them, so that clauses
+// name the frame's network.
 #[derive(Drop)]
 pub struct Frame {
     pub network: Network,
@@ -31,9 +32,7 @@ pub struct Frame {
 fn is_labelled(labels: &[Label; Network::EVENTS]) -> bool
     ensures { result ≡ false → (u : ℕ) → get_or labels.now u no_label ≡ no_label }
 {
-    labels
-        .iter()
-        .any(|label| label.positive != 0 || label.negative != 0)
+    labels.iter().any(|label| *label != Label::DASH)
 }
 
 impl Frame {
@@ -49,13 +48,14 @@ impl Frame {
         let network = formed.network;
         Frame {
             network,
-            scenarios: network::scenario_count(network.signals),
+            scenarios: formed.scenario_count(),
             reactions: network.reactions.map(times::reaction_of),
             labelled: is_labelled(&network.labels),
         }
     }
 
-    // How many cells the rows of its table have.
+    // How many cells the rows of its table have, with those behind the events: a table without gaps has
+    // `Formed::cell_count`.
     pub fn cells(&self) -> usize
         ensures { (result ≡ self.now.scenarios * L.events) × (result ≤ L.cells) }
     {
@@ -78,19 +78,19 @@ impl Frame {
         if !self.labelled {
             return;
         }
-        for u in 0..Network::EVENTS {
-            o[u] = if self.happens(s, u) { o[u] } else { 0 };
+        for (u, cell) in o.iter_mut().enumerate() {
+            *cell = if self.happens(s, u) { *cell } else { 0 };
         }
     }
 
-    // The times of scenario s from place a on, with a blank for each event that does not happen in it.
-    fn copy_row(&self, t: &Table, s: usize, a: usize, out: &mut [u16])
-        requires { (s < L.cases) × (a + self.now.network.events ≤ length out.old) }
-        ensures { Wrote out.old out.new a self.now.network.events
+    // The times of scenario s, with a blank for each event that does not happen in it.
+    fn copy_row(&self, t: &Table, s: usize, row: &mut [u16])
+        requires { (s < L.cases) × (length row.old ≤ L.events) }
+        ensures { Wrote row.old row.new 0 (length row.old)
             (λ u. cond (happens self.now.network s u) (get_or t.now (s * L.events + u) 0) L.blank) }
     {
-        for u in 0..self.network.events {
-            out[a + u] = if self.happens(s, u) {
+        for (u, cell) in row.iter_mut().enumerate() {
+            *cell = if self.happens(s, u) {
                 t[s * Network::EVENTS + u]
             } else {
                 Network::BLANK
@@ -103,8 +103,12 @@ impl Frame {
         requires { cells self.now.network ≤ length out.old }
         ensures { out.new ≡ handed self.now.network t.now ++ drop (cells self.now.network) out.old }
     {
+        let events = self.network.events;
+        // Rows by number: behind the last one `out` may go on, and what chunks_exact_mut lends stands in an iterator,
+        // out of which the proof would have to put it back.
         for s in 0..self.scenarios {
-            self.copy_row(t, s, s * self.network.events, out);
+            let start = s * events;
+            self.copy_row(t, s, &mut out[start..start + events]);
         }
     }
 }

@@ -1,5 +1,6 @@
 // How far a round raises times, and how late it makes them.
 ghost use Rattle.std.specs.Prelude.{◌≡◌, ℕ, ◌-◌, ◌≤◌, ◌<◌, max, get_or, replicate};
+ghost use Rattle.std.specs.List.{fold};
 ghost use Rattle.prelude.specs.Bounded.{max_below};
 ghost use Rattle.network.specs.Limits as L;
 ghost use Rattle.rows.specs.Rows.{Sixteen};
@@ -8,7 +9,8 @@ use crate::Row;
 use network::Network;
 
 // Over the rows that a round makes, cell by cell of a row: how far a time rose at most, and the latest time. So no cell
-// waits for another, and the loops take eight at once.
+// waits for another, and the loops take eight at once. Two loops, since one with a closure for what it raises to would
+// be no shorter.
 #[derive(Clone, Copy)]
 pub struct Marks {
     pub climb: Row,
@@ -21,8 +23,8 @@ fn raise_climb(before: &Row, after: &Row, climb: &mut Row)
     ensures { Sixteen climb.new
         (λ u. max (get_or climb.old u 0) (get_or after.now u 0 - get_or before.now u 0)) }
 {
-    for u in 0..Network::EVENTS {
-        climb[u] = climb[u].max(after[u] - before[u]);
+    for (u, cell) in climb.iter_mut().enumerate() {
+        *cell = (*cell).max(after[u] - before[u]);
     }
 }
 
@@ -30,25 +32,21 @@ fn raise_climb(before: &Row, after: &Row, climb: &mut Row)
 fn raise_highest(after: &Row, highest: &mut Row)
     ensures { Sixteen highest.new (λ u. max (get_or highest.old u 0) (get_or after.now u 0)) }
 {
-    for u in 0..Network::EVENTS {
-        highest[u] = highest[u].max(after[u]);
+    for (u, cell) in highest.iter_mut().enumerate() {
+        *cell = (*cell).max(after[u]);
     }
 }
 
 // The greatest of sixteen numbers.
 fn greatest(x: &Row) -> u16
-    ensures { result ≡ max_below L.events (λ u. get_or x.now u 0) }
+    ensures { result ≡ fold max 0 x.now }
 {
-    let mut m: u16 = 0;
-    for v in x {
-        m = m.max(*v);
-    }
-    m
+    x.iter().copied().fold(0, u16::max)
 }
 
 impl Marks {
     // No row is noted yet.
-    pub fn none() -> Self
+    pub fn new() -> Self
         ensures { (result.climb ≡ replicate L.events 0) × (result.highest ≡ replicate L.events 0) }
     {
         Marks {
@@ -69,6 +67,7 @@ impl Marks {
     }
 
     // How far the time that rose furthest rose.
+    #[tactic(auto, using(crate::proofs::Greatest::greatest_is))]
     pub fn steepest(&self) -> u16
         ensures { result ≡ max_below L.events (λ u. get_or self.now.climb u 0) }
     {
@@ -76,6 +75,7 @@ impl Marks {
     }
 
     // The latest time.
+    #[tactic(auto, using(crate::proofs::Greatest::greatest_is))]
     pub fn latest(&self) -> u16
         ensures { result ≡ max_below L.events (λ u. get_or self.now.highest u 0) }
     {

@@ -22,7 +22,7 @@ use Rattle.sheet.specs.Stage.{to_come, Stage}
 use Rattle.sheet.proofs.ReadLine.{Passes}
 use Rattle.sheet.proofs.Arrays.{arrays-event}
 use Rattle.names.proofs.Tokens.{name-short}
-use Rattle.sheet.proofs.Stages.{and_more-is, came_le}
+use Rattle.sheet.proofs.Stages.{and_more-is, came_le, lettered_on, proper_on}
 
 module _ (sheet : List ℕ) {Γ : Network} {at k : ℕ} where
   -- an event
@@ -49,18 +49,9 @@ module _ (sheet : List ℕ) {Γ : Network} {at k : ℕ} where
           arrays = arrays-event w.arrays at (length f);
           observed = λ q h. omega (arith, w.observed q h);
           one_signal = w.one_signal;
-          proper = λ c h.
-              let x = w.proper c h in
-              record {
-                from = omega (arith, x.from);
-                to = omega (arith, x.to);
-                bound = x.bound;
-                label = record { positive = x.label.positive; negative = x.label.negative };
-              };
+          proper = λ c h. proper_on (omega arith) (omega arith) (w.proper c h);
           in_range_lem = w.in_range_lem;
-          lettered = λ u.
-              let x = w.lettered u in
-              record { positive = x.positive; negative = x.negative };
+          lettered = λ u. lettered_on (omega arith) (w.lettered u);
           labels = w.labels;
         };
         named = record {

@@ -7,7 +7,7 @@ use mathlib.Core.Option
 use mathlib.Core.List.{List}
 use Prim.Native.Nat.{ℕ, zero, suc, ◌<◌}
 use native.Mathlib.Omega.{arith}
-use lib.ListN.{get_or, replicate}
+use lib.ListN.{get_or, replicate, set}
 use lib.Seq.{get_or-set_same, get_or-set_other}
 use Rattle.prelude.specs.Search.{answers}
 use Rattle.prelude.proofs.Tests.{eq_or_ne, and-true}
@@ -31,6 +31,7 @@ use Rattle.line.proofs.Labelling.{whole_iff}
 use Rattle.sheet.specs.Stage.{labelling, to_come, Stage}
 use Rattle.sheet.proofs.Passing.{is_named}
 use Rattle.sheet.proofs.ReadLine.{Passes}
+use Rattle.sheet.proofs.Stages.{forming_instead}
 use Rattle.sheet.proofs.Arrays.{arrays-label}
 
 -- an empty network has no label
@@ -79,40 +80,16 @@ module _ (sheet : List ℕ) (Γ : Network) (at k : ℕ) where
         let w = g.forming in
         let ℓ = mask_of Γ.signals Γ.letters (label_of (field 1 (cells sheet at))) in
         let x = placed in
-        record {
-          horizon = w.horizon;
-          some_event = w.some_event;
-          events = w.events;
-          signals = w.signals;
-          rules = w.rules;
-          arrays = arrays-label w.arrays event ℓ;
-          observed = w.observed;
-          one_signal = w.one_signal;
-          proper = λ c h.
-              let y = w.proper c h in
-              record {
-                from = y.from;
-                to = y.to;
-                bound = y.bound;
-                label = record { positive = y.label.positive; negative = y.label.negative };
-              };
-          in_range_lem = w.in_range_lem;
-          lettered = λ u.
-              elim (eq_or_ne u event) [
-                | inl e ↦
-                    rw (
-                      e,
-                      get_or-set_same Γ.labels event ℓ no_label
-                          (omega (arith, x.is_event, w.events, w.arrays.labels)),
-                    )
-                    (record { positive = x.lettered.positive; negative = x.lettered.negative })
-                | inr n ↦
-                    let y = w.lettered u in
-                    rw (get_or-set_other Γ.labels event u ℓ no_label n)
-                    (record { positive = y.positive; negative = y.negative })
-              ];
-          labels = tt;
-        }
+        forming_instead Γ Γ.reactions (set Γ.labels event ℓ) (set Γ.labelled event true) w
+        (arrays-label w.arrays event ℓ) w.in_range_lem
+        (λ u.
+        elim (eq_or_ne u event) [
+          | inl e ↦
+              rw (e, get_or-set_same Γ.labels event ℓ no_label (omega (arith, x.is_event, w.events, w.arrays.labels)))
+              x.lettered
+          | inr n ↦ rw (get_or-set_other Γ.labels event u ℓ no_label n) (w.lettered u)
+        ])
+        tt
 
 -- a line that passes, passes by itself
 pub own_passes : (sheet : List ℕ) (Γ : Network) (at k m : ℕ) → Passes sheet at k (tests_of sheet Cases m Γ)
@@ -128,22 +105,11 @@ pub stage_label : (sheet : List ℕ) (Γ : Network) (at k m : ℕ) → Stage she
     → Stage sheet (to_come Cases m) (with_line sheet Cases Γ at (cells sheet at)) (after_line sheet at) (suc k)
 stage_label sheet Γ at k m g p =
     let own = own_passes sheet Γ at k m p in
+    let Δ = with_line sheet Cases Γ at (cells sheet at) in
     let R = label-read sheet Γ at k m g own in
     record {
-      forming = record {
-        horizon = R.horizon;
-        some_event = R.some_event;
-        events = R.events;
-        signals = R.signals;
-        rules = R.rules;
-        arrays = R.arrays;
-        observed = R.observed;
-        one_signal = R.one_signal;
-        proper = R.proper;
-        in_range_lem = R.in_range_lem;
-        lettered = R.lettered;
-        labels = by_lines m p R;
-      };
+      forming = forming_instead Δ Δ.reactions Δ.labels Δ.labelled R R.arrays R.in_range_lem R.lettered
+          (by_lines m p R);
       named = record { inside = g.named.inside; short = g.named.short };
       inside = line-inside sheet at p.ends;
       line = omega (arith, g.line);

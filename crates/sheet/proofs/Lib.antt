@@ -10,6 +10,7 @@ pub mod SignalStage
 pub mod RuleStage
 pub mod ReactionStage
 pub mod LabelStage
+pub mod FirstStage
 pub mod EntriesLeft
 pub mod Held
 pub mod Lines
@@ -20,4 +21,6 @@ pub mod Over
 pub mod Comes
 pub mod Answers
 pub mod Fault
+pub mod ExampleSheets
 pub mod Examples
+pub mod LaterExamples

@@ -6,7 +6,7 @@ use mathlib.Core.List.{List}
 use Prim.Native.Nat.{ℕ, suc, ◌<◌}
 use native.Mathlib.Omega.{arith}
 use lib.Dec.{eqb}
-use lib.ListN.{get_or}
+use lib.ListN.{get_or, set}
 use Rattle.prelude.proofs.Tests.{eq_or_ne}
 use Rattle.text.specs.Lines.{line_at, after_line, fields, field}
 use Rattle.text.proofs.Lines.{line-inside}
@@ -21,6 +21,7 @@ use Rattle.line.proofs.Checks.{all_hold}
 use Rattle.line.proofs.ReactionRefusals.{within}
 use Rattle.sheet.specs.Stage.{to_come, Stage}
 use Rattle.sheet.proofs.ReadLine.{Passes}
+use Rattle.sheet.proofs.Stages.{forming_instead}
 use Rattle.sheet.proofs.Arrays.{arrays-reaction}
 
 -- the fields of the line at a place
@@ -49,35 +50,16 @@ module _ (sheet : List ℕ) (Γ : Network) (at k : ℕ) where
       let most = (within L.fastest L.slowest (field 1 fs) (all_hold (reaction_tests Γ fs) p.accepted 2)).most in
       let signal = reacting_signal p in
       record {
-        forming = record {
-          horizon = w.horizon;
-          some_event = w.some_event;
-          events = w.events;
-          signals = w.signals;
-          rules = w.rules;
-          arrays = arrays-reaction w.arrays q minutes;
-          observed = w.observed;
-          one_signal = w.one_signal;
-          proper = λ c h.
-              let x = w.proper c h in
-              record {
-                from = x.from;
-                to = x.to;
-                bound = x.bound;
-                label = record { positive = x.label.positive; negative = x.label.negative };
-              };
-          in_range_lem = λ r.
-              elim (eq_or_ne r q) [
-                | inl e ↦
-                    rw (e, reaction-with Γ q minutes (omega (arith, signal, w.signals, w.arrays.reactions)))
-                    (reaction_of-most minutes most)
-                | inr n ↦ rw (reaction-other Γ q minutes r n) (w.in_range_lem r)
-              ];
-          lettered = λ u.
-              let x = w.lettered u in
-              record { positive = x.positive; negative = x.negative };
-          labels = w.labels;
-        };
+        forming = forming_instead Γ (set Γ.reactions q minutes) Γ.labels Γ.labelled w
+            (arrays-reaction w.arrays q minutes)
+            (λ r.
+            elim (eq_or_ne r q) [
+              | inl e ↦
+                  rw (e, reaction-with Γ q minutes (omega (arith, signal, w.signals, w.arrays.reactions)))
+                  (reaction_of-most minutes most)
+              | inr n ↦ rw (reaction-other Γ q minutes r n) (w.in_range_lem r)
+            ])
+            w.lettered w.labels;
         named = record { inside = g.named.inside; short = g.named.short };
         inside = line-inside sheet at p.ends;
         line = omega (arith, g.line);

@@ -28,7 +28,7 @@ use Rattle.sheet.proofs.Passing.{is_named}
 use Rattle.sheet.specs.Stage.{to_come, Stage}
 use Rattle.sheet.proofs.ReadLine.{Passes}
 use Rattle.sheet.proofs.Arrays.{arrays-rule}
-use Rattle.sheet.proofs.Stages.{came_le}
+use Rattle.sheet.proofs.Stages.{came_le, lettered_on, proper_on}
 
 -- a limit by its size
 neg_limits : (m : ℕ) → m ≤ L.horizon → InLimits (neg_ℤ (pos m))
@@ -83,19 +83,11 @@ module _ (sheet : List ℕ) {m : ℕ} {Γ : Network} {at k : ℕ} where
                       };
                     })
                 | inr x ↦
-                    let y = w.proper d (omega arith) in
                     rw (get_or-set_other Γ.constraints Γ.rules d c no_constraint x)
-                    (record {
-                      from = y.from;
-                      to = y.to;
-                      bound = y.bound;
-                      label = record { positive = y.label.positive; negative = y.label.negative };
-                    })
+                    (proper_on (omega arith) (omega arith) (w.proper d (omega arith)))
               ];
           in_range_lem = w.in_range_lem;
-          lettered = λ u.
-              let x = w.lettered u in
-              record { positive = x.positive; negative = x.negative };
+          lettered = λ u. lettered_on (omega arith) (w.lettered u);
           labels = w.labels;
         };
         named = record { inside = g.named.inside; short = g.named.short };

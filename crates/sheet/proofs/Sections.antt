@@ -9,7 +9,6 @@ use lib.ListN.{length, drop}
 use Rattle.text.specs.Lines.{fields, line_at, ends_at, after_line}
 use Rattle.text.proofs.Lines.{line-inside}
 use Rattle.refusal.specs.Refusal.{refusal}
-use Rattle.refusal.specs.declared.Cause.{Cause}
 use Rattle.refusal.specs.declared.Cause.TheVariants as C
 use Rattle.network.specs.Limits as L
 use Rattle.network.specs.Build.{empty}
@@ -19,14 +18,14 @@ use Rattle.line.specs.Sections.{Heading, heading_of_lem, horizon_heading, headin
 use Rattle.line.specs.Answers.{passing, heading_at}
 use Rattle.line.specs.declared.heading.CountLine.{CountLine}
 use Rattle.line.specs.declared.Section.{Section}
-use Rattle.line.proofs.Refusals.{answer-err, answer-ok}
+use Rattle.line.proofs.Refusals.{answer-ok}
 use Rattle.std.specs.Prelude.{Ok, Err}
-use Rattle.sheet.specs.Reading.{Progress, Stop, Go, read_line, read_entries_lem, read_section_lem}
+use Rattle.sheet.specs.Reading.{Progress, Go, read_line, read_entries_lem, read_section_lem}
 use Rattle.sheet.specs.Reading.{read_horizon_lem}
 use Rattle.sheet.specs.Reading.{longest, answered, read}
 use Rattle.sheet.specs.Stage.{to_come, whole, Stage}
-use Rattle.sheet.proofs.ReadLine.{refusal_at, passes, read_line-stop, read_line-on}
-use Rattle.sheet.proofs.Whole.{to_end, too_long, in_length}
+use Rattle.sheet.proofs.ReadLine.{refusal_at, passes, read_line-on}
+use Rattle.sheet.proofs.Whole.{too_long}
 use Rattle.sheet.proofs.Passing.{counted}
 use Rattle.sheet.proofs.Stages.{stage_section}
 
@@ -39,12 +38,6 @@ module _ (sheet : List ℕ) (at k : ℕ) (h : Heading) (rest : List ℕ) (is : r
   section-at = ap (λ (l : List ℕ). heading_at l h) is
 
   module _ (next : List (List ℕ) → Progress) where
-    pub section-stop : (c : Cause) → heading_at rest h ≡ Err c
-        → Stop (refusal c k) ≡ read_line sheet at k (heading_tests h) next
-    section-stop c e =
-        sym (read_line-stop sheet at k (heading_tests h) next c
-        (answer-err (refusal_at sheet at k (heading_tests h)) said_at c (sym section-at ∙ e)))
-
     -- the line passes, with count m and of length n
     pub record SectionRead (m n : ℕ) : Type 0 where
       pub ends : ends_at sheet at ≡ true
@@ -80,10 +73,6 @@ module _ (sheet : List ℕ) (s : Section) (at k : ℕ) (rest : List ℕ) (is : r
   abbrev lines : List (List ℕ) → Progress
   lines fs = read_entries_lem sheet s (second_number fs) Γ (after_line sheet at) (suc k)
 
-  pub section_stops : (c : Cause) → heading_at rest (heading_of_lem Γ.events s) ≡ Err c → Stop (refusal c k)
-      ≡ read_section_lem sheet s Γ at k
-  section_stops c e = section-stop sheet at k (heading_of_lem Γ.events s) rest is lines c e
-
   -- its line passes, with count m and of length n, and then m lines are read
   pub record SectionGoes (m n : ℕ) : Type 0 where
     pub inside : at + n + 1 ≤ length sheet
@@ -104,11 +93,6 @@ module _ (sheet : List ℕ) (s : Section) (at k : ℕ) (rest : List ℕ) (is : r
 
 -- the first line
 module _ (sheet : List ℕ) where
-  pub horizon_stops : (c : Cause) → heading_at sheet horizon_heading ≡ Err c
-      → Stop (refusal c 1) ≡ read_horizon_lem sheet
-  horizon_stops c e =
-      section-stop sheet 0 1 horizon_heading sheet refl (λ fs. Go (empty (second_number fs)) (after_line sheet 0) 2) c e
-
   pub record HorizonGoes (m n : ℕ) : Type 0 where
     pub most : m ≤ L.horizon
     pub inside : n + 1 ≤ length sheet
@@ -132,6 +116,3 @@ module _ (sheet : List ℕ) where
 module _ (sheet : List ℕ) where
   pub read_too_long : longest < length sheet → read sheet ≡ Err (refusal C.TooLong 0)
   read_too_long h = ap answered (too_long sheet h)
-
-  pub read_to_end : length sheet ≤ longest → (p : Progress) → to_end sheet ≡ p → read sheet ≡ answered p
-  read_to_end h p e = ap answered (in_length sheet h ∙ e)

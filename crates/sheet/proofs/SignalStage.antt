@@ -26,7 +26,7 @@ use Rattle.sheet.proofs.Passing.{is_named, new_signal}
 use Rattle.sheet.specs.Stage.{to_come, Stage}
 use Rattle.sheet.proofs.ReadLine.{Passes}
 use Rattle.sheet.proofs.Arrays.{arrays-signal}
-use Rattle.sheet.proofs.Stages.{came_le}
+use Rattle.sheet.proofs.Stages.{came_le, lettered_on, proper_on}
 
 module _ (sheet : List ℕ) {m : ℕ} {Γ : Network} {at k : ℕ} where
   -- a signal
@@ -76,21 +76,9 @@ module _ (sheet : List ℕ) {m : ℕ} {Γ : Network} {at k : ℕ} where
                       ∙ get_or-set_other Γ.observations Γ.signals b u 0 z)
                 ]
               ];
-          proper = λ c h.
-              let x = w.proper c h in
-              record {
-                from = x.from;
-                to = x.to;
-                bound = x.bound;
-                label = record {
-                  positive = omega (arith, x.label.positive);
-                  negative = omega (arith, x.label.negative);
-                };
-              };
+          proper = λ c h. proper_on (omega arith) (omega arith) (w.proper c h);
           in_range_lem = w.in_range_lem;
-          lettered = λ v.
-              let x = w.lettered v in
-              record { positive = omega (arith, x.positive); negative = omega (arith, x.negative) };
+          lettered = λ v. lettered_on (omega arith) (w.lettered v);
           labels = w.labels;
         };
         named = record { inside = g.named.inside; short = g.named.short };

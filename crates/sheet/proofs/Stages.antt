@@ -1,7 +1,7 @@
--- What each line keeps: the stage of the sheet before a line that passes gives the stage behind it. Here: a section's
--- line. Assumes nothing.
+-- What each line keeps: the stage of the sheet before a line that passes gives the stage behind it. Here: what stays
+-- where a network grows, and a section's line. Assumes nothing.
 use mathlib.Core.Path.{◌≡◌, refl, sym}
-use mathlib.Core.Bool.{true}
+use mathlib.Core.Bool.{Bool, true}
 use mathlib.Core.List.{List}
 use Prim.Native.Nat.{ℕ, zero, suc, ◌+◌, ◌≤◌}
 use native.Mathlib.Nat.{add-zero}
@@ -10,7 +10,11 @@ use lib.ListN.{length}
 use Rattle.text.specs.Lines.{ends_at, after_line}
 use Rattle.text.proofs.Lines.{line-inside}
 use Rattle.network.specs.Limits as L
-use Rattle.network.specs.WellFormed.{Labels, ToCome, and_more}
+use Rattle.network.specs.Build.{event_label, scenarios}
+use Rattle.network.specs.Strategy.{reaction}
+use Rattle.network.specs.WellFormed.{Arrays, Forming, Labels, Labelling, Lettered, Proper, ToCome, and_more}
+use Rattle.network.specs.declared.Constraint.{Constraint}
+use Rattle.network.specs.declared.Label.{Label}
 use Rattle.network.specs.declared.Network.{Network}
 use Rattle.network.proofs.Labels.{unlabelled_well}
 use Rattle.line.specs.Sections.{heading_of_lem}
@@ -29,6 +33,46 @@ fewer n i j k h l = omega (arith, and_more-is n i, and_more-is n j)
 -- of n and one more to come, one more has come
 pub came_le : (n m k : ℕ) → and_more n (suc m) ≤ k → and_more (n + 1) m ≤ k
 came_le n m k l = omega (arith, and_more-is (n + 1) m)
+
+-- the letters of labels and the ends of rules stay in range where signals and events only grow
+module _ {Γ Δ : Network} (more : scenarios Γ ≤ scenarios Δ) where
+  pub lettered_on : {ℓ : Label} → Lettered Γ ℓ → Lettered Δ ℓ
+  lettered_on x = record { positive = omega (arith, x.positive); negative = omega (arith, x.negative) }
+
+  pub proper_on : Γ.events ≤ Δ.events → {c : Constraint} → Proper Γ c → Proper Δ c
+  proper_on e x = record {
+    from = omega (arith, x.from);
+    to = omega (arith, x.to);
+    bound = x.bound;
+    label = lettered_on x.label;
+  }
+
+-- no event, signal or rule is to come
+abbrev pub read_to : Labelling → ToCome
+read_to l = record { events = 0; signals = 0; rules = 0; labels = l }
+
+-- the same network with other reactions and labels
+module _ (Γ : Network) (reactions : List ℕ) (labels : List Label) (labelled : List Bool) where
+  abbrev instead : Network
+  instead = record Γ { reactions = reactions; labels = labels; labelled = labelled }
+
+  pub forming_instead : {l r : Labelling} → Forming (read_to l) Γ → Arrays instead
+      → ((p : ℕ) → reaction instead p ≤ L.slowest) → ((u : ℕ) → Lettered Γ (event_label instead u))
+      → Labels r instead → Forming (read_to r) instead
+  forming_instead w a in_range letters ls = record {
+    horizon = w.horizon;
+    some_event = w.some_event;
+    events = w.events;
+    signals = w.signals;
+    rules = w.rules;
+    arrays = a;
+    observed = w.observed;
+    one_signal = w.one_signal;
+    proper = λ c h. proper_on (omega arith) (omega arith) (w.proper c h);
+    in_range_lem = in_range;
+    lettered = λ u. lettered_on (omega arith) (letters u);
+    labels = ls;
+  }
 
 module _ (sheet : List ℕ) {Γ : Network} {at k : ℕ} where
   -- further on, with fewer lines to come

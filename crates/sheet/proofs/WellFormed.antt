@@ -4,22 +4,19 @@ use mathlib.Core.Path.{◌≡◌, refl, sym, ◌∙◌}
 use mathlib.Core.Option.{Option, none, some}
 use mathlib.Core.Bool.{Bool, true, false, cond}
 use mathlib.Core.List.{List}
-use Prim.Native.Nat.{ℕ, suc, ◌≤◌}
+use Prim.Native.Nat.{ℕ, suc}
 use native.Mathlib.Omega.{arith}
-use lib.ListN.{length}
 use Rattle.prelude.specs.Checks.{first_failing_lem}
 use Rattle.prelude.proofs.Tests.{zero-is-one}
 use Rattle.text.specs.Lines.{line_at, after_line, fields}
 use Rattle.text.proofs.Lines.{line-inside}
 use Rattle.refusal.specs.Refusal.{refusal}
 use Rattle.refusal.specs.declared.Cause.{Cause}
-use Rattle.network.specs.Limits as L
 use Rattle.network.specs.Build.{empty}
 use Rattle.network.specs.WellFormed.{WellFormed, Named, ToCome}
 use Rattle.network.specs.declared.Network.{Network}
 use Rattle.line.specs.Tests.{second_number}
 use Rattle.line.specs.Sections.{heading_of_lem, horizon_heading, heading_tests}
-use Rattle.network.proofs.Strategy.{reaction-empty}
 use Rattle.line.specs.declared.Section.{Section}
 use Rattle.line.specs.declared.Section.TheVariants.{Events, Signals, Rules, Reactions, Cases}
 use Rattle.sheet.specs.Reading.{Progress, Go, stop_or, and_then, read_entries_lem, read_section_lem}
@@ -30,10 +27,9 @@ use Rattle.sheet.specs.Stage.{to_come, whole, Stage}
 use Rattle.std.specs.Prelude.{Ok, Err}
 use Rattle.sheet.proofs.ReadLine.{stop-not-go, go-same, came, went, entries-keep}
 use Rattle.sheet.proofs.Whole.{to_events, to_signals, to_rules, to_reactions, to_cases, within-length}
-use Rattle.sheet.proofs.Arrays.{arrays-empty}
 use Rattle.sheet.proofs.Passing.{counted}
 use Rattle.sheet.proofs.Stages.{stage_section, stage_absent}
-use Rattle.sheet.proofs.LabelStage.{label-empty}
+use Rattle.sheet.proofs.FirstStage.{stage_empty}
 use Rattle.sheet.proofs.EntriesLeft.{Before, stage_keeps}
 
 -- where a section may go on, the sheet is at this stage
@@ -41,28 +37,6 @@ abbrev pub Ready : List ℕ → ToCome → Progress → Type 0
 Ready sheet t p = (Γ : Network) (at k : ℕ) → p ≡ Go Γ at k → Stage sheet t Γ at k
 
 module _ (sheet : List ℕ) where
-  pub stage_empty : (h at k : ℕ) → h ≤ L.horizon → at ≤ length sheet → k ≤ suc at
-      → Stage sheet (whole Events) (empty h) at k
-  stage_empty h at k b i l = record {
-    forming = record {
-      horizon = b;
-      some_event = omega arith;
-      events = omega arith;
-      signals = omega arith;
-      rules = omega arith;
-      arrays = arrays-empty h;
-      observed = λ p q. absurd (omega arith);
-      one_signal = λ p q a c e. absurd (omega arith);
-      proper = λ c q. absurd (omega arith);
-      in_range_lem = λ p. omega (arith, reaction-empty h p);
-      lettered = λ u. rw (label-empty h u) (record { positive = omega arith; negative = omega arith });
-      labels = label-empty h;
-    };
-    named = record { inside = λ u q. absurd (omega arith); short = λ u q. absurd (omega arith) };
-    inside = i;
-    line = l;
-  }
-
   -- the sheet is ready for the events behind the horizon, and behind each section for the next
   pub horizon_ready : (p : Progress) → p ≡ read_horizon_lem sheet → Ready sheet (whole Events) p
   horizon_ready p i Γ at k e =
@@ -73,7 +47,7 @@ module _ (sheet : List ℕ) where
       let c = counted horizon_heading fs w.passed.accepted in
       let same = go-same (empty (second_number fs)) Γ (after_line sheet 0) at 2 k w.then in
       rw (← same.0, ← same.1, ← same.2)
-      (stage_empty (second_number fs) (after_line sheet 0) 2 c.most (line-inside sheet 0 w.passed.ends)
+      (stage_empty sheet (second_number fs) (after_line sheet 0) 2 c.most (line-inside sheet 0 w.passed.ends)
       (omega arith))
 
   pub section_ready : (s : Section) (p q : Progress) → q ≡ and_then p (read_section_lem sheet s)

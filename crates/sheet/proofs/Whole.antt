@@ -1,6 +1,6 @@
 -- The whole sheet by its length: what is too long is not read, and anything else is read section by section and then
 -- to its end. The last two sections may be absent. Assumes nothing.
-use mathlib.Core.Path.{◌≡◌, sym, ◌∙◌, ap}
+use mathlib.Core.Path.{◌≡◌, refl, sym, ◌∙◌, ap}
 use mathlib.Core.Logic.{inl, inr}
 use mathlib.Core.List.{List}
 use Prim.Native.Nat.{ℕ, ◌≤◌, ◌<◌}
@@ -14,7 +14,7 @@ use Rattle.refusal.specs.declared.Refusal.{Refusal}
 use Rattle.network.specs.declared.Network.{Network}
 use Rattle.line.specs.declared.Section.TheVariants.{Events, Signals, Rules, Reactions, Cases}
 use Rattle.sheet.specs.Reading.{longest, Progress, Stop, Go, and_then, read_horizon_lem, read_section_lem, read_end}
-use Rattle.sheet.specs.Reading.{read_optional_lem, progress}
+use Rattle.sheet.specs.Reading.{read_optional_lem, progress, answered, read}
 use Rattle.sheet.specs.declared.section.Reached.{Reached}
 use Rattle.sheet.proofs.ReadLine.{stop-not-go}
 
@@ -60,38 +60,50 @@ module _ (sheet : List ℕ) where
         | inr h ↦ (h, sym (in_length h) ∙ e)
       ]
 
--- one step of the reading behind another
-pub went_on : (p : Progress) (next : Network → ℕ → ℕ → Progress) (x : Reached) (q : Progress) → p ≡ Ok x
-    → next x.network x.at x.line ≡ q → and_then p next ≡ q
-went_on p next x q e f = ap (λ (r : Progress). and_then r next) e ∙ f
+-- the sections from one on give what the whole sheet does
+module _ (sheet : List ℕ) where
+  abbrev pub from_cases : Network → ℕ → ℕ → Progress
+  from_cases Γ at k = and_then (read_optional_lem sheet Cases Γ at k) (read_end sheet)
 
--- where one stops, the whole does
-module _ (sheet : List ℕ) (r : Refusal) where
-  pub stopped-horizon : read_horizon_lem sheet ≡ Err r → to_end sheet ≡ Err r
-  stopped-horizon e = rw e
+  abbrev pub from_reactions : Network → ℕ → ℕ → Progress
+  from_reactions Γ at k = and_then (read_optional_lem sheet Reactions Γ at k) from_cases
 
-  pub stopped_events : to_events sheet ≡ Err r → to_end sheet ≡ Err r
-  stopped_events e =
-      ap (λ (p : Progress). and_then (and_then (and_then (and_then (and_then p (read_section_lem sheet Signals))
-      (read_section_lem sheet Rules)) (read_optional_lem sheet Reactions)) (read_optional_lem sheet Cases))
-      (read_end sheet)) e
+  abbrev pub from_rules : Network → ℕ → ℕ → Progress
+  from_rules Γ at k = and_then (read_section_lem sheet Rules Γ at k) from_reactions
 
-  pub stopped_signals : to_signals sheet ≡ Err r → to_end sheet ≡ Err r
-  stopped_signals e =
-      ap (λ (p : Progress). and_then (and_then (and_then (and_then p (read_section_lem sheet Rules))
-      (read_optional_lem sheet Reactions)) (read_optional_lem sheet Cases)) (read_end sheet)) e
+  abbrev pub from_signals : Network → ℕ → ℕ → Progress
+  from_signals Γ at k = and_then (read_section_lem sheet Signals Γ at k) from_rules
 
-  pub stopped_rules : to_rules sheet ≡ Err r → to_end sheet ≡ Err r
-  stopped_rules e =
-      ap (λ (p : Progress). and_then (and_then (and_then p (read_optional_lem sheet Reactions))
-      (read_optional_lem sheet Cases)) (read_end sheet)) e
+  abbrev pub from_events : Network → ℕ → ℕ → Progress
+  from_events Γ at k = and_then (read_section_lem sheet Events Γ at k) from_signals
 
-  pub stopped_reactions : to_reactions sheet ≡ Err r → to_end sheet ≡ Err r
-  stopped_reactions e =
-      ap (λ (p : Progress). and_then (and_then p (read_optional_lem sheet Cases)) (read_end sheet)) e
+  -- two steps behind a third, as one
+  joined : (p : Progress) (f g : Network → ℕ → ℕ → Progress)
+      → and_then (and_then p f) g ≡ and_then p (λ Γ at k. and_then (f Γ at k) g)
+  joined (Err r) f g = refl
+  joined (Ok x) f g = refl
 
-  pub stopped_cases : to_cases sheet ≡ Err r → to_end sheet ≡ Err r
-  stopped_cases e = ap (λ (p : Progress). and_then p (read_end sheet)) e
+  pub begun : length sheet ≤ longest → read sheet ≡ answered (and_then (read_horizon_lem sheet) from_events)
+  begun h =
+      ap answered (in_length sheet h
+      ∙ joined (to_reactions sheet) (read_optional_lem sheet Cases) (read_end sheet)
+      ∙ joined (to_rules sheet) (read_optional_lem sheet Reactions) from_cases
+      ∙ joined (to_signals sheet) (read_section_lem sheet Rules) from_reactions
+      ∙ joined (to_events sheet) (read_section_lem sheet Signals) from_rules
+      ∙ joined (read_horizon_lem sheet) (read_section_lem sheet Events) from_signals)
+
+-- behind a place, these steps give what the whole sheet does
+abbrev pub Leads : List ℕ → (List ℕ → Network → ℕ → ℕ → Progress) → Reached → Type 0
+Leads sheet next x = read sheet ≡ answered (next sheet x.network x.at x.line)
+
+-- where a step goes on, so does the whole sheet; and where it stops, the whole does
+module _ (sheet : List ℕ) {p : Progress} (next : List ℕ → Network → ℕ → ℕ → Progress)
+    (is : read sheet ≡ answered (and_then p (next sheet))) where
+  pub went_on : {x : Reached} → Ok x ≡ p → Leads sheet next x
+  went_on e = is ∙ ap (λ (q : Progress). answered (and_then q (next sheet))) (sym e)
+
+  pub stopped : {r : Refusal} → Err r ≡ p → read sheet ≡ Err r
+  stopped e = is ∙ ap (λ (q : Progress). answered (and_then q (next sheet))) (sym e)
 
 -- the end of the sheet
 module _ (sheet : List ℕ) (Γ : Network) (at k : ℕ) where

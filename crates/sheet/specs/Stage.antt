@@ -27,6 +27,14 @@ whole Rules = to_come Rules L.rules
 whole Reactions = to_come Reactions 0
 whole Cases = to_come Reactions 0
 
+-- the sections that a sheet may end before
+abbrev pub MayBeAbsent : Section → Type 0
+MayBeAbsent Events = ⊥
+MayBeAbsent Signals = ⊥
+MayBeAbsent Rules = ⊥
+MayBeAbsent Reactions = Unit {0}
+MayBeAbsent Cases = Unit {0}
+
 -- the next line is line k and begins at this place of the sheet
 pub record Stage (sheet : List ℕ) (t : ToCome) (Γ : Network) (at k : ℕ) : Type 0 where
   pub forming : Forming t Γ

@@ -10,6 +10,7 @@ use line::Section;
 use network::accepted::Accepted;
 use network::formed::Formed;
 use refusal::{Cause, Refusal};
+use section::Reader;
 
 // The most bytes of a sheet.
 pub const LONGEST: usize = 4096;
@@ -22,12 +23,13 @@ pub fn read(sheet: &[u8]) -> Result<Accepted<'_>, Refusal>
     if LONGEST < sheet.len() {
         return Err(Refusal::without_line(Cause::TooLong));
     }
+    let reader = Reader { sheet };
     let horizon = section::read_horizon(sheet)?;
-    let events = section::read_section(Section::Events, sheet, horizon)?;
-    let signals = section::read_section(Section::Signals, sheet, events)?;
-    let rules = section::read_section(Section::Rules, sheet, signals)?;
-    let reactions = section::read_optional(Section::Reactions, sheet, rules)?;
-    let cases = section::read_optional(Section::Cases, sheet, reactions)?;
+    let events = reader.read_section(Section::Events, &sheet[horizon.at..], horizon)?;
+    let signals = reader.read_section(Section::Signals, &sheet[events.at..], events)?;
+    let rules = reader.read_section(Section::Rules, &sheet[signals.at..], signals)?;
+    let reactions = reader.read_optional(Section::Reactions, &sheet[rules.at..], rules)?;
+    let cases = reader.read_optional(Section::Cases, &sheet[reactions.at..], reactions)?;
     if cases.at < sheet.len() {
         return Err(Refusal::at(Cause::TrailingBytes, cases.line));
     }

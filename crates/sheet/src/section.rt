@@ -1,10 +1,10 @@
 // The sections of a sheet: a section's line, and then so many lines.
-ghost use Rattle.std.specs.Prelude.{◌≡◌, ◌≤◌, length};
+ghost use Rattle.std.specs.Prelude.{◌≡◌, true, ◌≤◌, IfOk, MatchResult, Ok, Err, length, drop};
 ghost use Rattle.line.specs.Sections.{added};
 ghost use Rattle.line.specs.Answers.{passing};
-ghost use Rattle.sheet.specs.Reading.{longest, on_line, read_entries_lem, read_section_lem, read_horizon_lem};
-ghost use Rattle.sheet.specs.Reading.{read_optional_lem};
-ghost use Rattle.sheet.specs.Stage.{Stage, to_come, whole};
+ghost use Rattle.line.specs.declared.Section.TheVariants.{Events};
+ghost use Rattle.sheet.specs.Reading.{longest, on_line, read_horizon_lem};
+ghost use Rattle.sheet.specs.Stage.{Stage, whole};
 ghost use Rattle.sheet.specs.Turn.{Room, Testable, tests_behind};
 
 use line::entry::Entry;
@@ -64,50 +64,21 @@ fn add(network: &mut Network, entry: Entry, at: usize, length: usize)
     }
 }
 
-// With the last label all of them are tested.
-fn test_behind(entry: Entry, last: bool, network: &Network) -> Result<(), Cause>
+// Behind the last line of a section: with the last label all of them are tested.
+fn test_behind(entry: Entry, network: &Network) -> Result<(), Cause>
     requires { Testable entry network.now }
-    ensures { result ≡ passing (tests_behind entry last network.now) tt }
+    ensures { result ≡ passing (tests_behind entry true network.now) tt }
 {
     match entry {
-        Entry::Label { .. } if last => whole::whole_of(network),
+        Entry::Label { .. } => whole::whole_of(network),
         _ => Ok(()),
     }
 }
 
-// So many lines of a section.
-fn read_entries(
-    section: Section,
-    sheet: &[u8],
-    mut reached: Reached,
-    count: usize,
-) -> Result<Reached, Refusal>
-    requires { (length sheet.now ≤ longest) × Stage sheet.now (to_come section count) reached.network reached.at
-        reached.line }
-    ensures { result ≡ read_entries_lem sheet.now section count reached.network reached.at reached.line }
-{
-    for done in 0..count {
-        let place = reached.at;
-        let number = reached.line;
-        let defined = Defined {
-            sheet,
-            network: &reached.network,
-        };
-        let line = on_line(number, entry::entry_at(section, &sheet[place..], &defined))?;
-        add(&mut reached.network, line.entry, place, line.length);
-        on_line(
-            number,
-            test_behind(line.entry, done + 1 == count, &reached.network),
-        )?;
-        reached.at = place + line.length + 1;
-        reached.line = number + 1;
-    }
-    Ok(reached)
-}
-
 // The first line.
 pub(crate) fn read_horizon(sheet: &[u8]) -> Result<Reached, Refusal>
-    ensures { result ≡ read_horizon_lem sheet.now }
+    ensures read { result ≡ read_horizon_lem sheet.now }
+    ensures stage { IfOk result (λ r. Stage sheet.now (whole Events) r.network r.at r.line) }
 {
     let line = on_line(
         1,
@@ -120,36 +91,91 @@ pub(crate) fn read_horizon(sheet: &[u8]) -> Result<Reached, Refusal>
     })
 }
 
-// A section that begins here.
-pub(crate) fn read_section(
-    section: Section,
-    sheet: &[u8],
-    reached: Reached,
-) -> Result<Reached, Refusal>
-    requires { (length sheet.now ≤ longest) × Stage sheet.now (whole section) reached.network reached.at reached.line }
-    ensures { result ≡ read_section_lem sheet.now section reached.network reached.at reached.line }
-{
-    let read = heading::heading_of(section, reached.network.events, &sheet[reached.at..]);
-    let line = on_line(reached.line, read)?;
-    let behind = Reached {
-        network: reached.network,
-        at: reached.at + line.length + 1,
-        line: reached.line + 1,
-    };
-    read_entries(section, sheet, behind, usize::from(line.count))
+// A sheet that is short enough to be read. A section's reader gets what is left of it, from the section's line on, and
+// the whole, of which the names of events are parts.
+#[derive(Clone, Copy)]
+pub(crate) struct Reader<'a> {
+    pub sheet: &'a [u8],
+    pub ghost short: { length sheet.now ≤ longest },
 }
 
-// A section that may be absent: it is there where any byte follows.
-pub(crate) fn read_optional(
-    section: Section,
-    sheet: &[u8],
-    reached: Reached,
-) -> Result<Reached, Refusal>
-    requires { (length sheet.now ≤ longest) × Stage sheet.now (whole section) reached.network reached.at reached.line }
-    ensures { result ≡ read_optional_lem sheet.now section reached.network reached.at reached.line }
-{
-    if sheet.len() <= reached.at {
-        return Ok(reached);
+impl Reader<'_> {
+    ghost use Rattle.sheet.specs.Reading.{read_entries_lem, read_section_lem, read_optional_lem};
+    ghost use Rattle.sheet.specs.Stage.{MayBeAbsent, to_come};
+
+    // So many lines of a section.
+    fn read_entries(
+        &self,
+        section: Section,
+        reached: &mut Reached,
+        count: usize,
+    ) -> Result<(), Refusal>
+        requires { Stage self.now.sheet.now (to_come section count) reached.old.network reached.old.at
+            reached.old.line }
+        ensures { MatchResult result
+            (λ _. (read_entries_lem self.now.sheet.now section count reached.old.network reached.old.at
+            reached.old.line ≡ Ok reached.new)
+            × Stage self.now.sheet.now (to_come section 0) reached.new.network reached.new.at reached.new.line)
+            (λ r. read_entries_lem self.now.sheet.now section count reached.old.network reached.old.at
+            reached.old.line ≡ Err r) }
+    {
+        for done in 0..count {
+            let place = reached.at;
+            let number = reached.line;
+            let defined = Defined {
+                sheet: self.sheet,
+                network: &reached.network,
+            };
+            let line = on_line(
+                number,
+                entry::entry_at(section, &self.sheet[place..], &defined),
+            )?;
+            add(&mut reached.network, line.entry, place, line.length);
+            let last = done + 1 == count;
+            if last {
+                on_line(number, test_behind(line.entry, &reached.network))?;
+            }
+            reached.at = place + line.length + 1;
+            reached.line = number + 1;
+        }
+        Ok(())
     }
-    read_section(section, sheet, reached)
+
+    // A section, with what is left of the sheet.
+    pub(crate) fn read_section(
+        &self,
+        section: Section,
+        left: &[u8],
+        mut reached: Reached,
+    ) -> Result<Reached, Refusal>
+        requires { (left.now ≡ drop reached.at self.now.sheet.now)
+            × Stage self.now.sheet.now (whole section) reached.network reached.at reached.line }
+        ensures read { result ≡ read_section_lem self.now.sheet.now section reached.network reached.at reached.line }
+        ensures stage { IfOk result (λ r. Stage self.now.sheet.now (to_come section 0) r.network r.at r.line) }
+    {
+        let read = heading::heading_of(section, reached.network.events, left);
+        let line = on_line(reached.line, read)?;
+        reached.at += line.length + 1;
+        reached.line += 1;
+        self.read_entries(section, &mut reached, usize::from(line.count))?;
+        Ok(reached)
+    }
+
+    // A section that may be absent: it is there where any byte is left.
+    pub(crate) fn read_optional(
+        &self,
+        section: Section,
+        left: &[u8],
+        reached: Reached,
+    ) -> Result<Reached, Refusal>
+        requires { MayBeAbsent section × (left.now ≡ drop reached.at self.now.sheet.now)
+            × Stage self.now.sheet.now (whole section) reached.network reached.at reached.line }
+        ensures read { result ≡ read_optional_lem self.now.sheet.now section reached.network reached.at reached.line }
+        ensures stage { IfOk result (λ r. Stage self.now.sheet.now (to_come section 0) r.network r.at r.line) }
+    {
+        if left.is_empty() {
+            return Ok(reached);
+        }
+        self.read_section(section, left, reached)
+    }
 }

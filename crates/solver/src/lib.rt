@@ -11,7 +11,7 @@ ghost use Rattle.solver.specs.Solved.{SolvedIs};
 ghost use Rattle.solver.specs.Run.{RunIs, Onward};
 
 use bounds::list::BoundList;
-use guess::{Next, Pace, Turn, Watch};
+use guess::{Next, Pace, Watch};
 use leap::pace;
 use leap::pass::Stretch;
 use network::Network;
@@ -34,18 +34,25 @@ pub enum End {
 }
 
 // How a run ended, and after how many rounds. A turn makes one round, and may pass over others.
-#[derive(Clone, Copy)]
+#[derive(Clone, Copy, PartialEq, Eq)]
 pub struct Ended {
     pub end: End,
     pub rounds: u32,
     pub turns: u32,
 }
 
-// More rounds than any run takes: one more than the cells have room for.
+// More rounds than any run takes: one more than the cells have room for. (By casts, since `From` can't be called in a
+// constant.)
 pub const BUDGET: u32 = Network::CELLS as u32 * Network::HORIZON as u32 + 1;
 
 // Does what is to be done after a turn, and says how many rounds that passed over, of those that are left.
-fn pursue(stretch: &mut Stretch<'_>, next: Next, watch: &mut Watch, turns: u32, left: u32) -> u32
+fn pursue(
+    stretch: &mut Stretch<'_, '_>,
+    next: Next,
+    watch: &mut Watch,
+    turns: u32,
+    left: u32,
+) -> u32
     ensures { (result ≤ left) × (stretch.new.compiled.now ≡ stretch.old.compiled.now)
         × Onward stretch.old.compiled.now.frame.network stretch.old.base stretch.new.base stretch.old.rounds
         stretch.new.rounds result }
@@ -69,25 +76,25 @@ pub fn run(compiled: &Compiled, a: &mut Table, budget: u32) -> Ended
     requires { Times compiled.now.frame.network a.old }
     ensures { (length a.new ≡ L.cells) × RunIs compiled.now.frame.network budget a.old a.new result }
 {
-    let cells = compiled.frame.cells();
-    let mut stretch = Stretch::new(compiled, a);
-    let mut b = [0; Network::CELLS];
+    let mut floor = *a;
+    let mut other = [0; Network::CELLS];
+    let mut stretch = Stretch::new(compiled, &mut floor, &mut other);
     let mut watch = Watch::new();
     let mut pace = Pace::new();
     let mut turns: u32 = 0;
     let mut rounds: u32 = 0;
-    // no plain count: a turn may pass over rounds
+    // No plain count, since a turn may pass over rounds.
     while rounds < budget {
         rounds += 1;
         turns += 1;
-        match compiled.round(&stretch.now, &mut b) {
+        match stretch.round() {
             Effect::Passes => return Ended {
                 end: End::Passes,
                 rounds,
                 turns,
             },
             Effect::Rests => {
-                *a = stretch.now;
+                *a = *stretch.table();
                 return Ended {
                     end: End::Rests,
                     rounds,
@@ -96,19 +103,16 @@ pub fn run(compiled: &Compiled, a: &mut Table, budget: u32) -> Ended
             }
             Effect::Rises => {}
         }
-        let turn = Turn {
-            number: turns,
-            before: &stretch.now[..cells],
-            after: &b[..cells],
-        };
-        let next = watch.after(&turn, rounds, stretch.rounds + 1);
+        let turn = stretch.turn(turns);
+        let next = watch.see(&turn, rounds, stretch.rounds + 1);
         let period = pace.follow(&turn);
-        stretch.advance(&b);
+        stretch.advance();
         rounds += pursue(&mut stretch, next, &mut watch, turns, budget - rounds);
+        // Two tests, since with `and_then` and a closure no proof was made of this loop.
         if let Some(p) = period {
             if let Some(last) = pace::finish(
                 compiled,
-                &stretch.now,
+                stretch.table(),
                 &pace.since,
                 p,
                 budget - rounds,
@@ -121,7 +125,7 @@ pub fn run(compiled: &Compiled, a: &mut Table, budget: u32) -> Ended
             }
         }
     }
-    *a = stretch.now;
+    *a = *stretch.table();
     Ended {
         end: End::Spent,
         rounds,

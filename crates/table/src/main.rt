@@ -9,7 +9,7 @@ fn main(rt: HostRuntime) -> io::Result<()> {
     let mut table = [0u16; opening::TABLE_MINUTES];
     let n = files::read_full(&mut rt.stdin(), &mut sheet)?;
     match report::solve(&rt, "", &sheet[..n], &mut table)? {
-        Some(minutes) => report::list(&rt, "", &sheet[..n], &table[..minutes]),
+        Some(minutes) => report::print_listing(&rt, "", &sheet[..n], &table[..minutes]),
         None => Ok(()),
     }
 }

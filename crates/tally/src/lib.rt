@@ -35,32 +35,30 @@ impl Count {
 fn sum_of(t: &Table) -> u32 {
     let mut one: u32 = 0;
     let mut two: u32 = 0;
-    for time in t {
-        one = one.wrapping_add(u32::from(*time));
+    for &time in t {
+        one = one.wrapping_add(u32::from(time));
         two = two.wrapping_add(one);
     }
     two
 }
 
+// By the solver's run.
 fn by_leaps(compiled: &Compiled) -> Count {
     let mut a = [0; Network::CELLS];
     let ended = solver::run(compiled, &mut a, BUDGET);
     Count {
         rounds: ended.rounds,
         turns: ended.turns,
-        sum: match ended.end {
-            End::Rests => Some(sum_of(&a)),
-            End::Passes | End::Spent => None,
-        },
+        sum: (ended.end == End::Rests).then(|| sum_of(&a)),
     }
 }
 
+// By plain rounds, one after another.
 fn by_rounds(compiled: &Compiled) -> Count {
     let cells = compiled.frame.cells();
     let mut a = [0; Network::CELLS];
     let mut b = [0; Network::CELLS];
-    for made in 0..BUDGET {
-        let rounds = made + 1;
+    for rounds in 1..=BUDGET {
         match compiled.round(&a, &mut b) {
             Effect::Passes => return Count {
                 rounds,
@@ -90,13 +88,19 @@ fn compiled<'a>(sheet: &[u8], lists: &'a mut Lists) -> Option<Compiled<'a>>
     Some(Compiled::of(&accepted.formed, lists))
 }
 
+// Three calls for C. Each makes the lists itself, since what is compiled borrows them.
+
+// Rounds and sum by the solver's run.
 #[unsafe(no_mangle)]
+#[tactic(auto, using(bounds::proofs::Listed::empty_lists))]
 pub extern "C" fn tally_leaping(sheet: &[u8]) -> u64 {
     let mut lists = [BoundList::empty(); Network::CASES];
     compiled(sheet, &mut lists).map_or(0, |compiled| by_leaps(&compiled).answer())
 }
 
+// Rounds and sum by plain rounds.
 #[unsafe(no_mangle)]
+#[tactic(auto, using(bounds::proofs::Listed::empty_lists))]
 pub extern "C" fn tally_plain(sheet: &[u8]) -> u64 {
     let mut lists = [BoundList::empty(); Network::CASES];
     compiled(sheet, &mut lists).map_or(0, |compiled| by_rounds(&compiled).answer())
@@ -104,6 +108,7 @@ pub extern "C" fn tally_plain(sheet: &[u8]) -> u64 {
 
 // How many rounds the leaping run made one by one.
 #[unsafe(no_mangle)]
+#[tactic(auto, using(bounds::proofs::Listed::empty_lists))]
 pub extern "C" fn tally_turns(sheet: &[u8]) -> u64 {
     let mut lists = [BoundList::empty(); Network::CASES];
     compiled(sheet, &mut lists).map_or(0, |compiled| u64::from(by_leaps(&compiled).turns))

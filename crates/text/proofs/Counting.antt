@@ -6,30 +6,22 @@ use mathlib.Core.Bool.{true, not}
 use mathlib.Core.List.{List, [], ◌∷◌, ◌++◌}
 use Prim.Native.Nat.{ℕ, ◌+◌, ◌*◌, ◌≤◌, ◌<◌}
 use native.Mathlib.Nat.{add-mul, mul_assoc, mul_left_comm}
-use native.Mathlib.Numerals.{add-one}
 use native.Mathlib.Omega.{arith}
 use borrow.Author.Tests.{eqb-false, ne_eqb, not-true}
 use lib.Dec.{eqb}
-use lib.ListN.{length, get_or, take, set, length-set}
-use lib.Seq.{length-take-le, take-suc-set}
+use lib.ListN.{length, get_or, length-append}
 use Rattle.prelude.specs.Bytes.{every}
 use Rattle.prelude.proofs.Tests.{and-true, and_both}
 use Rattle.text.specs.Number.{is_digit, is_natural, value_from}
 use Rattle.text.specs.Decimal.{decimal}
 use Rattle.text.specs.Spelled.{DigitsAre}
 use Rattle.text.specs.Places.{CountedOff, no_leading_zero, made, PlacesAre, Placed}
-use Rattle.text.specs.declared.Counted.{Counted}
-use Rattle.text.specs.declared.Places.{Places}
+use Rattle.text.specs.declared.digits.Weighed.{Weighed}
 use Rattle.text.proofs.Decimal.{decimal_digit}
 use Rattle.text.proofs.RoundTrip.{value_from-append, every_append, last-digit}
 use Rattle.text.proofs.RoundTrip.{is_natural-first, is_natural-decimal, decimal-value_from}
 
--- a digit put behind those that stand in front
-text-more : (bytes : List ℕ) (count d : ℕ) → length bytes ≡ 5 → count < 5
-    → take (count + 1) (set bytes count (48 + d)) ≡ take count bytes ++ (48 + d) ∷ []
-text-more bytes count d sized room = rw add-one (take-suc-set bytes count (48 + d) (omega arith))
-
--- what it makes of the value, and of digits without a leading zero
+-- what a digit put behind others makes of their value, and of digits without a leading zero
 value-more : (s : List ℕ) (d : ℕ) → value_from 0 (s ++ (48 + d) ∷ []) ≡ 10 * value_from 0 s + d
 value-more s d = value_from-append 0 s ((48 + d) ∷ []) ∙ omega arith
 
@@ -60,40 +52,27 @@ natural_more (b ∷ s) d h e =
 made_more : (v d w l k : ℕ) → d * w + l ≡ k → (10 * v + d) * w + l ≡ v * (10 * w) + k
 made_more v d w l k e = omega (arith, add-mul (10 * v) d w, mul_assoc 10 v w, mul_left_comm v 10 w)
 
-module _ (w : ℕ) (bytes : List ℕ) (p : Places) (c : Counted) (above : PlacesAre (10 * w) bytes p)
-    (off : CountedOff p.left w c) where
+module _ (w : ℕ) (s : List ℕ) (above : ℕ) (c : Weighed) (are : PlacesAre (10 * w) s above)
+    (off : CountedOff above w c) where
   -- the digit is put behind those above
-  pub place_one : p.count < 5 → (c.digit ≡ 0 → p.count ≡ 0 → ⊥)
-      → Placed w bytes p (set bytes p.count (48 + c.digit)) (record { count = p.count + 1; left = c.left })
-  place_one room n =
-      let s = take p.count bytes in
+  pub place_one : (c.digit ≡ 0 → length s ≡ 0 → ⊥) → Placed w s above (s ++ (48 + c.digit) ∷ []) c.left
+  place_one n =
       let d = c.digit in
-      let text = text-more bytes p.count d above.sized room in
-      let front = length-take-le p.count bytes (omega (arith, above.sized)) in
       record {
-        are =
-            record {
-              sized = length-set bytes p.count (48 + d) ∙ above.sized;
-              leading = rw text (leading-more s d off.most (λ z e. n z (sym front ∙ e)) above.leading);
-              rest = off.rest;
-            };
-        kept = rw (text, value-more s d) (made_more (value_from 0 s) d w c.left p.left off.whole);
-        few = omega arith;
+        are = record { leading = leading-more s d off.most n are.leading; rest = off.rest };
+        kept = rw (value-more s d) (made_more (value_from 0 s) d w c.left above off.whole);
+        few = omega (arith, length-append s ((48 + d) ∷ []));
       }
 
 -- the ones are what the tens leave
-pub digits_last : (v : ℕ) (bytes : List ℕ) (p : Places) → made 10 bytes p ≡ v → PlacesAre 10 bytes p → p.count < 5
-    → DigitsAre v (record { bytes = set bytes p.count (48 + p.left); count = p.count + 1 })
-digits_last v bytes p e tens room =
-    let s = take p.count bytes in
-    let d = p.left in
-    let written = s ++ (48 + d) ∷ [] in
-    let value : value_from 0 written ≡ v = omega (arith, value-more s d) in
+pub digits_last : (v : ℕ) (s : List ℕ) (left : ℕ) → made 10 s left ≡ v → PlacesAre 10 s left → length s < 5
+    → DigitsAre v (s ++ (48 + left) ∷ [])
+digits_last v s left e tens room =
+    let written = s ++ (48 + left) ∷ [] in
+    let value : value_from 0 written ≡ v = omega (arith, value-more s left) in
     record {
-      few = omega arith;
-      sized = length-set bytes p.count (48 + d) ∙ tens.sized;
+      few = omega (arith, length-append s ((48 + left) ∷ []));
       text =
-          text-more bytes p.count d tens.sized room
-          ∙ sym (decimal-value_from written (natural_more s d (omega (arith, tens.rest)) tens.leading))
+          sym (decimal-value_from written (natural_more s left (omega (arith, tens.rest)) tens.leading))
           ∙ ap decimal value;
     }

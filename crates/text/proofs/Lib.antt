@@ -7,7 +7,6 @@ pub mod Splitting
 pub mod ReadNumber
 pub mod ReadAs
 pub mod Decimal
-pub mod Spelled
 pub mod RoundTrip
 pub mod Counting
 pub mod Numbers

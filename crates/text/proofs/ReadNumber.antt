@@ -1,18 +1,19 @@
 -- Laws of numbers as they are read: digit by digit (`digits_hit`), and by the sign (`number_..`). Assumes nothing.
-use mathlib.Core.Path.{◌≡◌, ◌∙◌, ap}
+use mathlib.Core.Path.{◌≡◌}
 use mathlib.Core.Logic.{inl, inr}
-use mathlib.Core.Bool.{true, false, and-true, and-false}
+use mathlib.Core.Bool.{true, false, ◌&&◌, and-true, and-false}
 use mathlib.Core.List.{List, [], ◌∷◌}
 use Prim.Native.Nat.{ℕ, ◌+◌, ◌-◌, ◌*◌, ◌≤◌, ◌<◌}
 use native.Mathlib.Omega.{arith}
-use borrow.Author.Tests.{eq-eqb, ne_eqb, le-leb}
+use borrow.Author.Tests.{le-leb}
+use lib.Dec.{eqb}
 use lib.ListN.{length, get_or, drop}
-use Rattle.std.specs.Prelude.{Option, Some, None}
+use Rattle.std.specs.Prelude.{Option, None}
+use Rattle.std.specs.Option.{option_map}
 use Rattle.prelude.specs.Bytes.{every}
-use Rattle.prelude.proofs.Tests.{either, lt_or_ge, eq_or_ne}
+use Rattle.prelude.proofs.Tests.{either, lt_or_ge}
 use Rattle.text.specs.Number.{is_digit, is_natural, value_from, is_number, is_negative}
 use Rattle.text.specs.ReadNumber.{capped, sized, read_natural_lem, read_number_lem}
-use Rattle.text.specs.declared.Number.{Number}
 use Rattle.text.specs.declared.Number.TheVariants.{Plus, Minus}
 use Rattle.text.proofs.Lines.{drop_here}
 
@@ -44,30 +45,18 @@ module _ (most : ℕ) where
         → digits_from v (drop i s) ≡ digits_from (capped most (10 * v + (get_or s i 0 - 48))) (drop (i + 1) s)
     digits_hit h l g = rw (drop_here s i h, is_digit-true (get_or s i 0) l g, capped-from)
 
-abbrev pub plus : Option ℕ → Option Number
-plus None = None
-plus (Some v) = Some (Plus v)
-
-abbrev pub minus : Option ℕ → Option Number
-minus None = None
-minus (Some v) = Some (Minus v)
-
 module _ (most : ℕ) (f : List ℕ) where
-  pub number_plus : is_negative f ≡ false → read_number_lem most f ≡ plus (read_natural_lem most f)
+  pub minus_zero : is_negative f && eqb (get_or f 1 0) 48 ≡ true → read_number_lem most f ≡ None
   unfolding read_number_lem is_number
-  number_plus n = rw (n, and-true) (elim (either (is_natural f)) [ inl t ↦ rw t | inr t ↦ rw t ])
+  minus_zero e = rw (e, and-false)
 
-  pub number_minus_zero : is_negative f ≡ true → get_or f 1 0 ≡ 48 → read_number_lem most f ≡ None
-  unfolding read_number_lem is_number
-  number_minus_zero e z = rw (e, eq-eqb (get_or f 1 0) 48 z, and-false)
+  module _ (n : is_negative f && eqb (get_or f 1 0) 48 ≡ false) where
+    pub number_minus : is_negative f ≡ true
+        → read_number_lem most f ≡ option_map (λ v. Minus v) (read_natural_lem most (drop 1 f))
+    unfolding read_number_lem is_number
+    number_minus e = rw (n, e, and-true) (elim (either (is_natural (drop 1 f))) [ inl t ↦ rw t | inr t ↦ rw t ])
 
-  pub number_minus : is_negative f ≡ true → (get_or f 1 0 ≡ 48 → ⊥)
-      → read_number_lem most f ≡ minus (read_natural_lem most (drop 1 f))
-  unfolding read_number_lem is_number
-  number_minus e n =
-      rw (e, ne_eqb (get_or f 1 0) 48 n, and-true)
-      (elim (either (is_natural (drop 1 f))) [ inl t ↦ rw t | inr t ↦ rw t ])
-
-  pub number_minus_ill : is_negative f ≡ true → read_natural_lem most (drop 1 f) ≡ None → read_number_lem most f ≡ None
-  number_minus_ill e i =
-      elim (eq_or_ne (get_or f 1 0) 48) [ inl z ↦ number_minus_zero e z | inr n ↦ number_minus e n ∙ ap minus i ]
+    pub number_plus : is_negative f ≡ false
+        → read_number_lem most f ≡ option_map (λ v. Plus v) (read_natural_lem most f)
+    unfolding read_number_lem is_number
+    number_plus e = rw (n, e, and-true) (elim (either (is_natural f)) [ inl t ↦ rw t | inr t ↦ rw t ])

@@ -9,8 +9,8 @@ use native.Mathlib.Omega.{arith}
 use lib.ListN.{length, get_or, take, drop, set, length-set}
 use lib.Seq.{get_or-set_same, get_or-set_other}
 use Rattle.prelude.proofs.Tests.{eq_or_ne}
-use Rattle.text.specs.Lines.{comma, fields, field}
-use Rattle.text.specs.Cuts.{end_of, start_of, EndsAre}
+use Rattle.text.specs.Lines.{comma, fields}
+use Rattle.text.specs.Cuts.{end_of, start_of, EndsAre, FieldIs}
 use Rattle.text.proofs.Lines.{drop_here, drop-end}
 use Rattle.text.proofs.Fields.{fields-comma, fields_byte, length-into_first, end_of_into_first}
 use Rattle.text.proofs.Fields.{1-le-fields, end_of_is, end_of_le, field-part}
@@ -110,8 +110,8 @@ module _ {n : ℕ} {l ends : List ℕ} (w : EndsAre n l ends) {k : ℕ} (h : k <
   pub start_le : start_of k (fields l) ≤ get_or ends k 0
   start_le = rw end_is (omega (arith, end_of_is k (fields l) known))
 
-  pub field_is : (a : ℕ) → a ≡ start_of k (fields l) → take (get_or ends k 0 - a) (drop a l) ≡ field k (fields l)
-  field_is a e = rw (e, end_is) (sym (field-part k l known))
+  pub field_is : (a : ℕ) → a ≡ start_of k (fields l) → FieldIs l k (take (get_or ends k 0 - a) (drop a l))
+  field_is a e = record { is = rw (e, end_is) (sym (field-part k l known)); part = rw (e, end_is) }
 
 -- a field but the first begins one past the end of the field before
 pub start_is : {n : ℕ} {l ends : List ℕ} → EndsAre n l ends → {k : ℕ} → k < n → (k ≡ 0 → ⊥)

@@ -1,9 +1,9 @@
 -- Where the fields of a line stand: "a field is handed back as the part of the sheet between its commas" (01, The
 -- sheet).
-use Rattle.std.specs.Prelude.{◌≡◌, List, [], ◌∷◌, ℕ, zero, suc, ◌+◌, ◌<◌, length, get_or}
-use Rattle.text.specs.Lines.{fields}
+use Rattle.std.specs.Prelude.{◌≡◌, List, [], ◌∷◌, ℕ, zero, suc, ◌+◌, ◌-◌, ◌<◌, length, get_or, take, drop}
+use Rattle.text.specs.Lines.{fields, field}
 
--- where field k ends: behind its own bytes, and the bytes and the comma of each field before it
+-- where field k ends in its line: behind its own bytes, and the bytes and the comma of each field before it
 abbrev pub end_of : ℕ → List (List ℕ) → ℕ
 end_of k [] = 0
 end_of zero (f ∷ fs) = length f
@@ -19,3 +19,8 @@ pub record EndsAre (n : ℕ) (l ends : List ℕ) : Type 0 where
   pub counted : length (fields l) ≡ n
   pub sized : length ends ≡ n
   pub ended : (k : ℕ) → k < n → get_or ends k 0 ≡ end_of k (fields l)
+
+-- r is field k of l, as the part of l from its start to its end
+pub record FieldIs (l : List ℕ) (k : ℕ) (r : List ℕ) : Type 0 where
+  pub is : r ≡ field k (fields l)
+  pub part : r ≡ take (end_of k (fields l) - start_of k (fields l)) (drop (start_of k (fields l)) l)

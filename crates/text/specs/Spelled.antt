@@ -1,9 +1,7 @@
--- Digits in an array: the first of its bytes are a number as it is written.
-use Rattle.std.specs.Prelude.{◌≡◌, ℕ, ◌≤◌, length, take}
+-- Digits that are a number as it is written.
+use Rattle.std.specs.Prelude.{◌≡◌, List, ℕ, ◌≤◌, length}
 use Rattle.text.specs.Decimal.{decimal}
-use Rattle.text.specs.declared.Digits.{Digits}
 
-pub record DigitsAre (v : ℕ) (r : Digits) : Type 0 where
-  pub few : r.count ≤ 5
-  pub sized : length r.bytes ≡ 5
-  pub text : take r.count r.bytes ≡ decimal v
+pub record DigitsAre (v : ℕ) (digits : List ℕ) : Type 0 where
+  pub few : length digits ≤ 5
+  pub text : digits ≡ decimal v

@@ -1,7 +1,7 @@
 // A line by its fields.
 ghost use Rattle.std.specs.Prelude.{◌≡◌, ◌≢◌, ◌<◌, length, MatchOption};
-ghost use Rattle.text.specs.Lines.{fields, field};
-ghost use Rattle.text.specs.Cuts.{EndsAre};
+ghost use Rattle.text.specs.Lines.{fields};
+ghost use Rattle.text.specs.Cuts.{EndsAre, FieldIs};
 
 // A line of exactly N fields, and where each ends. (An array of the fields themselves, as references, gets no proof.)
 #[derive(Clone, Copy)]
@@ -18,8 +18,8 @@ impl<'a, const N: usize> Fields<'a, N> {
     {
         let mut ends = [0; N];
         let mut count = 0;
-        for i in 0..line.len() {
-            if line[i] == b',' {
+        for (i, &b) in line.iter().enumerate() {
+            if b == b',' {
                 if count == N {
                     return None;
                 }
@@ -34,10 +34,10 @@ impl<'a, const N: usize> Fields<'a, N> {
         Some(Fields { line, ends })
     }
 
-    // Field k, as a part of the line.
+    // Field k, as the part of the line from where it starts to where it ends.
     pub fn at(&self, k: usize) -> &'a [u8]
         requires { k < N }
-        ensures { result.now ≡ field k (fields self.now.line.now) }
+        ensures { FieldIs self.now.line.now k result.now }
     {
         let end = self.ends[k];
         if k == 0 {

@@ -1,5 +1,5 @@
--- Read in this order: a rule as upper bounds; which of them remain; how these are computed; a bound as a number; lists
--- in arrays.
+-- Read in this order: a rule as upper bounds; which of them remain; how these are computed; a bound as a number; what
+-- fits a sheet.
 pub mod Upper
 pub mod Remaining
 pub mod Tightest

@@ -28,7 +28,7 @@ fn print_short(rt: &impl Print, sheet: &[u8], printed: &[u8], n: usize) -> io::R
     let mut table = [0u16; opening::TABLE_MINUTES];
     let written = opening::read_listing(sheet, printed, &mut table[..n.saturating_sub(1)]);
     print!(rt; " short ")?;
-    base::print_short(rt, written)?;
+    base::print_brief(rt, written)?;
     println!(rt; "")
 }
 

@@ -5,7 +5,7 @@ use std::fmt::Display;
 use std::io;
 
 // What a call answers, in one word: the number that it tells, or the refusal, as r13.0.
-pub fn print_short<T: Display + Copy>(
+pub fn print_brief<T: Display + Copy>(
     rt: &impl Print,
     answer: Result<T, Refusal>,
 ) -> io::Result<()> {
@@ -19,6 +19,7 @@ pub fn print_short<T: Display + Copy>(
     }
 }
 
+// What is read of the sheet.
 pub fn read(rt: &impl Print, sheet: &[u8]) -> io::Result<()> {
     match opening::read_sheet(sheet) {
         Ok(
@@ -46,9 +47,10 @@ fn verdict(rt: &impl Print, sheet: &[u8], bytes: &[u8], table: &[u16]) -> io::Re
     report::judge(rt, sheet, table)
 }
 
-// The verdict on a table, which is handed in as these bytes, and its listing.
+// The verdict on a table, and its listing; the bytes are those that it is handed in as, or none where it was read from
+// a listing.
 pub fn judge(rt: &impl Print, sheet: &[u8], bytes: &[u8], table: &[u16]) -> io::Result<()> {
     print!(rt; "judged ")?;
     verdict(rt, sheet, bytes, table)?;
-    report::list(rt, "listed ", sheet, table)
+    report::print_listing(rt, "listed ", sheet, table)
 }

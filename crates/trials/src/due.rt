@@ -1,7 +1,7 @@
 // Request 1, what is due. A table is played: at each minute of each case it is asked what is due, with what that case
 // has heard so far, and when each event came is noted. And the same questions are asked of every table, most of them
 // with lists that no case has heard.
-ghost use Rattle.std.specs.Prelude.{◌≡◌, ◌<◌, ◌≤◌, length};
+ghost use Rattle.std.specs.Prelude.{◌<◌, ◌≤◌, length};
 
 use crate::base;
 use dispatch::{Heard, Said};
@@ -10,7 +10,8 @@ use network::formed::Formed;
 use network::{Network, times};
 use std::io;
 
-// What stands where an event has not come, and where it has come twice: minutes that no good table has.
+// What stands where an event has not come, and where it has come twice: minutes that no good table has. They are cells
+// of a table that is listed, and so no Options.
 const NOT_YET: u16 = 65535;
 
 const TWICE: u16 = 65534;
@@ -24,11 +25,11 @@ type Given = [u16; Network::SIGNALS];
 // A sheet with a table, as it is played and asked.
 #[derive(Clone, Copy)]
 pub struct Asked<'a> {
-    pub accepted: Accepted<'a>,
+    pub accepted: &'a Accepted<'a>,
     pub table: &'a [u16],
 }
 
-// Whether the number has the bit.
+// Whether the number has the bit. (Beside network's, which is asked for signals' bits alone: these are events' too.)
 fn has(mask: usize, bit: usize) -> bool
     requires { bit < 16 }
 {
@@ -52,7 +53,7 @@ fn heard(formed: &Formed, s: usize, given: &Given, minute: u16) -> Said {
     for p in (0..network.signals).rev() {
         let reaction = times::reaction_of(network.reactions[p]);
         if counts(given[p], reaction, minute) {
-            said = with(said, network.letters[p], has(s, p));
+            said = with(said, network.letters[p], network::has(s, p));
         }
     }
     said
@@ -79,7 +80,8 @@ fn noted(before: u16, minute: u16, is_due: bool) -> u16 {
     minute
 }
 
-// Notes the minute for the events due: bit u for event u.
+// Notes the minute for the events due: bit u for event u. Bit by bit, since nothing says here that a row has at most
+// sixteen cells.
 fn note(row: &mut [u16], minute: u16, due: u16) {
     let mut rest = due;
     for cell in row.iter_mut() {
@@ -93,7 +95,7 @@ fn note(row: &mut [u16], minute: u16, due: u16) {
 // and the first with both truths, or with a bit of no letter among those that are true, and among those that are false.
 fn lists(formed: &Formed) -> [Said; 15] {
     let network = &formed.network;
-    // the first signal's letter, or p where there is none
+    // The first signal's letter, or p where there is none.
     let a = if network.signals == 0 {
         b'p'
     } else {
@@ -132,7 +134,7 @@ fn lists(formed: &Formed) -> [Said; 15] {
 // One answer to a table, with a space before it.
 fn answer(rt: &impl Print, sheet: &[u8], table: &[u16], minute: u16, said: Said) -> io::Result<()> {
     print!(rt; " ")?;
-    base::print_short(rt, opening::events_due_on(sheet, table, minute, said))
+    base::print_brief(rt, opening::events_due_on(sheet, table, minute, said))
 }
 
 impl<'a> Asked<'a> {
@@ -177,7 +179,7 @@ impl<'a> Asked<'a> {
         let mut played = [NOT_YET; opening::TABLE_MINUTES];
         self.play_cases(rt, &mut played[..n])?;
         print!(rt; "played ")?;
-        report::list(rt, "listed ", self.accepted.sheet, &played[..n])
+        report::print_listing(rt, "listed ", self.accepted.sheet, &played[..n])
     }
 
     // The fifteen lists at a minute.

@@ -5,18 +5,10 @@ ghost use Rattle.std.specs.Prelude.{◌≤◌};
 use crate::base;
 use std::io;
 
-// A form's page has zeros behind it, which no form has: pages are the same where the forms on them are.
-pub type Page = [u8; opening::SHEET_BYTES];
+// A form on its page has zeros behind it, which no form has: pages are the same where the forms on them are.
+pub type Form = [u8; opening::SHEET_BYTES];
 
-fn print_form(rt: &impl Print, form: &[u8], is_last: bool) -> io::Result<()> {
-    if is_last {
-        return println!(rt; "house as before");
-    }
-    println!(rt; "house")?;
-    rt.write_all(form)
-}
-
-// Whether the form is its own form.
+// Whether the form is its own form. A call that refuses says so, and then nothing was written.
 fn print_again(rt: &impl Print, form: &[u8]) -> io::Result<()> {
     let mut page = [0u8; opening::SHEET_BYTES];
     let n = report::house(rt, "again ", form, &mut page)?.unwrap_or(0);
@@ -34,16 +26,21 @@ fn print_short(rt: &impl Print, sheet: &[u8], n: usize) -> io::Result<()>
     let mut page = [0u8; opening::SHEET_BYTES];
     let written = opening::write_house(sheet, &mut page[..n.saturating_sub(1)]);
     print!(rt; " short ")?;
-    base::print_short(rt, written)?;
+    base::print_brief(rt, written)?;
     println!(rt; "")
 }
 
 // Takes the page of the last form before this sheet's, and leaves that of the last behind it.
-pub fn tell(rt: &impl Print, sheet: &[u8], last: &mut Page) -> io::Result<()> {
+pub fn tell(rt: &impl Print, sheet: &[u8], last: &mut Form) -> io::Result<()> {
     let mut page = [0u8; opening::SHEET_BYTES];
     match report::house(rt, "house ", sheet, &mut page)? {
         Some(n) => {
-            print_form(rt, &page[..n], page == *last)?;
+            if page == *last {
+                println!(rt; "house as before")?;
+            } else {
+                println!(rt; "house")?;
+                rt.write_all(&page[..n])?;
+            }
             print_again(rt, &page[..n])?;
             print_short(rt, sheet, n)?;
             *last = page;

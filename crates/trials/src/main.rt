@@ -14,13 +14,14 @@ mod trial;
 use std::rt::Files;
 use std::{io, str};
 
-// The last digit of a number.
+// The last digit of a number, as it is written. (Below ten, so that the cast loses nothing.)
 fn digit(n: usize) -> u8 {
     b'0' + (n % 10) as u8
 }
 
 // The trial of this number has the sheet NNN.csv in data/, and the listing NNN.lst or the table NNN.tab, where there is
-// one.
+// one. NNN are the last three digits of the number. The digits are spelled by hand, since a format would make a text
+// on the heap.
 fn name(number: usize, kind: [u8; 3]) -> [u8; 7] {
     let a = digit(number / 100);
     let b = digit(number / 10);
@@ -34,13 +35,14 @@ fn path(name: &[u8; 7]) -> &str {
     str::from_utf8(name).unwrap_or("")
 }
 
-// One byte more than a listing may have, so that a longer one is seen to be longer.
+// The listing that is handed in. One byte more than a listing may have, so that a longer one is seen to be longer.
 fn listed(rt: &(impl Files + Print), sheet: &[u8], lst: &str) -> io::Result<()> {
     let mut printed = [0u8; opening::PRINTED_BYTES + 1];
     let n = files::read(rt, lst, &mut printed)?;
     back::tell(rt, sheet, &printed[..n])
 }
 
+// The table that is handed in, or none: its file has two bytes a minute.
 fn tabled(rt: &(impl Files + Print), sheet: &[u8], tab: &str) -> io::Result<()> {
     let mut bytes = [0u8; 1024];
     let n = files::read(rt, tab, &mut bytes)?;
@@ -53,7 +55,7 @@ fn told(
     rt: &(impl Files + Print),
     sheet: &[u8],
     number: usize,
-    last: &mut house::Page,
+    last: &mut house::Form,
 ) -> io::Result<()> {
     base::read(rt, sheet)?;
     house::tell(rt, sheet, last)?;
@@ -65,14 +67,16 @@ fn told(
     }
 }
 
-// A trial: its number and title, and what its files make. One byte more than a sheet may have.
+// A trial: its number and title, and what its files make. The sheet is read with one byte more than a sheet
+// may have.
 fn numbered(
     rt: &(impl Files + Print),
     number: usize,
     title: &[u8],
-    last: &mut house::Page,
+    last: &mut house::Form,
 ) -> io::Result<()> {
-    print!(rt; "{number:03} ")?;
+    let digits = number % 1000;
+    print!(rt; "{digits:03} ")?;
     rt.write_all(title)?;
     println!(rt; "")?;
     let mut sheet = [0u8; opening::SHEET_BYTES + 1];
@@ -80,16 +84,17 @@ fn numbered(
     told(rt, &sheet[..n], number, last)
 }
 
-// Each line is the title of a trial; numbers have three digits.
+// Each line is the title of a trial.
 fn trials(rt: &(impl Files + Print), titles: &[u8]) -> io::Result<()> {
     let mut last = [0u8; opening::SHEET_BYTES];
-    let lines = titles.strip_suffix(b"\n").unwrap_or(titles);
-    for (number, title) in (1..1000).zip(lines.split(|b| *b == b'\n')) {
+    for (number, line) in (1..).zip(titles.split_inclusive(|&b| b == b'\n')) {
+        let title = line.strip_suffix(b"\n").unwrap_or(line);
         numbered(rt, number, title, &mut last)?;
     }
     Ok(())
 }
 
+// One text serves both files, which are read one after the other.
 fn main(rt: HostRuntime) -> io::Result<()> {
     let mut text = [0u8; 65536];
     let n = files::read(&rt, "titles.txt", &mut text)?;

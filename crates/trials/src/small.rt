@@ -6,7 +6,7 @@ use std::io;
 #[derive(Clone, Copy)]
 enum Compared {
     Table,
-    None,
+    NoTable,
     Differ,
 }
 
@@ -22,7 +22,7 @@ fn compare(sheet: &[u8]) -> Compared {
     let mut table = [0u16; exhaust::CELLS];
     match (opening::solve_sheet(sheet, &mut table), tried) {
         (Ok(_), Some(least)) if least == table => Compared::Table,
-        (Err(refusal), None) if refusal.cause == Cause::Inconsistent => Compared::None,
+        (Err(refusal), None) if refusal.cause == Cause::Inconsistent => Compared::NoTable,
         _ => Compared::Differ,
     }
 }
@@ -45,7 +45,7 @@ impl Tally {
                 self.table = self.table.wrapping_add(1);
                 println!(rt; "small {number} agree table")
             }
-            Compared::None => {
+            Compared::NoTable => {
                 self.none = self.none.wrapping_add(1);
                 println!(rt; "small {number} agree none")
             }
@@ -53,6 +53,7 @@ impl Tally {
         }
     }
 
+    // The last line: how many sheets there were of each kind.
     fn print(&self, rt: &impl Print) -> io::Result<()> {
         let Tally {
             sheets,
@@ -64,18 +65,19 @@ impl Tally {
     }
 }
 
-// The sheets stand one behind the other, each followed by a line `=`.
+// The sheets stand one behind the other, each followed by a line `=`. No `split`: the byte behind a `=` is passed over,
+// whatever it is.
 pub fn all(rt: &impl Print, text: &[u8]) -> io::Result<()> {
     let mut tally = Tally {
         sheets: 0,
         table: 0,
         none: 0,
     };
-    for piece in text.split(|b| *b == b'=') {
-        let sheet = piece.strip_prefix(b"\n").unwrap_or(piece);
-        if !sheet.is_empty() {
-            tally.tell(rt, compare(sheet))?;
-        }
+    let mut rest = text;
+    while !rest.is_empty() {
+        let end = text::until(rest, b'=');
+        tally.tell(rt, compare(&rest[..end]))?;
+        rest = &rest[rest.len().min(end + 2)..];
     }
     tally.print(rt)
 }

@@ -24,12 +24,9 @@ fn solved(rt: &impl Print, accepted: &Accepted) -> io::Result<()> {
     match report::solve(rt, "solved ", sheet, &mut minutes)? {
         Some(n) => {
             let table = &minutes[..n];
-            report::list(rt, "listed ", sheet, table)?;
+            report::print_listing(rt, "listed ", sheet, table)?;
             back::again(rt, sheet, table)?;
-            let asked = Asked {
-                accepted: *accepted,
-                table,
-            };
+            let asked = Asked { accepted, table };
             asked.play(rt)?;
             asked.ask(rt)
         }

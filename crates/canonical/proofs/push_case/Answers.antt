@@ -20,7 +20,7 @@ returns c =
     let u = c.args.u in
     pushed_as
     (ap (λ (t : List ℕ). t ++ comma ∷ (label_text (literals_of Γ (event_label Γ u)) ++ line_feed ∷ [])) name.0
-    ∙ label-line accepted.sheet.now Γ u (sym c.is_none.ensures ∙ c.if-is_none.false))
+    ∙ label-line accepted.sheet.now Γ u (sym c.eq.ensures ∙ c.if-eq.false))
     (pushed_both c.push_all.ensures
     (pushed_both c.push.ensures (pushed_both c.push_label.ensures c.push-2.ensures)))
     (omega (arith, name.1))

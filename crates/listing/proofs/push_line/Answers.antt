@@ -6,5 +6,5 @@ use Rattle.listing.proofs.push_line.Goals as goal
 
 pub returns : goal.returns
 returns g c =
-    rw (← line-row c.args.signals c.args.s c.args.row.now)
+    rw (← line-row c.args.formed.now.network.signals c.args.s c.args.row.now)
     (pushed_then c.push_truths.ensures c.push_times.ensures (omega arith))

@@ -9,6 +9,7 @@ use Rattle.listing.proofs.push_lines.Given as goal
 
 abbrev pub invariant-loop-s : goal.invariant-loop-s
 invariant-loop-s g l =
-    let network = l.formed.network in
-    Pushing most_line (line_over network.signals network.events (time_texts network.events l.table)) (scenarios network)
+    let network = l.strategy.formed.now.network in
+    let times = time_texts network.events l.strategy.table.now in
+    Pushing most_line (line_over network.signals network.events times) (scenarios network)
     l.initial.page l.s l.page

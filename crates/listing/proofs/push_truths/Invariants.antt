@@ -7,4 +7,5 @@ use Rattle.page.proofs.Pushing.{Pushing}
 use Rattle.listing.proofs.push_truths.Given as goal
 
 abbrev pub invariant-loop-p : goal.invariant-loop-p
-invariant-loop-p g l = Pushing 1 (λ p. mark_of_lem (l.s / 2 ^ p) ∷ []) l.signals l.initial.page l.p l.page
+invariant-loop-p g l =
+    Pushing 1 (λ p. mark_of_lem (l.s / 2 ^ p) ∷ []) l.formed.network.signals l.initial.page l.p l.page

@@ -6,7 +6,7 @@ use Rattle.network.proofs.satisfies.Goals as goal
 pub returns-then-s-positive : goal.returns-then-s-positive
 returns-then-s-positive c =
     rw (
-      ← satisfies-bits c.args.s c.args.label c.requires.0 c.requires.1 c.requires.2,
+      ← satisfies-bits c.args.s c.args.label c.requires.0 c.requires.1.positive c.requires.1.negative,
       c.from-negative.ensures,
       eq-eqb _ _ (rw c.from-positive.ensures at c.if-s-positive.true),
     )
@@ -14,7 +14,7 @@ returns-then-s-positive c =
 pub returns-else-s-positive : goal.returns-else-s-positive
 returns-else-s-positive c =
     rw (
-      ← satisfies-bits c.args.s c.args.label c.requires.0 c.requires.1 c.requires.2,
+      ← satisfies-bits c.args.s c.args.label c.requires.0 c.requires.1.positive c.requires.1.negative,
       c.from-positive.ensures,
       ne_eqb _ _ (rw c.from-positive.ensures at c.if-s-positive.false),
     )

@@ -9,14 +9,16 @@ use Rattle.readback.proofs.digits_in.Goals as goal
 pub returns-in_err-v : goal.returns-in_err-v
 returns-in_err-v c = rw c.from_residual.ensures (digits_ill _ (sym c.read_number.ensures ∙ c.in_err-v.was))
 
+pub returns-in-Plus : goal.returns-in-Plus
+returns-in-Plus c =
+    digits_at _ _ (sym c.read_number.ensures ∙ c.in_ok-v.was ∙ ap Some c.in-Plus.is)
+    (omega (arith, c.from.ensures, c.if-v-from.true))
+
 pub returns-in_default : goal.returns-in_default
 returns-in_default c =
-    digits_minus _ _ (sym c.read_number.ensures ∙ c.in_ok-v.was ∙ ap Some c.in_default.is)
-
-pub returns-then-v-gt-LATEST : goal.returns-then-v-gt-LATEST
-returns-then-v-gt-LATEST c =
     digits_beyond _ _ (sym c.read_number.ensures ∙ c.in_ok-v.was ∙ ap Some c.in-Plus.is)
-    (omega (arith, c.if-v-gt-LATEST.true))
+    (omega (arith, c.from.ensures, c.if-v-from.false))
 
-pub returns : goal.returns
-returns c = digits_at _ _ (sym c.read_number.ensures ∙ c.in_ok-v.was ∙ ap Some c.in-Plus.is) (omega arith)
+pub returns-in_default-2 : goal.returns-in_default-2
+returns-in_default-2 c =
+    digits_minus _ _ (sym c.read_number.ensures ∙ c.in_ok-v.was ∙ ap Some c.in_default.is)

@@ -7,9 +7,10 @@ use native.Mathlib.Omega.{arith}
 use Rattle.std.proofs.lemmas.Result.{err_from_is_err_and}
 use lib.ListN.{length}
 use Rattle.listing.specs.Listing.{header}
+use Rattle.prelude.proofs.Options.{then_some_none, then_some_some}
 use Rattle.readback.specs.Form.{longest_read}
 use Rattle.readback.specs.Rows.{header_fits}
-use Rattle.readback.proofs.Optional.{then_some_none, then_some_some, ok_or_err, ok_or_ok}
+use Rattle.readback.proofs.Optional.{ok_or_err, ok_or_ok}
 use Rattle.readback.proofs.Head.{header-inside}
 use Rattle.readback.proofs.Passes.{form-none}
 use Rattle.readback.proofs.Answered.{read_long, read-other, read-misfit, read-times}
@@ -45,22 +46,22 @@ invariant_of-rows c =
     let d = goal.at.invariant_of-rows c in
     record { inside = (inside d.In_ok-first, short d.After-head_of) }
 
-pub returns-in_err-form : goal.returns-in_err-form
-returns-in_err-form c =
-    let d = goal.at.returns-in_err-form c in
+pub returns-in_err-check_form : goal.returns-in_err-check_form
+returns-in_err-check_form c =
+    let d = goal.at.returns-in_err-check_form c in
     let head = begins d.In_ok-first in
-    let form = rw (← head.1) at c.form.ensures in
-    let exit = c.from_residual-in_err-form in
+    let form = rw (← head.1) at c.check_form.ensures in
+    let exit = c.from_residual-in_err-check_form in
     let p = err_from_is_err_and exit.result exit.ensures.1 in
-    rw (p.1, p.2) (read-misfit _ _ _ _ _ (short d.After-head_of) head.0 _ (sym form ∙ c.in_err-form.was))
+    rw (p.1, p.2) (read-misfit _ _ _ _ _ (short d.After-head_of) head.0 _ (sym form ∙ c.in_err-check_form.was))
 
 pub read-requires : goal.read-requires
-read-requires c = form-none _ (sym c.form.ensures ∙ c.in_ok-form.was)
+read-requires c = form-none _ (sym c.check_form.ensures ∙ c.in_ok-check_form.was)
 
 pub returns : goal.returns
 returns c =
     let d = goal.at.returns c in
     let head = begins d.In_ok-first in
-    let form = rw (← head.1) at c.form.ensures in
-    read-times _ _ _ _ _ (short d.After-head_of) head.0 (sym form ∙ c.in_ok-form.was) _ _
+    let form = rw (← head.1) at c.check_form.ensures in
+    read-times _ _ _ _ _ (short d.After-head_of) head.0 (sym form ∙ c.in_ok-check_form.was) _ _
     (rw (← head.1) at c.read.ensures)

@@ -7,7 +7,7 @@ use Rattle.solver.proofs.Underway.{Underway}
 use Rattle.solver.proofs.run.Given as goal
 
 abbrev pub invariant-loop-rounds : goal.invariant-loop-rounds
-invariant-loop-rounds l = (l.rounds ≤ l.budget) × (l.turns ≤ l.rounds) × (length l.b ≡ 256) × (length l.a ≡ 256)
+invariant-loop-rounds l = (l.rounds ≤ l.budget) × (l.turns ≤ l.rounds) × (length l.a ≡ 256)
     × (l.stretch.compiled.now ≡ l.compiled)
     × Underway l.compiled.frame.network l.initial.a l.stretch.base l.stretch.rounds l.rounds
 

@@ -2,5 +2,5 @@
 use Rattle.rows.specs.Rows.{Times}
 use Rattle.tally.proofs.by_rounds.Given as goal
 
-abbrev pub invariant-loop-made : goal.invariant-loop-made
-invariant-loop-made l = Times l.compiled.frame.network l.a
+abbrev pub invariant-loop-rounds : goal.invariant-loop-rounds
+invariant-loop-rounds l = Times l.compiled.frame.network l.a

@@ -4,4 +4,4 @@ use Rattle.bounds.specs.Listed.{Added}
 use Rattle.bounds.proofs.lists.add.Given as goal
 
 abbrev pub invariant-loop-s : goal.invariant-loop-s
-invariant-loop-s l = Added l.label l.bound l.initial.lists l.lists l.s
+invariant-loop-s l = Added l.label l.bound l.initial.list-items l.list-items l.s

@@ -3,4 +3,4 @@ use Rattle.dispatch.proofs.Core.{Summing}
 use Rattle.dispatch.proofs.Moment.due_in.Given as goal
 
 abbrev pub invariant-loop-u : goal.invariant-loop-u
-invariant-loop-u l = Summing l.self.formed.now.network l.self.table.now l.self.minute l.s l.due l.u
+invariant-loop-u l = Summing l.self.strategy.formed.now.network l.self.strategy.table.now l.self.minute l.s l.due l.u

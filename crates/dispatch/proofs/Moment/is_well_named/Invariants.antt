@@ -3,5 +3,5 @@
 use Rattle.dispatch.proofs.Core.{Naming}
 use Rattle.dispatch.proofs.Moment.is_well_named.Given as goal
 
-abbrev pub invariant-loop-p : goal.invariant-loop-p
-invariant-loop-p l = Naming l.self.formed.now.network l.said.mask l.named.mask l.p
+abbrev pub invariant-loop-letter : goal.invariant-loop-letter
+invariant-loop-letter l = Naming l.self.strategy.formed.now.network l.said.mask l.named.mask l.letter-index

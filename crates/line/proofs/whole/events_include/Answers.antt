@@ -1,26 +1,41 @@
-use mathlib.Core.Path.{sym, ◌∙◌}
-use Rattle.prelude.proofs.Bounded.{failed_at, passing_on}
+-- Each event's label may be asked, and all pass where the definition says so. Assumes nothing.
+use mathlib.Core.Bool.{Bool}
+use mathlib.Core.Path.{◌∙◌}
+use native.Mathlib.Omega.{arith}
+use borrow.Author.Rules.{rules}
+use borrow.Author.Tests.{tests}
+use Rattle.std.proofs.iter.Serving.{same}
+use Rattle.std.proofs.lemmas.Iterator.{YieldsList-from_slice}
+use Rattle.std.proofs.lemmas.Iterator.Search.{all_from_yields_List}
+use lib.ListN.{take}
+use Rattle.prelude.proofs.Chains.{all_in-front, item_in-front}
 use Rattle.network.specs.Build.{no_label, event_label}
-use Rattle.line.proofs.Labelling.{small_of, tried}
+use Rattle.network.specs.WellFormed.{FewLetters}
+use Rattle.network.specs.declared.Label.{Label}
+use Rattle.line.specs.Labelling.{lacks_none_lem}
+use Rattle.line.proofs.Labelling.{small_of}
 use Rattle.line.proofs.whole.events_include.Goals as goal
 
-pub lacks_none-requires : goal.lacks_none-requires
-lacks_none-requires c =
+pub all-requires-clause-callable : goal.all-requires-clause-callable
+all-requires-clause-callable c =
     let Γ = c.args.network.now in
-    let u = c.loop-label.label-index in
-    let same = tried Γ.events Γ.labels u no_label c.loop-label-test.true in
-    (c.requires.1, c.requires.2, rw same.1 (small_of Γ (event_label Γ u) c.requires.0 (c.requires.0.lettered u)))
+    let read = c.requires.0 in
+    record {
+      at = λ xs t q x u given kept next.
+          let few = item_in-front no_label FewLetters Γ.events Γ.labels
+          (omega (arith, read.events, read.arrays.labels))
+          (λ k h. small_of Γ (event_label Γ k) read (read.lettered k))
+          c.iter.result c.iter.ensures.rest xs t u x given next in
+          let here = same _ (λ p y r e. search rules) xs _ q kept in
+          λ _ _ _ _ _ _ _ _. (rw here c.requires.1, rw here c.requires.2, few);
+    }
 
-pub returns-then-not-lacks_none : goal.returns-then-not-lacks_none
-returns-then-not-lacks_none c =
+pub returns : goal.returns
+returns c =
     let Γ = c.args.network.now in
-    let same = tried Γ.events Γ.labels c.loop-label.label-index no_label c.loop-label-test.true in
-    sym (failed_at c.loop-label.invariant same.0
-    (rw (← same.1) (sym c.lacks_none.ensures ∙ c.if-not-lacks_none.true)))
-
-pub loop-label-preserved : goal.loop-label-preserved
-loop-label-preserved c =
-    let Γ = c.args.network.now in
-    let same = tried Γ.events Γ.labels c.loop-label.label-index no_label c.loop-label-test.true in
-    passing_on c.loop-label.invariant same.0
-    (rw (← same.1) (sym c.lacks_none.ensures ∙ c.if-not-lacks_none.false))
+    let read = c.requires.0 in
+    let f : Label → Bool = lacks_none_lem c.args.p c.args.needed in
+    all_from_yields_List f _ _ c.all.result c.all.ensures.ran
+    (YieldsList-from_slice (take Γ.events Γ.labels) c.iter.ensures.rest)
+    (λ x b q h. search (rules, tests))
+    ∙ all_in-front no_label f Γ.events Γ.labels (omega (arith, read.events, read.arrays.labels))

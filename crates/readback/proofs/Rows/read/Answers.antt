@@ -21,17 +21,17 @@ room d =
     all_room d.args.self.now.formed.now.network.signals d.args.self.now.formed.now.network.events
     known.signals known.events
 
-inside : (d : After-cell_count-cells) → d.cell_count-cells.result ≤ length d.cells.new.times
-inside d = omega (arith, room d, d.cell_count-cells.ensures, d.cells.ensures.sized)
+inside : (d : After-cell_count-cells) → d.cell_count-cells.result ≤ length d.read_cells.new.times
+inside d = omega (arith, room d, d.cell_count-cells.ensures, d.read_cells.ensures.sized)
 
-pub returns-in_err-cells : goal.returns-in_err-cells
-returns-in_err-cells c =
+pub returns-in_err-read_cells : goal.returns-in_err-read_cells
+returns-in_err-read_cells c =
     let p = err_from_is_err_and c.from_residual.result c.from_residual.ensures.1 in
-    rw (p.1, p.2) (times-fault c.cells.ensures _ _ c.in_err-cells.was)
+    rw (p.1, p.2) (times-fault c.read_cells.ensures _ _ c.in_err-read_cells.was)
 
 pub returns-then-table-cells : goal.returns-then-table-cells
 returns-then-table-cells c =
-    times-short c.cells.ensures _ c.in_ok-cells.was
+    times-short c.read_cells.ensures _ c.in_ok-read_cells.was
     (omega (arith, c.if-table-cells.true, c.cell_count-cells.ensures))
 
 pub slice_bounds-times-end : goal.slice_bounds-times-end
@@ -50,5 +50,5 @@ pub returns : goal.returns
 returns c =
     let d = (goal.at.returns c).After-cell_count-cells in
     rw (c.copy_from_slice.ensures.after, c.cell_count-cells.ensures)
-    (times-all c.cells.ensures _ c.in_ok-cells.was (room d)
+    (times-all c.read_cells.ensures _ c.in_ok-read_cells.was (room d)
     (omega (arith, c.if-table-cells.false, c.cell_count-cells.ensures)))

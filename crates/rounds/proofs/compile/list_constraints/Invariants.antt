@@ -1,8 +1,9 @@
--- Each turn lists one constraint under its joint label. The invariant: the first i are listed, and each list has at
+-- Each turn lists one constraint under its joint label. The invariant: those so far are listed, and each list has at
 -- most two bounds for each (`Asking`). Assumes nothing.
 use Prim.Native.Nat.{◌+◌}
 use Rattle.rounds.specs.Compiled.{Asking, constraints_ask}
 use Rattle.rounds.proofs.compile.list_constraints.Given as goal
 
-abbrev pub invariant-loop-i : goal.invariant-loop-i
-invariant-loop-i l = Asking l.frame.network l.lists (l.i + l.i) (constraints_ask l.frame.network l.i)
+abbrev pub invariant-loop-c : goal.invariant-loop-c
+invariant-loop-c l =
+    Asking l.frame.network l.lists (l.c-index + l.c-index) (constraints_ask l.frame.network l.c-index)

@@ -6,22 +6,8 @@ use native.Mathlib.Omega.{arith}
 use Rattle.network.specs.Happens.{happens}
 use Rattle.checker.specs.Verdict.{is_alike}
 use Rattle.checker.proofs.Plain.{alike-later, alike-same, alike-sooner}
-use Rattle.checker.proofs.Reach.{scenario_lt, event-letters}
 use Rattle.checker.proofs.known.Known.alike.Goals.{Else-mine-theirs}
 use Rattle.checker.proofs.known.Known.alike.Goals as goal
-
-pub satisfies-requires : goal.satisfies-requires
-satisfies-requires c =
-    let self = c.args.self.now in
-    let W = self.strategy.formed.now.well_formed in
-    let four = event-letters W c.args.u in
-    (scenario_lt W self.scenario self.within, four.positive, four.negative)
-
-pub satisfies-requires-else-not-satisfies : goal.satisfies-requires-else-not-satisfies
-satisfies-requires-else-not-satisfies c =
-    let W = c.args.self.now.strategy.formed.now.well_formed in
-    let four = event-letters W c.args.u in
-    (scenario_lt W c.args.r c.requires.0, four.positive, four.negative)
 
 pub returns-then-told-from : goal.returns-then-told-from
 returns-then-told-from c =
@@ -52,15 +38,13 @@ away b l e = rw e at l
 here : {a z : Bool} (b : Bool) → not (a && b) ≡ z → a ≡ true → not b ≡ z
 here b l e = rw e at l
 
-pub returns-then-not-satisfies : goal.returns-then-not-satisfies
-unfolding happens
-returns-then-not-satisfies c =
-    let d = (goal.at.returns-then-not-satisfies c).Else-mine-theirs in
-    ap not c.if-not-satisfies.true ∙ away _ (left d) (sym c.satisfies.ensures ∙ c.if-not-satisfies.true)
+pub returns-then-not-happens : goal.returns-then-not-happens
+returns-then-not-happens c =
+    let d = (goal.at.returns-then-not-happens c).Else-mine-theirs in
+    ap not c.if-not-happens.true ∙ away _ (left d) (sym c.happens.ensures ∙ c.if-not-happens.true)
 
-pub returns-else-not-satisfies : goal.returns-else-not-satisfies
-unfolding happens
-returns-else-not-satisfies c =
-    let d = (goal.at.returns-else-not-satisfies c).Else-mine-theirs in
-    ap not c.satisfies-else-not-satisfies.ensures
-    ∙ here _ (left d) (sym c.satisfies.ensures ∙ c.if-not-satisfies.false)
+pub returns-else-not-happens : goal.returns-else-not-happens
+returns-else-not-happens c =
+    let d = (goal.at.returns-else-not-happens c).Else-mine-theirs in
+    ap not c.happens-else-not-happens.ensures
+    ∙ here _ (left d) (sym c.happens.ensures ∙ c.if-not-happens.false)

@@ -1,14 +1,28 @@
-use mathlib.Core.Path.{sym, ◌∙◌, ap}
+-- `first_late` meets its contract: the iterator finds the first event that is not in place. Assumes nothing.
+use mathlib.Core.Path.{◌≡◌, refl, sym, ◌∙◌, ap}
+use mathlib.Core.Bool.{Bool, not}
+use Prim.Native.Nat.{ℕ}
 use native.Mathlib.Omega.{arith}
-use Rattle.prelude.specs.Options.{option_of}
-use Rattle.prelude.proofs.Search.{searching_on, found_at}
+use borrow.Author.Rules.{rules}
+use borrow.Author.Tests.{tests}
+use Rattle.std.specs.Option.{option_map}
+use Rattle.std.proofs.lemmas.Iterator.{YieldsList-from_range}
+use Rattle.std.proofs.lemmas.Iterator.Adapters.{option_map_id}
+use Rattle.std.proofs.lemmas.Iterator.Search.{find_from_yields_List}
+use Rattle.prelude.proofs.Finds.{find-failing}
+use Rattle.checker.specs.Verdict.{is_on_time}
+use Rattle.checker.specs.declared.Breach.TheVariants.{Late}
 use Rattle.checker.proofs.known.Known.first_late.Goals as goal
 
-pub loop-u-preserved : goal.loop-u-preserved
-loop-u-preserved c =
-    searching_on c.loop-u.invariant (omega arith) (rw (sym c.in_place.ensures ∙ c.if-not-in_place.false))
-
-pub returns-then-not-in_place : goal.returns-then-not-in_place
-returns-then-not-in_place c =
-    ap option_of
-    (sym (found_at c.loop-u.invariant _ (omega arith) (rw (sym c.in_place.ensures ∙ c.if-not-in_place.true))))
+pub returns : goal.returns
+returns c =
+    let self = c.args.self.now in
+    let Γ = self.strategy.formed.now.network in
+    let t : ℕ → Bool = is_on_time Γ self.strategy.table.now self.scenario in
+    let found = find_from_yields_List (λ k. not (t k)) _ _ c.find-late.result c.find-late.ensures.ran
+    (YieldsList-from_range 0 Γ.events Γ.events refl (omega arith))
+    (λ x b q h. search (rules, tests)) in
+    let named : c.map.result ≡ option_map (Late self.scenario) c.find-late.result =
+    search (rules, c.map.ensures.cases) in
+    named ∙ ap (option_map (Late self.scenario)) (sym (option_map_id c.find-late.result) ∙ found)
+    ∙ find-failing t (Late self.scenario) Γ.events

@@ -4,17 +4,7 @@ use mathlib.Core.Path.{◌≡◌, sym, ◌∙◌}
 use borrow.Author.Rules.{rules}
 use Rattle.network.specs.Build.{no_label, event_label}
 use Rattle.checker.proofs.Placed.{placed-always, placed-nowhere, placed-waiting, placed-late}
-use Rattle.checker.proofs.Reach.{scenario_lt, event-letters}
 use Rattle.checker.proofs.known.Known.in_place.Goals as goal
-
-pub satisfies-requires : goal.satisfies-requires
-satisfies-requires c =
-    let W = c.args.self.now.strategy.formed.now.well_formed in
-    let four = event-letters W c.args.u in
-    (scenario_lt W c.args.self.now.scenario c.args.self.now.within, four.positive, four.negative)
-
-pub waits-requires : goal.waits-requires
-waits-requires c = event-letters c.args.self.now.strategy.formed.now.well_formed c.args.u
 
 pub returns-then-eq : goal.returns-then-eq
 returns-then-eq c =
@@ -24,22 +14,22 @@ returns-then-eq c =
     placed-always self.strategy.formed.now.well_formed self.strategy.table.now self.scenario c.args.u c.requires
     self.known c.time-time.ensures none c.on_time-limits.ensures
 
-pub returns-then-not-satisfies : goal.returns-then-not-satisfies
-returns-then-not-satisfies c =
+pub returns-then-not-happens : goal.returns-then-not-happens
+returns-then-not-happens c =
     let self = c.args.self.now in
     placed-nowhere self.strategy.formed.now.well_formed self.strategy.table.now self.scenario c.args.u c.requires
-    self.known c.time-time.ensures (sym c.satisfies.ensures ∙ c.if-not-satisfies.true)
+    self.known c.time-time.ensures (sym c.happens.ensures ∙ c.if-not-happens.true)
 
 pub returns-then-limits : goal.returns-then-limits
 returns-then-limits c =
     let self = c.args.self.now in
     placed-waiting self.strategy.formed.now.well_formed self.strategy.table.now self.scenario c.args.u c.requires
-    self.known c.time-time.ensures (sym c.satisfies.ensures ∙ c.if-not-satisfies.false) c.on_time-limits.ensures
+    self.known c.time-time.ensures (sym c.happens.ensures ∙ c.if-not-happens.false) c.on_time-limits.ensures
     c.if-limits.true c.waits.ensures
 
 pub returns-else-limits : goal.returns-else-limits
 returns-else-limits c =
     let self = c.args.self.now in
     placed-late self.strategy.formed.now.well_formed self.strategy.table.now self.scenario c.args.u c.requires
-    self.known c.time-time.ensures (sym c.satisfies.ensures ∙ c.if-not-satisfies.false) c.on_time-limits.ensures
+    self.known c.time-time.ensures (sym c.happens.ensures ∙ c.if-not-happens.false) c.on_time-limits.ensures
     c.if-limits.false

@@ -10,7 +10,7 @@ use lib.ListN.{get_or}
 use Rattle.std.proofs.lemmas.Iterator.{YieldsList-from_range}
 use Rattle.std.proofs.lemmas.Iterator.Search.{all_from_yields_List}
 use Rattle.network.specs.Happens.{mentions}
-use Rattle.checker.proofs.Chains.{all-range}
+use Rattle.prelude.proofs.Chains.{all-range}
 use Rattle.checker.proofs.known.Known.waits.Goals as goal
 
 pub returns : goal.returns

@@ -9,12 +9,12 @@ pub at_most-requires : goal.at_most-requires
 at_most-requires c =
     let self = c.args.self.now in
     let few = self.compiled.now.frame.formed.events in
-    (self.led, far-whole_of few c.above.ensures c.in_ok-base.ensures c.in_ok-now.ensures)
+    (self.led, far-whole_of few c.above.ensures c.in_ok-base.ensures c.in_ok-reached.ensures)
 
 pub at_least-requires : goal.at_least-requires
 at_least-requires c =
     let few = c.args.self.now.compiled.now.frame.formed.events in
-    far-whole_of few c.above.ensures c.in_ok-base.ensures c.in_ok-now.ensures
+    far-whole_of few c.above.ensures c.in_ok-base.ensures c.in_ok-reached.ensures
 
 pub returns : goal.returns
 returns c =

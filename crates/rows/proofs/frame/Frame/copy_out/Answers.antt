@@ -1,14 +1,17 @@
 use mathlib.Core.Path.{◌≡◌, sym}
-use Prim.Native.Nat.{ℕ, ◌+◌, ◌*◌, ◌≤◌, ◌<◌}
+use Prim.Native.Nat.{ℕ, ◌+◌, ◌-◌, ◌*◌, ◌≤◌, ◌<◌}
 use native.Mathlib.Omega.{arith}
 use native.Mathlib.Nat.{mul_comm, suc-mul, mul-le-mul_right}
 use native.Mathlib.Numerals.{add-one}
+use lib.ListN.{length, drop}
+use Rattle.std.proofs.lemmas.List.{length-take}
 use Rattle.network.specs.Build.{scenarios, cells}
 use Rattle.prelude.proofs.Cells.{row_of_lem, column_of}
 use Rattle.rows.specs.declared.frame.Frame.{Frame}
 use Rattle.rows.specs.Rows.{handed}
 use Rattle.rows.proofs.Framed.{scenarios_few}
-use Rattle.rows.proofs.Wrote.{wrote-join, wrote-all}
+use Rattle.rows.proofs.Wrote.{wrote_part, wrote-join, wrote-all}
+use Rattle.rows.proofs.frame.Frame.copy_out.Goals.{In-loop-s}
 use Rattle.rows.proofs.frame.Frame.copy_out.Goals as goal
 
 -- the end of a row of n, and the count of all cells
@@ -25,25 +28,32 @@ all frame s h l =
     let e : s ≡ scenarios frame.network = omega (arith, frame.scenarios_are) in
     rw e (mul_comm (scenarios frame.network) frame.network.events)
 
+-- the scenario of a turn, and that its row has room
+here : (d : In-loop-s) → d.loop-s.s < scenarios d.args.self.now.network
+here d = omega (arith, d.loop-s-test.true, d.args.self.now.scenarios_are)
+
+room : (d : In-loop-s) → let n = d.args.self.now.network.events in d.loop-s.s * n + n ≤ length d.loop-s.out
+room d =
+    let Γ = d.args.self.now.network in
+    omega (arith, row-end d.loop-s.s (scenarios Γ) Γ.events (here d), d.requires, d.loop-s.auto.out)
+
 pub copy_row-requires : goal.copy_row-requires
 copy_row-requires c =
     let frame = c.args.self.now in
-    let here : c.loop-s.s < scenarios frame.network = omega (arith, c.loop-s-test.true, frame.scenarios_are) in (
+    let n = frame.network.events in
+    let s = c.loop-s.s in (
       omega (arith, c.loop-s-test.true, scenarios_few frame),
-      omega (
-        arith,
-        row-end c.loop-s.s (scenarios frame.network) frame.network.events here,
-        c.requires,
-        c.loop-s.auto.out,
-      ),
+      omega (arith, length-take (s * n + n - s * n) (drop (s * n) c.loop-s.out), frame.formed.events),
     )
 
 pub loop-s-preserved : goal.loop-s-preserved
 loop-s-preserved c =
     let n = c.args.self.now.network.events in
     let s = c.loop-s.s in
+    let row = wrote_part _ (s * n) (s * n + n - s * n) n (omega arith) (room (goal.at.loop-s-preserved c).In-loop-s)
+    c.copy_row.ensures in
     rw (← one_more s n)
-    (wrote-join _ c.loop-s.invariant c.copy_row.ensures (omega arith)
+    (wrote-join _ c.loop-s.invariant row (omega arith)
     (λ u h. rw (row_of_lem n s u h, column_of n s u h)))
 
 pub returns : goal.returns

@@ -5,9 +5,7 @@ use Rattle.rows.proofs.Framed.{sums, all_happen}
 use Rattle.rows.proofs.frame.Frame.happens.Goals as goal
 
 pub satisfies-requires : goal.satisfies-requires
-satisfies-requires c =
-    let few = sums c.args.self.now c.args.u in
-    (c.requires.0, few.positive, few.negative)
+satisfies-requires c = (c.requires.0, sums c.args.self.now c.args.u)
 
 pub returns-then-not-self : goal.returns-then-not-self
 returns-then-not-self c =

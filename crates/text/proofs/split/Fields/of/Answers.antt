@@ -3,14 +3,14 @@ use native.Mathlib.Omega.{arith}
 use Rattle.std.proofs.lemmas.List.{length-replicate}
 use Rattle.text.proofs.Splitting.{splitting_start, splitting_byte, splitting_comma, too_many, count_is, ends_are}
 use Rattle.text.proofs.split.Fields.of.Goals as goal
-use Rattle.text.proofs.split.Fields.of.Goals.{then-line-i-eq44+else-count, else-line-i-eq44}
+use Rattle.text.proofs.split.Fields.of.Goals.{then-b-eq44+else-count, else-b-eq44}
 
 pub loop-i-init : goal.loop-i-init
 loop-i-init g c = splitting_start g.row.N c.args.line.now _ (length-replicate g.row.N 0)
 
 pub returns-then-count : goal.returns-then-count
 returns-then-count g c =
-    too_many c.loop-i.invariant c.loop-i-test.true c.if-line-i-eq44.true c.if-count.true
+    too_many c.loop-i.invariant c.loop-i-test.true c.if-b-eq44.true c.if-count.true
 
 pub bounds-ends-count : goal.bounds-ends-count
 bounds-ends-count g c = omega (arith, c.loop-i.invariant.room, c.if-count.false)
@@ -24,12 +24,12 @@ overflow_add-count g c = omega (arith, c.loop-i.invariant.few, c.loop-i-test.tru
 pub loop-i-preserved : goal.loop-i-preserved
 loop-i-preserved g c =
     let here = c.loop-i.invariant in
-    elim c.if-line-i-eq44.branch [
-      | then-line-i-eq44+else-count w ↦ rw (w.ends-is, w.count-is)
-          (splitting_comma here c.loop-i-test.true w.if-line-i-eq44.true
+    elim c.if-b-eq44.branch [
+      | then-b-eq44+else-count w ↦ rw (w.ends-is, w.count-is)
+          (splitting_comma here c.loop-i-test.true w.if-b-eq44.true
           (omega (arith, here.room, w.if-count.false)))
-      | else-line-i-eq44 w ↦ rw (w.ends-is, w.count-is)
-          (splitting_byte here c.loop-i-test.true w.if-line-i-eq44.false)
+      | else-b-eq44 w ↦ rw (w.ends-is, w.count-is)
+          (splitting_byte here c.loop-i-test.true w.if-b-eq44.false)
     ]
 
 pub overflow_add-count-2 : goal.overflow_add-count-2

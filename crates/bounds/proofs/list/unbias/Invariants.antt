@@ -1,0 +1,8 @@
+-- Each turn takes the bias off one time. The invariant: it is off those so far. Assumes nothing.
+use Prim.Native.Nat.{◌-◌}
+use lib.ListN.{get_or}
+use Rattle.rows.specs.Rows.{Wrote}
+use Rattle.bounds.proofs.list.unbias.Given as goal
+
+abbrev pub invariant-loop-time : goal.invariant-loop-time
+invariant-loop-time l = Wrote l.initial.o l.o 0 l.time-index (λ k. get_or l.initial.o k 0 - 10080)
