@@ -55,7 +55,7 @@ fn push_events(page: &mut Page<LONGEST>, accepted: &Accepted)
     }
 }
 
-// The signals: a letter and its event's name a line.
+// The signals: a letter and its event's name a line. They go by number, since a letter and an event are two arrays.
 fn push_signals(page: &mut Page<LONGEST>, accepted: &Accepted)
     requires { length page.old + most_signals ≤ most_form }
     ensures { Pushed most_signals page.old
@@ -112,15 +112,15 @@ fn push_literal(page: &mut Page<LONGEST>, letter: u8, truth: Option<bool>)
     }
 }
 
-// A label, its letters in signal order. By number, and not over the letters: the label is asked by a signal's number.
+// A label, its letters in signal order.
 fn push_label(page: &mut Page<LONGEST>, formed: &Formed, label: Label)
     requires { length page.old + most_label ≤ most_form }
     ensures { Pushed most_label page.old (label_text (literals_of formed.now.network label)) page.new }
 {
     let network = &formed.network;
     let before = page.len();
-    for p in 0..network.signals {
-        push_literal(page, network.letters[p], asked(label, p));
+    for (p, &letter) in network.letters[..network.signals].iter().enumerate() {
+        push_literal(page, letter, asked(label, p));
     }
     if page.len() == before {
         page.push(b'-');
@@ -183,8 +183,8 @@ fn push_reaction(page: &mut Page<LONGEST>, letter: u8, reaction: u16)
     page.push(b'\n');
 }
 
-// The reactions other than 1, where there are any, or where labels are to follow. By number, since a letter and a
-// reaction are two arrays.
+// The reactions other than 1, where there are any, or where labels are to follow. They go by number, since a letter
+// and a reaction are two arrays.
 fn push_reactions(page: &mut Page<LONGEST>, formed: &Formed)
     requires { length page.old + most_reactions ≤ most_form }
     ensures { Pushed most_reactions page.old (reactions_text

@@ -110,8 +110,8 @@ impl<'a> Known<'a> {
     {
         let mine = self.strategy.time(self.scenario, u);
         let theirs = self.strategy.time(r, u);
-        // Two returns, and no `||` of four tests: behind that, where the ways have met, the proof knows the outcome of
-        // none.
+        // There are two returns, and no `||` of four tests: behind that, where the ways have met, the proof knows the
+        // outcome of none.
         if told <= u32::from(mine) {
             return true;
         }

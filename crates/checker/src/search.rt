@@ -92,8 +92,8 @@ fn first_unheard(strategy: &Strategy) -> Option<Breach>
     found
 }
 
-// The first breach: the points are tried in their order. Two returns, and no `or_else`: of what its closure answers the
-// proof learns nothing.
+// The first breach: the points are tried in their order. There are two returns and no `or_else`, since of what
+// its closure answers the proof learns nothing.
 pub fn first_breach(strategy: &Strategy) -> Option<Breach>
     ensures { result ≡ option_of (first_breach strategy.now.formed.now.network strategy.now.table.now) }
 {

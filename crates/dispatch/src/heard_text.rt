@@ -14,7 +14,8 @@ fn is_heard(text: &[u8]) -> bool
     text.is_empty() || token::is_label(text)
 }
 
-// The records of a label's literals, as a mask. (A walk as `names::token::are_literals` is one.)
+// The records of a label's literals, as a mask. (A walk as `names::token::are_literals` is one, which asks something
+// else of a byte.)
 fn said_by(t: &[u8]) -> Said
     ensures { result.mask ≡ said_from 0 (map record_of (literals false t.now)) }
 {

@@ -239,10 +239,9 @@ pub fn most(t: &[u16], d: &[u16], horizon: u16, p: u32, left: u32) -> u32
         .iter()
         .zip(d)
         .filter_map(|(t, d)| horizon.saturating_sub(*t).checked_div(*d));
-    match times.min() {
-        Some(least) => most.min(u32::from(least.saturating_sub(1))),
-        None => most,
-    }
+    times
+        .min()
+        .map_or(most, |least| most.min(u32::from(least.saturating_sub(1))))
 }
 
 // The highest rise below the limit.

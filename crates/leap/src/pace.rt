@@ -61,7 +61,7 @@ fn passes_after(upper: &Guess<'_>, e: &Table, left: u32) -> Option<u32>
     }
     let q = closing(upper.compiled, &low, &high, upper.p)?;
     let r = upper.rounds() + (upper.p + q);
-    // An `if`, since what `then_some` answers would take a law of its own in the proof.
+    // An `if` serves: what `then_some` answers would have to be opened by a law in the proof.
     if left < r {
         return None;
     }

@@ -101,8 +101,8 @@ impl Guess<'_> {
         moves::next_level(&d[..cells], l)
     }
 
-    // Whether each cell of rise l goes as far as the span says in p rounds from the table so moved on. (`is_some_and`
-    // was tried: the search did not prove the answer.)
+    // Whether each cell of rise l goes as far as the span says in p rounds from the table so moved on. (`is_some_and`,
+    // which proves in `Span::is_between`, was tried: here the search did not find the answer.)
     fn at_level(&self, l: u16, part: Part, span: Span) -> bool
         ensures { result ≡ true → AtLevel self.now.compiled.now.frame.network self.now.p self.now.j self.now.t.now
             self.now.d.now l part.lo part.hi span.least span.most }

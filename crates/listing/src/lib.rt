@@ -95,8 +95,8 @@ fn push_line<const N: usize>(page: &mut Page<N>, formed: &Formed, s: usize, row:
     push_times(page, row);
 }
 
-// The lines of all scenarios. Rows by number, since the number is written too, and over `chunks_exact` the proof stayed
-// open.
+// The lines of all scenarios. Rows go by number: over `chunks_exact` the loop would go by an iterator, and take a new
+// invariant and three answers more.
 fn push_lines<const N: usize>(page: &mut Page<N>, strategy: &Strategy)
     requires { length page.old + most_lines ≤ N }
     ensures { Pushed most_lines page.old (lines_of strategy.now.formed.now.network strategy.now.table.now) page.new }

@@ -1,9 +1,9 @@
 // Tables moved on: each time by j times a part of its rise. Rises stand in tables like times, and a level is one of
 // their values; a slice has the times or rises of the cells that count. Nothing here knows of rounds. A test that says
-// true promises what it tested; one that says false promises nothing. Tables are written by index: of what a chain
-// writes through `iter_mut` and `zip` a proof would know nothing. Each loop reads one or two tables beside the one that
-// it writes, so that numbers serve all. That counts of moves and levels are at most a horizon is asked where they come
-// in: what holds them, `Guess` and `Tries`, says so.
+// true promises what it tested; one that says false promises nothing. Tables are written by index: of what
+// `iter_mut().zip(..)` writes a proof would know nothing, and since only the first cells of an array are written, a
+// part of it would have to be lent, and put back in the proof. That counts of moves and levels are at most a horizon is
+// asked where they come in: what holds them, `Guess` and `Tries`, says so.
 #![tactic(auto)]
 
 ghost use Rattle.std.specs.Prelude.{◌≡◌, true, ◌+◌, ◌-◌, ◌*◌, ◌%◌, ◌≤◌, ◌<◌, length, get_or, replicate};
@@ -80,7 +80,8 @@ impl Part {
     {
         let v = reached(t, d.saturating_sub(self.lo).min(self.hi), j);
         if v <= u32::from(limit) {
-            // The limit fits 16 bits. (By `then_some` the cast would stand before the test, and did not prove.)
+            // The limit fits 16 bits. (With `then_some` the cast would stand before the
+            // test, where nothing says that it fits.)
             return Some(v as u16);
         }
         None

@@ -14,7 +14,8 @@ use checker::{Breach, Verdict};
 use network::Network;
 use refusal::Refusal;
 
-// One more than any sheet's table has. No Option of a table: the call itself then answers 11 in its turn.
+// One more than any sheet's table has. It is no Option of a table, since the call itself then
+// answers 11 in its turn.
 const TAKEN: usize = Network::CELLS + 1;
 
 // The minutes of the bytes, in front of the table; where they are no sheet's, as many as no sheet's table has. (The

@@ -1,5 +1,5 @@
-// A table as bytes, two a minute and the low byte first: how it travels to and from the bench's C program. Both loops
-// go by index, since each turn reads or writes two bytes for one minute, and of what is written through
+// A table as bytes, two a minute and the low byte first: how it travels to and from the bench's C program. Bytes
+// go by index, since each turn reads or writes two of them for one minute, and of what is written through
 // `iter_mut().zip(..)` a proof would know nothing.
 #![tactic(auto)]
 
@@ -24,8 +24,8 @@ pub fn pack(table: &[u16], bytes: &mut [u8])
     ensures { bytes.new ≡ bytes_of table.now
         ++ drop (2 * length table.now) bytes.old }
 {
-    for i in 0..table.len() {
-        let [low, high] = table[i].to_le_bytes();
+    for (i, minute) in table.iter().enumerate() {
+        let [low, high] = minute.to_le_bytes();
         bytes[2 * i] = low;
         bytes[2 * i + 1] = high;
     }

@@ -52,7 +52,7 @@ fn digits_in(f: &[u8]) -> Option<u16>
 fn minute_in(f: &[u8]) -> Option<u16>
     ensures { result ≡ minute_in_lem f.now }
 {
-    // No `match`: it has three ways to no dash, which the prover's search leaves open.
+    // There is no `match`, since it has three ways to no dash, which the prover's search leaves open.
     if f == b"-".as_slice() {
         return Some(Network::BLANK);
     }
@@ -158,6 +158,8 @@ impl<'a> Rows<'a> {
     {
         let events = self.formed.network.events;
         let mut at = self.first;
+        // Rows go by number: that of a row is told where it is refused, and what chunks_exact_mut lends stands in an
+        // iterator.
         for s in 0..self.formed.scenario_count() {
             let end = at + text::until(&self.printed[at..], b'\n');
             let start = s * events;

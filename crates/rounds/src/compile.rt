@@ -77,6 +77,7 @@ pub fn list_waits(lists: &mut Lists, frame: &Frame)
     }
     let network = &frame.network;
     for (w, &label) in network.labels[..network.events].iter().enumerate() {
+        // Signals go by number: it is asked of the label, and an event and a reaction are two arrays.
         for p in 0..network.signals {
             if network::mentions(label, p) {
                 let wait = wait_of(network.observations[p], w, frame.reactions[p], label);

@@ -57,8 +57,8 @@ impl<'a> Compiled<'a> {
         let mut first = [0; Network::CASES];
         known::first_known(row, &self.frame, s, &mut first);
         let mut o = self.lists[s].raised(row);
-        // By number: d is the set of signals on which two scenarios differ, and both a place in `first` and what turns
-        // s into the other scenario.
+        // These go by number: d is the set of signals on which two scenarios differ, and both a place in `first` and
+        // what turns s into the other scenario.
         for d in 1..self.frame.scenarios {
             rows::raise_by_scenario(t, s ^ d, first[d], &mut o);
         }

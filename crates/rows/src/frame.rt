@@ -104,8 +104,8 @@ impl Frame {
         ensures { out.new ≡ handed self.now.network t.now ++ drop (cells self.now.network) out.old }
     {
         let events = self.network.events;
-        // Rows by number: behind the last one `out` may go on, and what chunks_exact_mut lends stands in an iterator,
-        // out of which the proof would have to put it back.
+        // Rows go by number: behind the last one `out` may go on, and what chunks_exact_mut lends stands in an
+        // iterator, out of which the proof would have to put it back.
         for s in 0..self.scenarios {
             let start = s * events;
             self.copy_row(t, s, &mut out[start..start + events]);

@@ -103,7 +103,7 @@ impl Reader<'_> {
     ghost use Rattle.sheet.specs.Reading.{read_entries_lem, read_section_lem, read_optional_lem};
     ghost use Rattle.sheet.specs.Stage.{MayBeAbsent, to_come};
 
-    // So many lines of a section.
+    // So many lines of a section. They are counted, since where the next one begins is known only once a line is read.
     fn read_entries(
         &self,
         section: Section,

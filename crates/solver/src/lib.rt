@@ -83,7 +83,7 @@ pub fn run(compiled: &Compiled, a: &mut Table, budget: u32) -> Ended
     let mut pace = Pace::new();
     let mut turns: u32 = 0;
     let mut rounds: u32 = 0;
-    // No plain count, since a turn may pass over rounds.
+    // This is no plain count, since a turn may pass over rounds.
     while rounds < budget {
         rounds += 1;
         turns += 1;
@@ -108,7 +108,7 @@ pub fn run(compiled: &Compiled, a: &mut Table, budget: u32) -> Ended
         let period = pace.follow(&turn);
         stretch.advance();
         rounds += pursue(&mut stretch, next, &mut watch, turns, budget - rounds);
-        // Two tests, since with `and_then` and a closure no proof was made of this loop.
+        // There are two tests, since with `and_then` and a closure no proof was made of this loop.
         if let Some(p) = period {
             if let Some(last) = pace::finish(
                 compiled,

@@ -22,14 +22,12 @@ pub fn again(rt: &impl Print, sheet: &[u8], table: &[u16]) -> io::Result<()> {
 }
 
 // The listing of n minutes, in a table of one minute less.
-fn print_short(rt: &impl Print, sheet: &[u8], printed: &[u8], n: usize) -> io::Result<()>
+fn fill_short(rt: &impl Print, sheet: &[u8], printed: &[u8], n: usize) -> io::Result<()>
     requires { n ≤ 256 }
 {
     let mut table = [0u16; opening::TABLE_MINUTES];
     let written = opening::read_listing(sheet, printed, &mut table[..n.saturating_sub(1)]);
-    print!(rt; " short ")?;
-    base::print_brief(rt, written)?;
-    println!(rt; "")
+    base::print_short(rt, written)
 }
 
 // The table of a listing that is handed in.
@@ -38,7 +36,7 @@ pub fn tell(rt: &impl Print, sheet: &[u8], printed: &[u8]) -> io::Result<()> {
     match report::recover(rt, "returned ", sheet, printed, &mut table)? {
         Some(n) => {
             print!(rt; "returned {n}")?;
-            print_short(rt, sheet, printed, n)?;
+            fill_short(rt, sheet, printed, n)?;
             base::judge(rt, sheet, b"", &table[..n])
         }
         None => Ok(()),

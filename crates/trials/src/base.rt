@@ -19,6 +19,16 @@ pub fn print_brief<T: Display + Copy>(
     }
 }
 
+// What a call answers whose memory is one place too short.
+pub fn print_short<T: Display + Copy>(
+    rt: &impl Print,
+    written: Result<T, Refusal>,
+) -> io::Result<()> {
+    print!(rt; " short ")?;
+    print_brief(rt, written)?;
+    println!(rt; "")
+}
+
 // What is read of the sheet.
 pub fn read(rt: &impl Print, sheet: &[u8]) -> io::Result<()> {
     match opening::read_sheet(sheet) {

@@ -29,7 +29,7 @@ pub struct Asked<'a> {
     pub table: &'a [u16],
 }
 
-// Whether the number has the bit. (Beside network's, which is asked for signals' bits alone: these are events' too.)
+// Whether the number has the bit. (Beside network's, which is asked for signals' bits alone: these are events'.)
 fn has(mask: usize, bit: usize) -> bool
     requires { bit < 16 }
 {
@@ -47,6 +47,7 @@ fn counts(given: u16, reaction: u16, minute: u16) -> bool {
 }
 
 // What the case s has heard before the minute, where signal p was given at given[p]; the last of the sheet first.
+// Signals go by number, since what is asked of one stands in three arrays.
 fn heard(formed: &Formed, s: usize, given: &Given, minute: u16) -> Said {
     let network = &formed.network;
     let mut said = Said::NOTHING;
@@ -59,7 +60,8 @@ fn heard(formed: &Formed, s: usize, given: &Given, minute: u16) -> Said {
     said
 }
 
-// Notes the minute for the signals that the events due give.
+// Notes the minute for the signals that the events due give. Signals go by number, since event and minute are two
+// arrays.
 fn give(formed: &Formed, given: &mut Given, due: u16, minute: u16) {
     let network = &formed.network;
     for p in 0..network.signals {

@@ -20,14 +20,12 @@ fn print_again(rt: &impl Print, form: &[u8]) -> io::Result<()> {
 }
 
 // The form of n bytes, in a buffer of one byte less.
-fn print_short(rt: &impl Print, sheet: &[u8], n: usize) -> io::Result<()>
+fn fill_short(rt: &impl Print, sheet: &[u8], n: usize) -> io::Result<()>
     requires { n ≤ 4096 }
 {
     let mut page = [0u8; opening::SHEET_BYTES];
     let written = opening::write_house(sheet, &mut page[..n.saturating_sub(1)]);
-    print!(rt; " short ")?;
-    base::print_brief(rt, written)?;
-    println!(rt; "")
+    base::print_short(rt, written)
 }
 
 // Takes the page of the last form before this sheet's, and leaves that of the last behind it.
@@ -42,7 +40,7 @@ pub fn tell(rt: &impl Print, sheet: &[u8], last: &mut Form) -> io::Result<()> {
                 rt.write_all(&page[..n])?;
             }
             print_again(rt, &page[..n])?;
-            print_short(rt, sheet, n)?;
+            fill_short(rt, sheet, n)?;
             *last = page;
             Ok(())
         }

@@ -65,8 +65,8 @@ impl Tally {
     }
 }
 
-// The sheets stand one behind the other, each followed by a line `=`. No `split`: the byte behind a `=` is passed over,
-// whatever it is.
+// The sheets stand one behind the other, each followed by a line `=`. It is no `split`, since the byte behind a `=` is
+// passed over, whatever it is.
 pub fn all(rt: &impl Print, text: &[u8]) -> io::Result<()> {
     let mut tally = Tally {
         sheets: 0,

@@ -1,6 +1,8 @@
 use mathlib.Core.Path.{◌≡◌, ◌∙◌, ap}
 use native.Mathlib.Omega.{arith}
+use Prim.Native.Nat.{◌<◌}
 use lib.ListN.{length}
+use Rattle.std.proofs.lemmas.List.{get_or-take, length-take}
 use Rattle.page.specs.Joined.{join_from}
 use Rattle.page.proofs.Pushed.{pushed_both, pushed-within, pushed_as}
 use Rattle.page.proofs.Pushing.{pushing-next, pushing-all}
@@ -12,7 +14,12 @@ use Rattle.canonical.proofs.push_label.Goals as goal
 pub loop-p-preserved : goal.loop-p-preserved
 loop-p-preserved c =
     let Γ = c.args.formed.now.network in
-    let text = ap (asked_text (letter Γ c.loop-p.p)) c.asked.ensures ∙ asked-literal Γ c.args.label c.loop-p.p in
+    let p = c.loop-p.p in
+    let below : p < Γ.signals = omega (arith, length-take Γ.signals Γ.letters, c.loop-p-test.true) in
+    let own = get_or-take Γ.signals Γ.letters p 0 below in
+    let text =
+    ap (λ l. asked_text l c.asked.result) own ∙ ap (asked_text (letter Γ p)) c.asked.ensures
+    ∙ asked-literal Γ c.args.label p in
     pushing-next c.loop-p.invariant {j = 2} (omega arith)
     (pushed_as text c.push_literal.ensures (omega arith)) (omega arith)
 
