@@ -1,9 +1,10 @@
 //! A solver to measure against: an unproved Rust solver, written apart from the library, of the same job and with the
-//! same rounds. Taken over as it was, but for its layout, its names and the reading of reactions, which its rounds
-//! had from the first. A sheet is taken to be in order: the reader panics where it is not.
+//! same rounds. Taken over as it was, but for its layout, its names, the reading of reactions, which its rounds had
+//! from the first, and the kind `fix`, which it does not know (02, point 7), so that a rule asks once and its lists are
+//! half as long. A sheet is taken to be in order: the reader panics where it is not.
 
 pub struct Rule {
-    /// 0 `max`, 1 `min`, 2 `fix`.
+    /// 0 `max`, 1 `min`.
     pub kind: u8,
     pub from: usize,
     pub to: usize,
@@ -76,7 +77,7 @@ impl Sheet {
             let kind = match fields[0] {
                 "max" => 0,
                 "min" => 1,
-                _ => 2,
+                other => panic!("no kind: {other}"),
             };
             let (positive, negative) = if fields[4] == "-" { (0, 0) } else { label_of(fields[4], &letters) };
             let (from, to) = (event(fields[1]), event(fields[2]));
@@ -110,7 +111,7 @@ fn agrees(s: usize, rule: &Rule) -> bool {
 
 fn asks(sheet: &Sheet) -> Vec<Ask> {
     let cases = 1usize << sheet.signals;
-    let mut asks = Vec::with_capacity(128);
+    let mut asks = Vec::with_capacity(64);
     for rule in &sheet.rules {
         let mut mask = 0u16;
         for s in 0..cases {
@@ -118,10 +119,9 @@ fn asks(sheet: &Sheet) -> Vec<Ask> {
                 mask |= 1 << s;
             }
         }
-        if rule.kind != 1 {
+        if rule.kind == 0 {
             asks.push(Ask { target: rule.from as u8, source: rule.to as u8, weight: -rule.limit as i16, mask });
-        }
-        if rule.kind >= 1 {
+        } else {
             asks.push(Ask { target: rule.to as u8, source: rule.from as u8, weight: rule.limit as i16, mask });
         }
     }
@@ -132,7 +132,7 @@ fn asks(sheet: &Sheet) -> Vec<Ask> {
 pub fn compiled(sheet: &Sheet) -> Answer {
     let (events, cases) = (sheet.events, 1usize << sheet.signals);
     let all = asks(sheet);
-    let mut lists = [[(0u8, 0u8, 0i16); 128]; 16];
+    let mut lists = [[(0u8, 0u8, 0i16); 64]; 16];
     let mut lengths = [0usize; 16];
     for ask in &all {
         for s in 0..cases {

@@ -15,8 +15,8 @@ const NAME_MOST: usize = 8;
 const REACTION_MOST: i32 = 60;
 /// The most fields that a line has.
 const FIELDS: usize = 5;
-/// A constraint that is a `fix` has two bounds, and an event one for each letter of its label.
-const BOUNDS: usize = 2 * RULES + EVENTS * SIGNALS;
+/// A constraint has one bound, and an event one for each letter of its label.
+const BOUNDS: usize = RULES + EVENTS * SIGNALS;
 /// What a cell holds whose event does not happen in its scenario.
 pub const BLANK: u16 = u16::MAX;
 /// Later than any known time: when a proposition is known that is not given.
@@ -28,7 +28,6 @@ const NEVER: u16 = 32_767;
 pub enum Kind {
     Max,
     Min,
-    Fix,
 }
 
 /// The sum of the weights of a label's true letters, and that of its false ones.
@@ -337,7 +336,7 @@ fn add_rule(network: &mut Network, fields: &[&[u8]]) -> Result<(), u8> {
     let kind = match kind {
         b"max" => Kind::Max,
         b"min" => Kind::Min,
-        b"fix" => Kind::Fix,
+        b"fix" => return Err(22),
         _ => return Err(3),
     };
     let limit = number(limit, -HORIZON, HORIZON)?;
@@ -490,18 +489,16 @@ impl Compiled {
     }
 }
 
-/// The bounds of each constraint, under the label that joins its own and those of its two events; behind them the waits
+/// The bound of each constraint, under the label that joins its own and those of its two events; behind them the waits
 /// of the labels.
 #[inline(never)]
 pub fn compile(network: &Network, compiled: &mut Compiled) {
     for c in network.constraints() {
         let ends = network.labels[usize::from(c.from) % EVENTS].join(network.labels[usize::from(c.to) % EVENTS]);
         let label = c.label.join(ends);
-        if !matches!(c.kind, Kind::Min) {
-            compiled.list(label, c.from, c.to, HORIZON - c.limit);
-        }
-        if !matches!(c.kind, Kind::Max) {
-            compiled.list(label, c.to, c.from, HORIZON + c.limit);
+        match c.kind {
+            Kind::Max => compiled.list(label, c.from, c.to, HORIZON - c.limit),
+            Kind::Min => compiled.list(label, c.to, c.from, HORIZON + c.limit),
         }
     }
     if compiled.labelled {

@@ -40,7 +40,7 @@ pub fn text_of(sheet: &Sheet) -> String {
     }
     text += &format!("rules,{}\n", sheet.rules.len());
     for rule in &sheet.rules {
-        let kind = ["max", "min", "fix"][rule.kind as usize];
+        let kind = ["max", "min"][rule.kind as usize];
         text += &format!("{kind},{},{},{},{}\n", name(rule.from), name(rule.to), rule.limit, label_text(rule));
     }
     let slow: Vec<usize> = (0..sheet.signals).filter(|&p| sheet.reactions[p] != 1).collect();
@@ -184,12 +184,13 @@ fn ordinary(random: &mut Random, events: usize, signals: usize, rules: usize) ->
             (from, from + 1 + random.below(events - 1 - from))
         };
         let (positive, negative) = if random.below(3) == 0 { random_label(random, signals) } else { ALWAYS };
-        let (kind, limit) = match random.below(10) {
-            x if reaching || x < 5 => (1, random.within(1, unit)),
-            x if x < 9 => (0, random.within(unit * 3, unit * 8)),
-            _ => (2, random.within(unit, unit * 2)),
+        // a `min` or a `max`, or both for an exact duration
+        let (kinds, limit) = match random.below(10) {
+            x if reaching || x < 5 => (1..2, random.within(1, unit)),
+            x if x < 9 => (0..1, random.within(unit * 3, unit * 8)),
+            _ => (0..2, random.within(unit, unit * 2)),
         };
-        list.push(Rule { kind, from, to, limit, positive, negative });
+        list.extend(kinds.map(|kind| Rule { kind, from, to, limit, positive, negative }));
     }
     Sheet { horizon, events, signals, givers, reactions: [1; 4], rules: list }
 }

@@ -17,10 +17,10 @@ fn by_rule(network: &Network, table: &Table, c: &Constraint, s: usize, u: usize)
     let (from, to) = (usize::from(c.from), usize::from(c.to));
     let mut least = 0;
     if c.label.covers(s) {
-        if u == from && happens(network, s, to) && !matches!(c.kind, Kind::Min) {
+        if u == from && happens(network, s, to) && matches!(c.kind, Kind::Max) {
             least = least.max(table[s][to] - c.limit);
         }
-        if u == to && happens(network, s, from) && !matches!(c.kind, Kind::Max) {
+        if u == to && happens(network, s, from) && matches!(c.kind, Kind::Min) {
             least = least.max(table[s][from] + c.limit);
         }
     }

@@ -16,9 +16,10 @@
  *     cases,c       c from 0 to n; then c lines `event,label`. The sheet may end before this section; any byte behind the
  *                   reactions begins it, so where there are none `reactions,0` stands before it
  *
- * Of the difference minute(to) - minute(from) the kind `max` asks that it is at most the limit, `min` that it is at least the
- * limit, and `fix` that it is the limit, which is from -10,080 to 10,080. A label is `-` for every case, or letters, each with
- * `!` before it for false: `p!q` means the cases in which p is true and q false. A number is `0`, or digits without a leading
+ * Of the difference minute(to) - minute(from) the kind `max` asks that it is at most the limit, and `min` that it is at least
+ * the limit, which is from -10,080 to 10,080. A third kind, `fix`, is retired: opening_convert turns sheets that still hold it
+ * into sheets of this form, and every other call refuses them. A label is `-` for every case, or letters, each with `!`
+ * before it for false: `p!q` means the cases in which p is true and q false. A number is `0`, or digits without a leading
  * zero, with `-` before it if it is negative.
  *
  * A signal's reaction is how many minutes after its event it is trusted. Without a line it is 1; a letter has at most one line.
@@ -57,7 +58,8 @@
  * answers it is:
  *
  *     byte     opening_solve        opening_judge       opening_due        opening_listing,     opening_read_listing
- *                                                                          opening_house
+ *                                                                          opening_house,
+ *                                                                          opening_convert
  *     0        number               number              number             number               number
  *     1, 2     line                 line                line               line                 line
  *     3        minutes, low byte    word                events 0 to 7      bytes, low byte      minutes, low byte
@@ -90,13 +92,13 @@
  *         the rules, or behind the reactions, that are no such section are 2 to 5
  *     11  judge, due, listing: not exactly n * 2^k minutes in the table, or an odd number of bytes         (line 0)
  *     12  solve, read_listing: the table has fewer than n * 2^k whole pairs of bytes;
- *         listing, house: out is shorter than the text                                                     (line 0)
+ *         listing, house, convert: out is shorter than the text                                            (line 0)
  *     13  solve: the sheet is in order, and no good table exists                                           (line 0)
  *     14  due: the table does not pass the judge                                                           (line 0)
  *     15  due: the text is not of the form above, or a letter in it is undefined or stands twice, with
  *         either sign                                                                                      (line 0)
  *     16  due: no case has heard exactly this before the minute                                            (line 0)
- *     17  house: more than 64 rows would be left                                                           (line 0)
+ *     17  convert: more than 64 rules would result                                                         (line 0)
  *     18  read_listing: the listing is longer than 4,096 bytes (line 1), or the line is not that of this sheet's
  *         listing: another header, another case, another count of fields, no line feed, a line missing (the line that
  *         it would be) or left over
@@ -104,11 +106,13 @@
  *         `-` alone is a blank
  *     20  the start is given a label other than `-`: the last line of the cases
  *     21  an event's or rule's label lacks part of the label of an event whose signal it uses: the last line of the cases
+ *     22  the row is a `fix`; never of convert
  *
- * Of the sheet, 1 is tried before any line; then its first line at fault decides, and on it the lowest number. 20 and 21 look at
- * all labels, and are tried on the last line of the cases, if that section has lines. A fault of the sheet (1 to 10, 20, 21) comes
- * before all others. Then each call has its own, in this order: solve 12, 13; judge 11; due 11, 14, 15, 16;
- * listing 11, 12; house 17, 12; read_listing 18, 19, 12, where 18 is tried over the whole listing before any 19.
+ * Of the sheet, 1 is tried before any line; then its first line at fault decides, and on it the lowest number, but 22 is tried
+ * directly after 3, before 4. 20 and 21 look at all labels, and are tried on the last line of the cases, if that section has
+ * lines. A fault of the sheet (1 to 10, 20 to 22) comes before all others. Then each call has its own, in this order: solve 12,
+ * 13; judge 11; due 11, 14, 15, 16; listing 11, 12; house 12; convert 17, 12; read_listing 18, 19, 12, where 18 is tried over
+ * the whole listing before any 19.
  *
  * Example, with <stdio.h> and <string.h>:
  *
@@ -153,7 +157,7 @@ extern "C" {
 #endif
 
 enum {
-    OPENING_SHEET_MOST = 4096,   /* bytes of the longest sheet that is read; no house form is longer */
+    OPENING_SHEET_MOST = 4096,   /* bytes of the longest sheet that is read; no house form or converted sheet is longer */
     OPENING_TABLE_MOST = 512,    /* bytes of the largest table: 16 events, 16 cases, two bytes each */
     OPENING_LISTING_MOST = 1765, /* bytes of the longest listing: that of such a table, long names, five digits everywhere */
     OPENING_PRINTED_MOST = 4096  /* bytes of the longest listing that is read back; a longer one is refused with 18 */
@@ -221,8 +225,8 @@ uint64_t opening_listing(const uint8_t *sheet, size_t sheet_len, const uint8_t *
 uint64_t opening_read_listing(const uint8_t *sheet, size_t sheet_len, const uint8_t *listing, size_t listing_len,
                               uint8_t *table, size_t table_len);
 
-/* Writes the sheet in its house form: horizon, events and signals as they are, and every rule as `max` rows (a `min` with its
- * ends swapped and its limit negated, a `fix` as both). Of rows with equal ends and label the one with the least limit stays.
+/* Writes the sheet in its house form: horizon, events and signals as they are, and every rule as a `max` row (a `min` with its
+ * ends swapped and its limit negated). Of rows with equal ends and label the one with the least limit stays.
  * They are ordered by `from`, then `to`, in event order, then by the sum of the weights of the label's true letters (signal i
  * has weight 1 << i), then of its false ones; a label's letters stand in signal order. Of the reactions only those other than
  * 1 are listed, in signal order, with no section if there are none; of the cases only the lines whose label is not `-`, in event
@@ -233,8 +237,18 @@ uint64_t opening_read_listing(const uint8_t *sheet, size_t sheet_len, const uint
  * horizons, events, signals, reactions (1 without a line), event labels (`-` without one) and the rows that stay are equal. If the
  * answer's number is 0, the first opening_bytes(answer) bytes of out are the form, with no NUL behind it, and all bytes behind
  * them are unaltered; an out longer than needed is no fault, and OPENING_SHEET_MOST bytes are always enough. Otherwise out keeps
- * all its contents. A sheet that has a good table may still be refused with 17. */
+ * all its contents. */
 uint64_t opening_house(const uint8_t *sheet, size_t sheet_len, uint8_t *out, size_t out_len);
+
+/* Converts a former sheet, whose rules may be of the kind `fix`: the difference is the limit. It is read by the former rules,
+ * those above with that kind, and refused by them: with the number and the line that it would have if each `fix` were a `max`.
+ * 17 is answered where more than 64 rules would result, whatever out is.
+ * In the converted sheet a `max` and a `min` row stand in the place of each `fix` row, with its other bytes, and the count of
+ * the rules is raised; every other byte stays. It has exactly the good tables of the former one. A sheet without `fix` comes
+ * back byte for byte. If the answer's number is 0, the first opening_bytes(answer) bytes of out are the converted sheet, with
+ * no NUL behind it, and all bytes behind them are unaltered; an out longer than needed is no fault, and OPENING_SHEET_MOST
+ * bytes are always enough. Otherwise out keeps all its contents. */
+uint64_t opening_convert(const uint8_t *sheet, size_t sheet_len, uint8_t *out, size_t out_len);
 
 /* Of every answer: the number of the refusal, or 0. */
 static inline unsigned opening_number(uint64_t answer) { return (unsigned)(answer & 0xff); }
@@ -248,7 +262,7 @@ static inline unsigned opening_minutes(uint64_t answer) { return (unsigned)(answ
 /* Of the answer of opening_due: the events due, bit u for event u. 0 on a refusal too, so look at the number first. */
 static inline unsigned opening_events(uint64_t answer) { return (unsigned)(answer >> 24 & 0xffff); }
 
-/* Of the answers of opening_listing and opening_house: how many bytes were written, or 0 on a refusal. */
+/* Of the answers of opening_listing, opening_house and opening_convert: how many bytes were written, or 0 on a refusal. */
 static inline unsigned opening_bytes(uint64_t answer) { return (unsigned)(answer >> 24 & 0xffff); }
 
 /* Of the judge's answer: the word, and its three numbers. All are 0 on a refusal, so look at the number first. */

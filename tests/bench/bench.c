@@ -1,5 +1,5 @@
 /* The workshop bench: calls the library as a C program does, and compares every answer and every lent byte with what
- * document 01 and points 1 to 4 of document 02 ask. The answers here were written by hand from the papers; where a
+ * document 01 and points 1 to 4, 6 and 7 of document 02 ask. The answers here were written by hand from the papers; where a
  * table is played, or its listing read back, what the solver wrote is to come out.
  *
  * cc -std=c11 -O2 -Wall -Wextra -Werror -o bench bench.c DIR/libopening.a
@@ -230,6 +230,28 @@ static void house(const char *about, const char *sheet, size_t sheet_len, size_t
     expect_memory(about, "sheet", &paper, &paper_before);
 }
 
+static void convert(const char *about, const char *sheet, size_t sheet_len, size_t length, unsigned number, unsigned line,
+                    const char *text)
+{
+    static struct lent paper, paper_before, room;
+    lend(&paper, sheet, sheet_len, '\n');
+    lend_room(&room, length);
+    paper_before = paper;
+
+    uint64_t answer = opening_convert(slice(&paper), sheet_len, slice(&room), length);
+    calls++;
+    expect_text(about, answer, &room, number, line, text);
+    expect_memory(about, "sheet", &paper, &paper_before);
+}
+
+/* Wanted: a refusal, whatever room is lent. */
+static void not_converted(const char *about, const char *sheet, size_t sheet_len, unsigned number, unsigned line)
+{
+    convert(about, sheet, sheet_len, OPENING_SHEET_MOST, number, line, NULL);
+    convert(about, sheet, sheet_len, 40, number, line, NULL);
+    convert(about, sheet, sheet_len, 0, number, line, NULL);
+}
+
 /* A listing handed in, as any bytes. */
 struct printed {
     const char *text;
@@ -285,7 +307,7 @@ static void misread(const char *about, const char *sheet, struct printed listing
         reread(about, sheet, strlen(sheet), listing, lengths[i], number, line, NULL, 0);
 }
 
-/* All four turn the same sheet away, whatever else they are handed. */
+/* The others turn the same sheet away, whatever else they are handed. */
 static void refused_by_all(const char *about, const char *sheet, size_t sheet_len, unsigned number, unsigned line)
 {
     static const uint8_t bytes[64];
@@ -559,6 +581,58 @@ static void solver_without_table(void)
     solve("no good table, no bytes: 12 comes first", no_table, length, 0, 12, 0, NULL, 0);
 }
 
+/* Sheets with a `fix`, the refusal by all but the converter, and the converter's own: 0 if there is none. */
+static const struct {
+    unsigned number, line, own_number, own_line;
+    const char *sheet;
+} outdated[] = {
+    {22, 9, 0, 0, HEAD "fix,start,call,5,-\nmin,call,door,15,p\nmax,start,door,30,-\n"},
+    {22, 10, 0, 0, HEAD "min,start,call,5,-\nfix,call,door,15,p\nfix,start,door,20,-\n"},
+    {22, 11, 0, 0, HEAD TWO "fix,start,door,20,-\nreactions,1\np,2\ncases,1\ndoor,p\n"},
+    {2, 11, 2, 11, HEAD TWO "fix,start,door,20,-"},
+    {3, 11, 3, 11, HEAD TWO "fix,start,door,20\n"},
+    {3, 11, 3, 11, HEAD TWO "fix,start,door,20,-,\n"},
+    {3, 11, 3, 11, HEAD TWO "fixx,start,door,20,-\n"},
+    {3, 11, 3, 11, HEAD TWO "Fix,start,door,20,-\n"},
+    {3, 11, 3, 11, HEAD TWO " fix,start,door,20,-\n"},
+    {3, 12, 3, 12, HEAD TWO RULES "fix,start,door,20,-\n"},
+    {22, 11, 4, 11, HEAD TWO "fix,start,door,020,-\n"},
+    {22, 11, 5, 11, HEAD TWO "fix,start,door,10081,-\n"},
+    {22, 11, 6, 11, HEAD TWO "fix,start,Door,20,-\n"},
+    {22, 11, 8, 11, HEAD TWO "fix,start,gate,20,-\n"},
+    {22, 11, 9, 11, HEAD TWO "fix,start,door,20,p!p\n"},
+    {22, 9, 2, 11, HEAD "fix,start,call,5,-\nmin,call,door,15,p\n"},
+    {22, 9, 3, 10, HEAD "fix,start,call,5,-\nmin,call,door,15\nmax,start,door,30,-\n"},
+    {8, 9, 8, 9, HEAD "max,start,gate,5,-\nfix,call,door,15,p\nmax,start,door,30,-\n"},
+    {22, 11, 3, 12, HEAD TWO "fix,start,door,20,-\n\n"},
+    {22, 11, 7, 14, HEAD TWO "fix,start,door,20,-\nreactions,2\np,2\np,2\n"},
+    {22, 11, 10, 14, HEAD TWO "fix,start,door,20,-\nreactions,0\ncases,0\nx"},
+    {22, 11, 20, 14, HEAD TWO "fix,start,door,20,-\nreactions,0\ncases,1\nstart,p\n"},
+    {22, 10, 21, 13, KEYS "rules,1\nfix,start,door,9,q\nreactions,0\ncases,1\ncall,p\n"},
+};
+
+static void refused_by_all_calls(const char *about, const char *sheet, unsigned number, unsigned line)
+{
+    solve(about, sheet, strlen(sheet), 100, number, line, NULL, 0);
+    solve(about, sheet, strlen(sheet), 0, number, line, NULL, 0);
+    judge_refused(about, sheet, 12, number, line);
+    judge_refused(about, sheet, 0, number, line);
+    judge_refused(about, sheet, 7, number, line);
+    refused_by_all(about, sheet, strlen(sheet), number, line);
+}
+
+static void outdated_sheets(void)
+{
+    for (size_t i = 0; i < sizeof outdated / sizeof outdated[0]; i++) {
+        const char *sheet = outdated[i].sheet;
+        char about[64];
+        sprintf(about, "outdated sheet %u (refusal %u line %u)", (unsigned)i, outdated[i].number, outdated[i].line);
+        refused_by_all_calls(about, sheet, outdated[i].number, outdated[i].line);
+        if (outdated[i].own_number != 0)
+            not_converted(about, sheet, strlen(sheet), outdated[i].own_number, outdated[i].own_line);
+    }
+}
+
 static void refused_sheets(void)
 {
     for (size_t i = 0; i < sizeof faulty / sizeof faulty[0]; i++) {
@@ -566,12 +640,8 @@ static void refused_sheets(void)
         const unsigned number = faulty[i].number, line = faulty[i].line;
         char about[64];
         sprintf(about, "faulty sheet %u (refusal %u line %u)", (unsigned)i, number, line);
-        solve(about, sheet, strlen(sheet), 100, number, line, NULL, 0);
-        solve(about, sheet, strlen(sheet), 0, number, line, NULL, 0);
-        judge_refused(about, sheet, 12, number, line);
-        judge_refused(about, sheet, 0, number, line);
-        judge_refused(about, sheet, 7, number, line);
-        refused_by_all(about, sheet, strlen(sheet), number, line);
+        refused_by_all_calls(about, sheet, number, line);
+        not_converted(about, sheet, strlen(sheet), number, line);
     }
 }
 
@@ -589,6 +659,8 @@ static void long_sheets(void)
     judge_bytes("4,097 bytes, judged", sheet, OPENING_SHEET_MOST + 1, bytes, sizeof bytes, too_long);
     refused_by_all("4,096 bytes, by the others", sheet, OPENING_SHEET_MOST, 10, 16);
     refused_by_all("4,097 bytes, by the others", sheet, OPENING_SHEET_MOST + 1, 1, 0);
+    not_converted("4,096 bytes, by the converter", sheet, OPENING_SHEET_MOST, 10, 16);
+    not_converted("4,097 bytes, by the converter", sheet, OPENING_SHEET_MOST + 1, 1, 0);
 }
 
 static void breaches(void)
@@ -1059,9 +1131,9 @@ static void long_listings(void)
 static void house_forms(void)
 {
     static const char form[] = FORM;
-    static const char typed[] = "horizon,60\nevents,3\nstart\ncall\ndoor\nsignals,2\nq,call\np,door\nrules,5\n"
-                                "fix,call,door,0,p!q\nmin,start,door,7,-\nmax,call,door,4,!qp\nmin,start,door,9,-\n"
-                                "max,start,start,0,q\n";
+    static const char typed[] = "horizon,60\nevents,3\nstart\ncall\ndoor\nsignals,2\nq,call\np,door\nrules,6\n"
+                                "min,call,door,0,p!q\nmax,call,door,0,p!q\nmin,start,door,7,-\nmax,call,door,4,!qp\n"
+                                "min,start,door,9,-\nmax,start,start,0,q\n";
     static const char merged[] = "horizon,60\nevents,3\nstart\ncall\ndoor\nsignals,2\nq,call\np,door\nrules,4\n"
                                  "max,start,start,0,q\nmax,call,door,0,!qp\nmax,door,start,-9,-\nmax,door,call,0,!qp\n";
     const size_t exact = strlen(form);
@@ -1093,54 +1165,143 @@ static void house_forms_of_slow_signals(void)
     house("house form, in signal order, again", wanted, strlen(wanted), strlen(wanted), 0, 0, wanted);
 }
 
-/* A sheet of `fix` rules, each between two events of its own, and the form, in which each leaves two rows; for an odd number of
- * rows the last rule is a `max`, which leaves one. */
-static void sheet_with_rows(char *sheet, char *form, unsigned rows)
+/* 16 events and no signal, up to the rules. */
+static size_t head_of_16(char *text)
 {
-    int limit[16][16] = {{0}};
-    size_t end = (size_t)sprintf(sheet, "horizon,60\nevents,16\n");
+    size_t end = (size_t)sprintf(text, "horizon,60\nevents,16\n");
     for (int i = 0; i < 16; i++)
-        end += (size_t)sprintf(sheet + end, "e%d\n", i);
-    end += (size_t)sprintf(sheet + end, "signals,0\n");
-    memcpy(form, sheet, end);
-    size_t at = end + (size_t)sprintf(form + end, "rules,%u\n", rows);
-    end += (size_t)sprintf(sheet + end, "rules,%u\n", (rows + 1) / 2);
-    for (int left = (int)rows, from = 15, to = 0; left > 0; left -= 2) {
-        end += (size_t)sprintf(sheet + end, "%s,e%d,e%d,%d,-\n", left == 1 ? "max" : "fix", from, to, left);
-        limit[from][to] = left;
-        limit[to][from] = left == 1 ? 0 : -left;
+        end += (size_t)sprintf(text + end, "e%d\n", i);
+    return end + (size_t)sprintf(text + end, "signals,0\n");
+}
+
+/* One of the rows of sheet_with_rows, each of which has a pair of events of its own. */
+static int row(char *text, const char *kind, unsigned left)
+{
+    int from = 15, to = 0;
+    for (unsigned i = 1; i < left; i++) {
         if (++to == from) {
             from--;
             to = 0;
         }
     }
-    for (int from = 0; from < 16; from++) {
-        for (int to = 0; to < 16; to++) {
-            if (limit[from][to] != 0)
-                at += (size_t)sprintf(form + at, "max,e%d,e%d,%d,-\n", from, to, limit[from][to]);
-        }
+    return sprintf(text, "%s,e%d,e%d,%u,-\n", kind, from, to, left);
+}
+
+/* A sheet of so many `fix` rows, behind which so many `max` rows stand, and what it is converted to. */
+static void sheet_with_rows(char *sheet, char *converted, unsigned fixes, unsigned others)
+{
+    size_t end = head_of_16(sheet), at = head_of_16(converted);
+    at += (size_t)sprintf(converted + at, "rules,%u\n", 2 * fixes + others);
+    end += (size_t)sprintf(sheet + end, "rules,%u\n", fixes + others);
+    for (unsigned left = fixes + others; left > 0; left--) {
+        const int is_fix = left > others;
+        end += (size_t)row(sheet + end, is_fix ? "fix" : "max", left);
+        at += (size_t)row(converted + at, "max", left);
+        if (is_fix)
+            at += (size_t)row(converted + at, "min", left);
     }
 }
 
-/* 64 rows may be left, 65 may not, and that is said before 12. */
+/* 64 rows may result, 65 may not, and that is said before 12. What results has a form, and it stays as it is. */
+static void rows_resulting(void)
+{
+    static const struct {
+        unsigned fixes, others;
+    } few[] = {{0, 0}, {0, 9}, {1, 7}, {1, 8}, {4, 1}, {5, 0}, {9, 0}, {1, 9}, {31, 1}, {1, 61}, {32, 0}, {1, 62}, {0, 64}},
+      many[] = {{32, 1}, {33, 0}, {1, 63}, {64, 0}, {40, 5}};
+    static char sheet[OPENING_SHEET_MOST], converted[2 * OPENING_SHEET_MOST];
+    for (size_t i = 0; i < sizeof few / sizeof few[0]; i++) {
+        char about[64];
+        sheet_with_rows(sheet, converted, few[i].fixes, few[i].others);
+        const size_t length = strlen(sheet), exact = strlen(converted);
+        sprintf(about, "%u rows of fix and %u others", few[i].fixes, few[i].others);
+        convert(about, sheet, length, exact, 0, 0, converted);
+        convert(about, sheet, length, exact + 1, 0, 0, converted);
+        convert(about, sheet, length, OPENING_SHEET_MOST, 0, 0, converted);
+        convert(about, sheet, length, exact - 1, 12, 0, NULL);
+        convert(about, sheet, length, length - 1, 12, 0, NULL);
+        convert(about, sheet, length, 0, 12, 0, NULL);
+        convert(about, converted, exact, exact, 0, 0, converted);
+    }
+    for (size_t i = 0; i < sizeof many / sizeof many[0]; i++) {
+        char about[64];
+        sheet_with_rows(sheet, converted, many[i].fixes, many[i].others);
+        sprintf(about, "%u rows of fix and %u others", many[i].fixes, many[i].others);
+        not_converted(about, sheet, strlen(sheet), 17, 0);
+        convert(about, sheet, strlen(sheet), strlen(sheet), 17, 0, NULL);
+        strcat(sheet, "reactions,0\ncases,0\n");
+        not_converted(about, sheet, strlen(sheet), 17, 0);
+        strcat(sheet, "x");
+        not_converted("17 behind 10", sheet, strlen(sheet), 10, 23 + many[i].fixes + many[i].others);
+    }
+}
+
+/* A `max` and a `min` row for each `fix`, and all else byte for byte: labels as they are typed, reactions of 1, lines `-`,
+ * and lines that begin with the word but are no rows. */
+static void converted_sheets(void)
+{
+#define WORDS "horizon,60\nevents,3\nrules\nfix\nmax\nsignals,2\np,fix\nq,rules\n"
+    static const struct {
+        const char *former, *converted;
+    } sheets[] = {
+        {HEAD TWO "fix,start,door,20,-\n",
+         "horizon,60\nevents,3\nstart\ncall\ndoor\nsignals,1\np,call\nrules,4\n" TWO
+         "max,start,door,20,-\nmin,start,door,20,-\n"},
+        {WORDS "rules,3\nfix,fix,max,-3,!qp\nmin,rules,fix,0,q!p\nfix,rules,rules,0,-\n"
+               "reactions,2\nq,1\np,60\ncases,3\nrules,-\nfix,-\nmax,p\n",
+         WORDS "rules,5\nmax,fix,max,-3,!qp\nmin,fix,max,-3,!qp\nmin,rules,fix,0,q!p\nmax,rules,rules,0,-\n"
+               "min,rules,rules,0,-\nreactions,2\nq,1\np,60\ncases,3\nrules,-\nfix,-\nmax,p\n"},
+        {WORDS "rules,0\nreactions,0\ncases,2\nfix,-\nmax,p\n", WORDS "rules,0\nreactions,0\ncases,2\nfix,-\nmax,p\n"},
+        {example, example},
+        {duress, duress},
+    };
+    for (size_t i = 0; i < sizeof sheets / sizeof sheets[0]; i++) {
+        const char *former = sheets[i].former, *converted = sheets[i].converted;
+        const size_t exact = strlen(converted);
+        char about[64];
+        sprintf(about, "converted sheet %u", (unsigned)i);
+        convert(about, former, strlen(former), exact, 0, 0, converted);
+        convert(about, former, strlen(former), exact + 1, 0, 0, converted);
+        convert(about, former, strlen(former), ROOM, 0, 0, converted);
+        convert(about, former, strlen(former), exact - 1, 12, 0, NULL);
+        convert(about, former, strlen(former), 0, 12, 0, NULL);
+        convert(about, converted, exact, exact, 0, 0, converted);
+    }
+}
+
+/* Trial 4 of document 01: converted, then solved and judged. */
+static void fourth_trial(void)
+{
+    static const char former[] = HEAD TWO "fix,start,door,20,-\n";
+    uint8_t room[OPENING_SHEET_MOST];
+    uint64_t answer = opening_convert((const uint8_t *)former, strlen(former), room, sizeof room);
+    calls++;
+    expect("trial 4", "the number", opening_number(answer), 0);
+    char sheet[OPENING_SHEET_MOST + 1] = "";
+    memcpy(sheet, room, opening_bytes(answer));
+    solve("trial 4", sheet, strlen(sheet), 12, 0, 0, (const uint16_t[]){0, 5, 20, 0, 5, 20}, 6);
+    judge("trial 4, a minute sooner", sheet, (const uint16_t[]){0, 5, 19, 0, 5, 20}, 6, OPENING_RULE, 0, 3, 0);
+    judge("trial 4, a minute later", sheet, (const uint16_t[]){0, 5, 20, 0, 5, 21}, 6, OPENING_RULE, 1, 2, 0);
+}
+
+/* 64 rows, as many as are left at most: half of them typed from their other end, the last first. */
 static void rows_left(void)
 {
     static char sheet[OPENING_SHEET_MOST], form[OPENING_SHEET_MOST];
-    sheet_with_rows(sheet, form, 63);
-    house("63 rows", sheet, strlen(sheet), strlen(form), 0, 0, form);
-    sheet_with_rows(sheet, form, 64);
-    house("64 rows, exact", sheet, strlen(sheet), strlen(form), 0, 0, form);
-    house("64 rows, a byte less", sheet, strlen(sheet), strlen(form) - 1, 12, 0, NULL);
-    sheet_with_rows(sheet, form, 65);
-    house("65 rows", sheet, strlen(sheet), OPENING_SHEET_MOST, 17, 0, NULL);
-    house("65 rows, a byte less: 17 comes first", sheet, strlen(sheet), strlen(form) - 1, 17, 0, NULL);
-    house("65 rows, no bytes: 17 comes first", sheet, strlen(sheet), 0, 17, 0, NULL);
-    strcat(sheet, "reactions,0\n");
-    house("65 rows and no reactions", sheet, strlen(sheet), OPENING_SHEET_MOST, 17, 0, NULL);
-    strcat(sheet, "cases,0\n");
-    house("65 rows and no labels", sheet, strlen(sheet), OPENING_SHEET_MOST, 17, 0, NULL);
-    strcat(sheet, "x");
-    house("65 rows and a byte: 10 comes first", sheet, strlen(sheet), OPENING_SHEET_MOST, 10, 56, NULL);
+    size_t end = head_of_16(sheet), at = head_of_16(form);
+    end += (size_t)sprintf(sheet + end, "rules,64\n");
+    at += (size_t)sprintf(form + at, "rules,64\n");
+    for (int i = 0; i < 64; i++) {
+        const int j = 63 - i, from = 12 + j / 16, to = j % 16;
+        at += (size_t)sprintf(form + at, "max,e%d,e%d,%d,-\n", 12 + i / 16, i % 16, i - 32);
+        if (i % 2 == 0)
+            end += (size_t)sprintf(sheet + end, "max,e%d,e%d,%d,-\n", from, to, j - 32);
+        else
+            end += (size_t)sprintf(sheet + end, "min,e%d,e%d,%d,-\n", to, from, 32 - j);
+    }
+    house("64 rows, exact", sheet, end, at, 0, 0, form);
+    house("64 rows, a byte less", sheet, end, at - 1, 12, 0, NULL);
+    house("64 rows, no bytes", sheet, end, 0, 12, 0, NULL);
 }
 
 /* 16 events, 4 signals: 256 minutes in 512 bytes, so that both bytes of their count are used. Event i waits for minute i. */
@@ -1209,6 +1370,10 @@ int main(void)
     house_forms();
     house_forms_of_slow_signals();
     rows_left();
+    outdated_sheets();
+    converted_sheets();
+    rows_resulting();
+    fourth_trial();
     solve_then_judge(example);
     solve_then_judge(signal_last);
     solve_then_judge(two_signals);

@@ -2,12 +2,12 @@
 # divides.sh LIBRARY: numbers are written without division (02, point 5), in what the compiler makes of it too. It may
 # turn a loop that counts off back into a division, and it divides by a constant by multiplying with another.
 #
-# Looked at are opening_listing, opening_house and all that they call. There no instruction divides; none multiplies
-# but a register by a register or by what is in memory, and then the function puts no large constant into a register,
-# other than a mask of whole bytes, by which nothing is divided; in the crates that write numbers, `text` and `page`,
-# and in `counted`, whose lists they write on, none multiplies at all. Nothing is called that is not in the library, but
-# memcpy and its like. And the source of these three crates has no / and no % outside contracts. That each of these is
-# noticed is tried on small functions first.
+# Looked at are opening_listing, opening_house, opening_convert and all that they call. There no instruction divides;
+# none multiplies but a register by a register or by what is in memory, and then the function puts no large constant
+# into a register, other than a mask of whole bytes, by which nothing is divided; in the crates that write numbers,
+# `text` and `page`, and in `counted`, whose lists they write on, none multiplies at all. Nothing is called that is not
+# in the library, but memcpy and its like. And the source of these three crates has no / and no % outside contracts.
+# That each of these is noticed is tried on small functions first.
 # Prints one line and exits with 0, or says what was found and exits with 1.
 set -u
 cd "$(dirname "$0")/../.." || exit 2
@@ -41,7 +41,7 @@ found() { # FILE
     }
     /\tcall[q]? +\*/ { fault($0) }
     END {
-      last = split("opening_listing opening_house", due, " ")
+      last = split("opening_listing opening_house opening_convert", due, " ")
       for (i = 1; i <= last; i++) if (!(due[i] in seen)) {
         name = due[i]; seen[name] = 1
         if (!(name in known)) {
@@ -61,12 +61,13 @@ at_fault() { found "$1" | grep -v '^seen '; }
 
 divisions() { grep -nvE '^ *(//|ghost |requires |ensures )' "$1" | grep '[/%]'; } # FILE: in its code
 
-# opening_listing and opening_house of a library in which the first does this to v, by a function `of`
+# the three of a library in which the first does this to v, by a function `of`
 small() { # NAME TYPE BODY [NAME OF THE FUNCTION]
   {
     printf '#include <stdint.h>\ntypedef %s number;\nextern number other(number);\n' "$2"
     printf '__attribute__((noinline)) number of(number v, number w) { (void)w; %s }\n' "$3"
-    printf 'number opening_listing(number v, number w) { return of(v, w) + 1; }\nvoid opening_house(void) {}\n'
+    printf 'number opening_listing(number v, number w) { return of(v, w) + 1; }\n'
+    printf 'void opening_house(void) {}\nvoid opening_convert(void) {}\n'
   } >"$room/$1.c"
   gcc -std=c11 -O2 -ffunction-sections -c -o "$room/$1.o" "$room/$1.c" &&
     objcopy --redefine-sym of="${4-of}" "$room/$1.o" || fail "$1 is not compiled"
@@ -101,12 +102,13 @@ for source in crates/{text,page,counted}/src/*.rt; do
   ! divisions "$source" || fail "a division in $source"
 done
 found "$1" >"$room/found"
-for name in opening_listing opening_house; do
+for name in opening_listing opening_house opening_convert; do
   grep -q "^seen $name$" "$room/found" || fail "$name is not in the library"
 done
 # by the method of a page, by `spell`, or by what these two are made of where the compiler keeps that apart
 grep -qE '^seen (page::Page::push_number|text::digits::(spell|place|count_off))(::<.*>)?$' "$room/found" ||
   fail 'it is not seen where numbers are written'
 ! at_fault "$1" || fail 'the library divides'
-called=$(($(grep -c '^seen ' "$room/found") - 2))
-echo "divides: nothing divides in opening_listing, opening_house and the $called functions that they call"
+called=$(($(grep -c '^seen ' "$room/found") - 3))
+three="opening_listing, opening_house, opening_convert"
+echo "divides: nothing divides in $three and the $called functions that they call"

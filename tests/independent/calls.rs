@@ -107,7 +107,8 @@ pub fn compare(seed: u64, cases: u64) {
     println!("{cases} cases from seed {seed}: no difference");
 }
 
-/// All calls for the sheet of one seed, and at times those that write text for a second sheet, which has more of what they turn on.
+/// All calls for the sheet of one seed, the converter's for one that is made for it too, and at times those that write
+/// other texts for a second sheet, which has more of what they turn on.
 pub fn compare_one(library: &Library, seed: u64, counts: &mut Counts) -> Result<(), String> {
     let mut rng = Rng::new(seed);
     let sheet = gen::sheet(&mut rng);
@@ -134,6 +135,10 @@ pub fn compare_one(library: &Library, seed: u64, counts: &mut Counts) -> Result<
         ask_for_listing(&mut rng, library, &case, table, counts)?;
     }
     ask_for_house_form(&mut rng, library, &case, counts)?;
+    ask_for_conversion(&mut rng, library, &case, counts)?;
+    let former = gen::former_sheet(&mut rng);
+    let former = Case::new(&mut rng, &former, |_| None);
+    ask_for_conversion(&mut rng, library, &former, counts)?;
     if rng.chance(15) {
         compare_long_texts(library, &mut rng, counts)?;
     }
@@ -144,7 +149,7 @@ pub fn compare_one(library: &Library, seed: u64, counts: &mut Counts) -> Result<
     Ok(())
 }
 
-/// House forms of about 64 rows and more, and listings with minutes of five digits.
+/// House forms of about 64 rows, and listings with minutes of five digits.
 fn compare_long_texts(library: &Library, rng: &mut Rng, counts: &mut Counts) -> Result<(), String> {
     let sheet = gen::text_sheet(rng);
     let case = Case::new(rng, &sheet, |_| None);
@@ -194,6 +199,14 @@ fn ask_for_house_form(rng: &mut Rng, library: &Library, case: &Case, counts: &mu
     let text = model::house(case.sheet.slice());
     for room in rooms(rng, &text) {
         compare_house(library, case, &text, &lend_room(rng, room), counts)?;
+    }
+    Ok(())
+}
+
+fn ask_for_conversion(rng: &mut Rng, library: &Library, case: &Case, counts: &mut Counts) -> Result<(), String> {
+    let text = model::convert(case.sheet.slice());
+    for room in rooms(rng, &text) {
+        compare_convert(library, case, &text, &lend_room(rng, room), counts)?;
     }
     Ok(())
 }
@@ -308,6 +321,20 @@ fn compare_house(
     let right = outcome.map_or_else(refusal_answer, value_answer);
     count(counts, text_kind("house form", &outcome));
     check("house form", (right, answer), &[("buffer", &asked, &out), ("sheet", &case.sheet, &sheet)])
+        .map_err(|words| format!("{words}room for {} bytes\n{}", room.length, scene(case, None)))
+}
+
+/// One call of the converter.
+fn compare_convert(
+    library: &Library, case: &Case, text: &Result<Vec<u8>, Refusal>, room: &Lent, counts: &mut Counts,
+) -> Result<(), String> {
+    let (asked, outcome) = written(text, room);
+    let (sheet, mut out) = (case.sheet.clone(), room.clone());
+    let answer = (library.convert)(sheet.slice(), out.slice_mut());
+    let right = outcome.map_or_else(refusal_answer, value_answer);
+    let changed = if text.as_deref() == Ok(case.sheet.slice()) { "unchanged sheet" } else { "converted sheet" };
+    count(counts, text_kind(changed, &outcome));
+    check("converter", (right, answer), &[("buffer", &asked, &out), ("sheet", &case.sheet, &sheet)])
         .map_err(|words| format!("{words}room for {} bytes\n{}", room.length, scene(case, None)))
 }
 

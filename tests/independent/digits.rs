@@ -1,5 +1,6 @@
-//! The mode `numbers`: each number that a listing or a house form can have in a place, through the C calls, against the
-//! digits that Rust prints. And wrong programs that write numbers by counting off, as 02, point 5 asks, with a slip.
+//! The mode `numbers`: each number that a listing, a house form or a converted sheet can have in a place, through the C
+//! calls, against the digits that Rust prints. And wrong programs that write numbers by counting off, as 02, point 5
+//! asks, with a slip.
 
 use crate::library::{own, Library};
 use crate::model;
@@ -24,10 +25,11 @@ const LABELS: usize = 15;
 /// What was compared.
 pub fn words() -> String {
     let forms = format!("{LIMITS} limits, {HORIZONS} horizons, {REACTIONS} reactions and every count of a section");
-    format!("{MINUTES} minutes in listings, and {forms} in house forms: no difference")
+    let counts = "every count of rules before and behind the converter";
+    format!("{MINUTES} minutes in listings, {forms} in house forms, and {counts}: no difference")
 }
 
-/// Listings first, then house forms; a difference has its place among all of these texts.
+/// Listings first, then house forms, then converted sheets; a difference has its place among all of these texts.
 pub fn compare_all(library: &Library) -> Result<(), Difference> {
     let limits: Vec<i64> = (-10_080..=10_080).collect();
     assert_eq!(limits.len() as i64, LIMITS);
@@ -43,7 +45,9 @@ pub fn compare_all(library: &Library) -> Result<(), Difference> {
     let of_counts = of_counts.chain(counts_of_labels);
     let forms = of_limits.chain(of_horizons).chain(of_reactions).chain(of_counts);
     let listings = (0..MINUTES).step_by(CELLS).map(|first| compare_minutes(library, first));
+    let counts = (0..=RULES).flat_map(|count| (0..=count.min(RULES - count)).map(move |fixes| (count, fixes)));
     let all = listings.chain(forms.map(|form| compare_form(library, &form)));
+    let all = all.chain(counts.map(|(count, fixes)| compare_count(library, count, fixes)));
     (1..).zip(all).try_for_each(|(place, compared)| compared.map_err(|words| (place, words)))
 }
 
@@ -94,6 +98,17 @@ fn compare_form(library: &Library, form: &str) -> Result<(), String> {
     compare_text(form.as_bytes(), |out| (library.house)(form.as_bytes(), out))
 }
 
+/// So many rows, of which so many are a `fix`, through the converter.
+fn compare_count(library: &Library, count: usize, fixes: usize) -> Result<(), String> {
+    let head = form(0, [1, 0], &[], &[]).replace("rules,0\n", "");
+    let rows = |kind: &str, count: usize| format!("{kind},a,a,0,-\n").repeat(count);
+    let both = (rows("max", 1) + &rows("min", 1)).repeat(fixes);
+    let former = format!("{head}rules,{count}\n{}{}", rows("fix", fixes), rows("max", count - fixes));
+    let text = format!("{head}rules,{}\n{both}{}", count + fixes, rows("max", count - fixes));
+    assert_eq!(model::convert(former.as_bytes()).as_deref(), Ok(text.as_bytes()));
+    compare_text(text.as_bytes(), |out| (library.convert)(former.as_bytes(), out))
+}
+
 fn compare_text(text: &[u8], call: impl Fn(&mut [u8]) -> u64) -> Result<(), String> {
     let mut out = vec![b'?'; ROOM];
     let answer = call(&mut out);
@@ -124,7 +139,7 @@ pub enum Slip {
     NineIsEight,
 }
 
-pub const FAULTS: [(&str, Library); 12] = [
+pub const FAULTS: [(&str, Library); 15] = [
     ("listing-place-skipped", Library { listing: |s, t, out| listed(s, t, out, Slip::PlaceSkipped), ..own::LIBRARY }),
     ("listing-leading-zero", Library { listing: |s, t, out| listed(s, t, out, Slip::LeadingZero), ..own::LIBRARY }),
     ("listing-ten-ones", Library { listing: |s, t, out| listed(s, t, out, Slip::TenOnes), ..own::LIBRARY }),
@@ -137,12 +152,16 @@ pub const FAULTS: [(&str, Library); 12] = [
     ("house-zeros-lost", Library { house: |s, out| housed(s, out, Slip::ZerosLost), ..own::LIBRARY }),
     ("house-nothing-for-0", Library { house: |s, out| housed(s, out, Slip::NothingForZero), ..own::LIBRARY }),
     ("house-nine-is-eight", Library { house: |s, out| housed(s, out, Slip::NineIsEight), ..own::LIBRARY }),
+    ("convert-leading-zero", Library { convert: |s, out| converted(s, out, Slip::LeadingZero), ..own::LIBRARY }),
+    ("convert-ten-ones", Library { convert: |s, out| converted(s, out, Slip::TenOnes), ..own::LIBRARY }),
+    ("convert-nothing-for-0", Library { convert: |s, out| converted(s, out, Slip::NothingForZero), ..own::LIBRARY }),
 ];
 
 /// The same without a slip, so that it is the slip that is noticed.
 pub const RIGHT: Library = Library {
     listing: |s, t, out| listed(s, t, out, Slip::None),
     house: |s, out| housed(s, out, Slip::None),
+    convert: |s, out| converted(s, out, Slip::None),
     ..own::LIBRARY
 };
 
@@ -153,6 +172,21 @@ fn listed(sheet: &[u8], table: &[u8], out: &mut [u8], slip: Slip) -> u64 {
 
 fn housed(sheet: &[u8], out: &mut [u8], slip: Slip) -> u64 {
     own::write_text(model::house(sheet).map(|text| respelled(&text, slip)), out)
+}
+
+/// Here the count alone is written anew: it is the only number of a converted sheet that is not copied.
+fn converted(sheet: &[u8], out: &mut [u8], slip: Slip) -> u64 {
+    own::write_text(model::convert(sheet).map(|text| recounted(&text, slip)), out)
+}
+
+/// An accepted sheet with the count of its rules written anew.
+pub fn recounted(sheet: &[u8], slip: Slip) -> Vec<u8> {
+    let net = model::read(sheet).expect("a sheet");
+    let spelt = |(place, line): (usize, &[u8])| match place == 3 + net.events.len() + net.signals.len() {
+        true => respelled(line, slip),
+        false => line.to_vec(),
+    };
+    sheet.split_inclusive(|&byte| byte == b'\n').enumerate().flat_map(spelt).collect()
 }
 
 /// A text with each field that is a number written anew. No name and no label is one.

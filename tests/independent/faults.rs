@@ -1,15 +1,17 @@
 //! Wrong libraries, to see that the comparison notices them: those of document 01's last section, and some like them
-//! for each call, for reactions (02, point 3), for listings read back (02, point 4) and for events that only some cases
-//! have (02, point 6).
+//! for each call, for reactions (02, point 3), for listings read back (02, point 4), for events that only some cases
+//! have (02, point 6) and for `fix` rows, which are refused or converted (02, point 7).
 
 use crate::library::own::{
     self, handed, minutes_of, pack, refused, refused_call, returned, two_bytes, verdict, write, write_text,
 };
 use crate::library::{Library, Question};
+use crate::converters::{self, Slip as Converted};
 use crate::labels::{self, Slip as Absent};
 use crate::leaps::{self, Slip as Solved};
 use crate::model::{self, truth, Kind, Label, Net, Refusal, Rule, Verdict, BLANK};
 use crate::readers::{self, Slip as Back};
+use crate::retired::{self, Slip as Retired};
 use crate::sections::{self, up_to_reactions, Slip};
 use std::ops::RangeInclusive;
 
@@ -37,16 +39,21 @@ const fn reader(read_listing: fn(&[u8], &[u8], &mut [u8]) -> u64) -> Library {
     Library { read_listing, ..own::LIBRARY }
 }
 
+const fn convert(convert: fn(&[u8], &mut [u8]) -> u64) -> Library {
+    Library { convert, ..own::LIBRARY }
+}
+
 const REFUSES_ALL: Library = Library {
     solve: |_, _| refused_call(13),
     judge: |_, _| refused_call(11),
     due: |_| refused_call(16),
     listing: |_, _, _| refused_call(12),
-    house: |_, _| refused_call(17),
+    house: |_, _| refused_call(12),
     read_listing: |_, _, _| refused_call(12),
+    convert: |_, _| refused_call(17),
 };
 
-pub const FAULTS: [(&str, Library); 374] = [
+pub const FAULTS: [(&str, Library); 452] = [
     ("13-at-once", solver(|sheet, table| with_solver(sheet, table, |_| None))),
     ("refuses-all", REFUSES_ALL),
     ("minute-0-throughout", solver(|sheet, table| with_solver(sheet, table, |net| model::solve(net).map(|good| vec![0; good.len()])))),
@@ -149,10 +156,7 @@ pub const FAULTS: [(&str, Library); 374] = [
     ("listing-needs-a-byte-more", listing(|sheet, table, out| needing(out, |length| length + 1, |out| own::listing(sheet, table, out)))),
     ("listing-needs-the-longest", listing(|sheet, table, out| needing(out, |_| LONGEST, |out| own::listing(sheet, table, out)))),
     ("listing-not-the-longest", listing(not_the_longest)),
-    ("house-17-behind-12", house(room_before_rows)),
-    ("house-written-where-17", house(written_where_17)),
-    ("house-17-with-a-line", house(|sheet, out| renumbered(own::house(sheet, out), &[(17, 256 + 17)]))),
-    ("house-12-for-17", house(|sheet, out| renumbered(own::house(sheet, out), &[(17, 12)]))),
+    ("house-17-at-64-rows", house(|sheet, out| if has_64_rows(sheet) { 17 } else { own::house(sheet, out) })),
     ("house-as-typed", house(|sheet, out| write_text(model::house(sheet).map(|_| sheet.to_vec()), out))),
     ("house-byte-behind", house(|sheet, out| byte_behind(own::house(sheet, out), out))),
     ("house-out-altered-on-12", house(|sheet, out| altered_on(12, own::house(sheet, out), out))),
@@ -309,6 +313,87 @@ pub const FAULTS: [(&str, Library); 374] = [
     ("listing-refused-over-blanks", listing(refused_over_blanks)),
     ("house-labels-dropped", house(|sheet, out| write_text(model::house(sheet).map(without_label_lines), out))),
     ("house-room-without-labels", house(room_without_labels)),
+    ("22-before-2", judge(|sheet, table| rows_read(sheet, table, Retired::BeforeTwo))),
+    ("22-before-3", judge(|sheet, table| rows_read(sheet, table, Retired::BeforeThree))),
+    ("22-behind-4", judge(|sheet, table| rows_read(sheet, table, Retired::BehindFour))),
+    ("22-behind-5", judge(|sheet, table| rows_read(sheet, table, Retired::BehindFive))),
+    ("22-behind-6", judge(|sheet, table| rows_read(sheet, table, Retired::BehindSix))),
+    ("22-behind-8", judge(|sheet, table| rows_read(sheet, table, Retired::BehindEight))),
+    ("22-behind-9", judge(|sheet, table| rows_read(sheet, table, Retired::BehindNine))),
+    ("22-is-3", judge(|sheet, table| rows_read(sheet, table, Retired::IsThree))),
+    ("22-for-every-other-kind", judge(|sheet, table| rows_read(sheet, table, Retired::EveryOtherKind))),
+    ("22-for-a-kind-that-begins-so", judge(|sheet, table| rows_read(sheet, table, Retired::KindBegins))),
+    ("22-for-capitals", judge(|sheet, table| rows_read(sheet, table, Retired::AnyCapitals))),
+    ("22-for-a-space-before-it", judge(|sheet, table| rows_read(sheet, table, Retired::SpacesBefore))),
+    ("22-without-line", judge(|sheet, table| rows_read(sheet, table, Retired::WithoutLine))),
+    ("22-a-line-before", judge(|sheet, table| rows_read(sheet, table, Retired::LineBefore))),
+    ("22-a-line-behind", judge(|sheet, table| rows_read(sheet, table, Retired::LineBehind))),
+    ("22-at-the-heading", judge(|sheet, table| rows_read(sheet, table, Retired::LineOfTheHeading))),
+    ("22-with-its-place-among-the-rows", judge(|sheet, table| rows_read(sheet, table, Retired::PlaceOfTheRow))),
+    ("22-of-the-last-of-all", judge(|sheet, table| rows_read(sheet, table, Retired::LastOfAll))),
+    ("22-before-other-rows", judge(|sheet, table| rows_read(sheet, table, Retired::BeforeOtherRows))),
+    ("22-behind-other-rows", judge(|sheet, table| rows_read(sheet, table, Retired::BehindOtherRows))),
+    ("22-behind-the-sheet", judge(|sheet, table| rows_read(sheet, table, Retired::BehindTheSheet))),
+    ("22-in-the-first-row-only", judge(|sheet, table| rows_read(sheet, table, Retired::FirstRowOnly))),
+    ("22-not-in-the-last-row", judge(|sheet, table| rows_read(sheet, table, Retired::NotInTheLastRow))),
+    ("judge-fix-is-max", judge(|sheet, table| rows_read(sheet, table, Retired::AsMax))),
+    ("judge-fix-is-min", judge(|sheet, table| rows_read(sheet, table, Retired::AsMin))),
+    ("judge-fix-left-out", judge(|sheet, table| rows_read(sheet, table, Retired::LeftOut))),
+    ("judge-fix-is-read", judge(|sheet, table| rows_read(sheet, table, Retired::AsBoth))),
+    ("solver-fix-is-read", solver(|sheet, table| own::solve(&converted(sheet), table))),
+    ("due-fix-is-read", due(|asked| own::due(Question { sheet: &converted(asked.sheet), ..asked }))),
+    ("listing-fix-is-read", listing(|sheet, table, out| own::listing(&converted(sheet), table, out))),
+    ("house-fix-is-read", house(|sheet, out| own::house(&converted(sheet), out))),
+    ("read-fix-is-read", reader(|sheet, text, room| own::read_listing(&converted(sheet), text, room))),
+    ("solver-22-without-line", solver(|sheet, table| without_line(22, own::solve(sheet, table)))),
+    ("due-22-without-line", due(|asked| without_line(22, own::due(asked)))),
+    ("listing-22-without-line", listing(|sheet, table, out| without_line(22, own::listing(sheet, table, out)))),
+    ("house-22-without-line", house(|sheet, out| without_line(22, own::house(sheet, out)))),
+    ("read-22-without-line", reader(|sheet, text, room| without_line(22, own::read_listing(sheet, text, room)))),
+    ("convert-min-left-out", convert(|sheet, out| converted_with(sheet, out, Converted::MinLeftOut))),
+    ("convert-both-max", convert(|sheet, out| converted_with(sheet, out, Converted::BothMax))),
+    ("convert-min-first", convert(|sheet, out| converted_with(sheet, out, Converted::MinFirst))),
+    ("convert-min-negated", convert(|sheet, out| converted_with(sheet, out, Converted::MinNegated))),
+    ("convert-min-at-the-end", convert(|sheet, out| converted_with(sheet, out, Converted::MinAtTheEnd))),
+    ("convert-nothing-done", convert(|sheet, out| converted_with(sheet, out, Converted::NothingDone))),
+    ("convert-only-the-first", convert(|sheet, out| converted_with(sheet, out, Converted::OnlyFirst))),
+    ("convert-last-missed", convert(|sheet, out| converted_with(sheet, out, Converted::LastMissed))),
+    ("convert-count-kept", convert(|sheet, out| converted_with(sheet, out, Converted::CountKept))),
+    ("convert-cases-too", convert(|sheet, out| converted_with(sheet, out, Converted::CasesConverted))),
+    ("convert-reactions-dropped", convert(|sheet, out| converted_with(sheet, out, Converted::ReactionsDropped))),
+    ("convert-labels-dropped", convert(|sheet, out| converted_with(sheet, out, Converted::CasesDropped))),
+    ("convert-64-refused", convert(|sheet, out| converted_with(sheet, out, Converted::Refused64))),
+    ("convert-65-accepted", convert(|sheet, out| converted_with(sheet, out, Converted::Passed65))),
+    ("convert-17-of-rules", convert(|sheet, out| converted_with(sheet, out, Converted::FixesOnce))),
+    ("convert-17-with-a-line", convert(|sheet, out| converted_with(sheet, out, Converted::SeventeenWithLine))),
+    ("convert-17-before-the-sheet", convert(|sheet, out| converted_with(sheet, out, Converted::SeventeenFirst))),
+    ("convert-12-for-17", convert(|sheet, out| converted_with(sheet, out, Converted::SeventeenIs12))),
+    ("convert-22", convert(|sheet, out| converted_with(sheet, out, Converted::TwentyTwo))),
+    ("convert-22-on-a-row-at-fault", convert(|sheet, out| converted_with(sheet, out, Converted::TwentyTwoOnTheRow))),
+    ("convert-22-before-a-fault", convert(|sheet, out| converted_with(sheet, out, Converted::TwentyTwoBefore))),
+    ("convert-line-lost", convert(|sheet, out| converted_with(sheet, out, Converted::LineLost))),
+    ("convert-line-as-converted", convert(|sheet, out| converted_with(sheet, out, Converted::LineAsConverted))),
+    ("convert-17-behind-12", convert(room_before_17)),
+    ("convert-12-before-sheet", convert(|sheet, out| if out.is_empty() { 12 } else { own::convert(sheet, out) })),
+    ("convert-12-with-a-line", convert(|sheet, out| renumbered(own::convert(sheet, out), &[(12, 256 + 12)]))),
+    ("convert-room-of-the-sheet", convert(|sheet, out| roomy(sheet, out, sheet.len()))),
+    ("convert-room-without-a-digit", convert(|sheet, out| roomy(sheet, out, without_a_digit(sheet)))),
+    ("convert-needs-a-byte-more", convert(|sheet, out| needing(out, |need| need + 1, |it| own::convert(sheet, it)))),
+    ("convert-needs-4096", convert(|sheet, out| needing(out, |_| 4096, |it| own::convert(sheet, it)))),
+    ("convert-as-far-as-it-fits", convert(converted_as_far_as_it_fits)),
+    ("convert-written-where-17", convert(written_where_17)),
+    ("convert-written-where-refused", convert(written_where_refused)),
+    ("convert-altered-on-12", convert(|sheet, out| altered_on(12, own::convert(sheet, out), out))),
+    ("convert-altered-on-17", convert(|sheet, out| altered_on(17, own::convert(sheet, out), out))),
+    ("convert-byte-behind", convert(|sheet, out| byte_behind(own::convert(sheet, out), out))),
+    ("convert-untouched", convert(|sheet, out| own::convert(sheet, &mut out.to_vec()))),
+    ("convert-unchanged-not-written", convert(unchanged_not_written)),
+    ("convert-unchanged-counts-0", convert(unchanged_counts_0)),
+    ("convert-count-one-less", convert(|sheet, out| revalued(own::convert(sheet, out), |count| count - 1))),
+    ("convert-count-of-a-byte", convert(|sheet, out| revalued(own::convert(sheet, out), |count| count % 256))),
+    ("convert-count-of-the-sheet", convert(count_of_the_sheet)),
+    ("convert-count-on-17", convert(count_on_17)),
+    ("convert-rows-beside", convert(rows_beside)),
     ("read-18-and-19-exchanged", reader(|sheet, text, room| read_back(sheet, text, room, Back::NumbersExchanged))),
     ("read-lines-in-turn", reader(|sheet, text, room| read_back(sheet, text, room, Back::LinesInTurn))),
     ("read-19-before-18-on-a-line", reader(|sheet, text, room| read_back(sheet, text, room, Back::NineteenOnTheLine))),
@@ -474,10 +559,10 @@ fn same_minute_solve(net: &Net) -> Option<Vec<u16>> {
 
 fn sweep_rule(net: &Net, minutes: &mut [i64], case: usize, rule: &Rule) {
     let (from, to) = (net.cell(case, rule.from), net.cell(case, rule.to));
-    if rule.kind != Kind::Min {
+    if rule.kind == Kind::Max {
         minutes[from] = minutes[from].max(minutes[to] - rule.limit);
     }
-    if rule.kind != Kind::Max {
+    if rule.kind == Kind::Min {
         minutes[to] = minutes[to].max(minutes[from] + rule.limit);
     }
 }
@@ -910,23 +995,115 @@ fn not_the_longest(sheet: &[u8], table: &[u8], out: &mut [u8]) -> u64 {
     needing(out, |length| if length == LONGEST { usize::MAX } else { length }, |out| own::listing(sheet, table, out))
 }
 
-fn room_before_rows(sheet: &[u8], out: &mut [u8]) -> u64 {
-    if own::house(sheet, out) == 17 && out.len() < sheet.len() { 12 } else { own::house(sheet, out) }
+fn has_64_rows(sheet: &[u8]) -> bool {
+    model::read(sheet).is_ok_and(|net| model::rows_left(&net).len() == 64)
+}
+
+// ---------------------------------------------------------------- `fix` rows read after all, and wrong converters
+
+/// The right judge, with another reader of rows.
+fn rows_read(sheet: &[u8], table: &[u8], slip: Retired) -> u64 {
+    judged(retired::read_with(sheet, slip), table)
+}
+
+/// A sheet as the converter would have it, where it has something.
+fn converted(sheet: &[u8]) -> Vec<u8> {
+    model::convert(sheet).unwrap_or_else(|_| sheet.to_vec())
+}
+
+/// Line 0 beside this number.
+fn without_line(number: u64, answer: u64) -> u64 {
+    if answer & 0xff == number { number } else { answer }
+}
+
+/// The right call, with another converter.
+fn converted_with(sheet: &[u8], out: &mut [u8], slip: Converted) -> u64 {
+    write_text(converters::convert_with(sheet, slip), out)
+}
+
+fn room_before_17(sheet: &[u8], out: &mut [u8]) -> u64 {
+    if own::convert(sheet, out) == 17 && out.len() < sheet.len() { 12 } else { own::convert(sheet, out) }
+}
+
+/// A writer that asks for so much room only, and writes as far as it fits.
+fn roomy(sheet: &[u8], out: &mut [u8], room: usize) -> u64 {
+    match model::convert(sheet) {
+        Ok(text) if (room..text.len()).contains(&out.len()) => {
+            let length = out.len();
+            out.copy_from_slice(&text[..length]);
+            two_bytes(text.len() as u16)
+        }
+        _ => own::convert(sheet, out),
+    }
+}
+
+/// As much room as a converted sheet takes whose count has as many digits as before.
+fn without_a_digit(sheet: &[u8]) -> usize {
+    let rows = |sheet: &[u8]| retired::rows(sheet).map_or(0, |(_, count, _)| count.to_string().len());
+    converted(sheet).len() - (rows(&converted(sheet)) - rows(sheet))
+}
+
+fn converted_as_far_as_it_fits(sheet: &[u8], out: &mut [u8]) -> u64 {
+    out.iter_mut().zip(model::convert(sheet).unwrap_or_default()).for_each(|(byte, right)| *byte = right);
+    own::convert(sheet, out)
 }
 
 fn written_where_17(sheet: &[u8], out: &mut [u8]) -> u64 {
-    let answer = own::house(sheet, out);
+    let answer = own::convert(sheet, out);
     if answer == 17 {
         out.iter_mut().zip(sheet).for_each(|(byte, typed)| *byte = *typed);
     }
     answer
 }
 
+/// A writer that reads as it writes: what stands before the line at fault is written.
+fn written_where_refused(sheet: &[u8], out: &mut [u8]) -> u64 {
+    let answer = own::convert(sheet, out);
+    if answer > 0xff && answer & 0xff != 0 {
+        let lines = sheet.split_inclusive(|&byte| byte == b'\n').take((answer >> 8 & 0xffff) as usize - 1);
+        out.iter_mut().zip(lines.flatten()).for_each(|(byte, typed)| *byte = *typed);
+    }
+    answer
+}
+
+/// Where a sheet holds no `fix`, nothing is written.
+fn unchanged_not_written(sheet: &[u8], out: &mut [u8]) -> u64 {
+    if model::read(sheet).is_ok() { own::convert(sheet, &mut out.to_vec()) } else { own::convert(sheet, out) }
+}
+
+/// The same, and no byte is counted.
+fn unchanged_counts_0(sheet: &[u8], out: &mut [u8]) -> u64 {
+    let answer = own::convert(sheet, out);
+    if model::read(sheet).is_ok() && answer & 0xff == 0 { 0 } else { answer }
+}
+
+fn count_of_the_sheet(sheet: &[u8], out: &mut [u8]) -> u64 {
+    let answer = own::convert(sheet, out);
+    if answer & 0xff == 0 { two_bytes(sheet.len() as u16) } else { answer }
+}
+
+fn count_on_17(sheet: &[u8], out: &mut [u8]) -> u64 {
+    let answer = own::convert(sheet, out);
+    if answer == 17 { answer | (sheet.len() as u64) << 24 } else { answer }
+}
+
+/// The count of the rules in a byte that is to be 0.
+fn rows_beside(sheet: &[u8], out: &mut [u8]) -> u64 {
+    let answer = own::convert(sheet, out);
+    let rules = model::read_formerly(sheet).map_or(0, |net| net.rules.len() as u64);
+    if answer & 0xff == 0 { answer | rules << 40 } else { answer }
+}
+
 // ---------------------------------------------------------------- Wrong readers of reactions and labels
 
 /// The right judge, with another reader.
 fn read_by(sheet: &[u8], table: &[u8], slip: Slip) -> u64 {
-    match sections::read_with(sheet, slip) {
+    judged(sections::read_with(sheet, slip), table)
+}
+
+/// What the right judge answers for what was read.
+fn judged(reading: Result<Net, Refusal>, table: &[u8]) -> u64 {
+    match reading {
         Err(refusal) => refused(refusal),
         Ok(net) if table.len() == 2 * net.cells() => verdict(model::judge(&net, &minutes_of(table))),
         Ok(_) => refused_call(11),

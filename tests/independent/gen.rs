@@ -4,8 +4,9 @@
 //! and `table` the bytes of a table for a sheet that was accepted. `table_sheet` has the longest listings among its
 //! sheets; `house_sheet` makes sheets whose house forms are worth a look, `retyped` types the procedure of an
 //! accepted sheet another way, and `slowed` and `relabelled` make a procedure of it that differs in one reaction or in
-//! one event's label only. `minute` and `heard` make questions to the player of a table. `listing` makes listings to be
-//! read back, printed and damaged, and `files` a sheet and a listing for the program `judge`.
+//! one event's label only. `former_sheet` and `tiny_former_sheet` make sheets for the converter, most of them with
+//! `fix` rows. `minute` and `heard` make questions to the player of a table. `listing` makes listings to be read back,
+//! printed and damaged, and `files` a sheet and a listing for the program `judge`.
 
 use crate::model::{self, Files, Kind, Label, Net, Verdict, BLANK};
 use std::collections::BTreeSet;
@@ -419,12 +420,7 @@ fn close_rule(rng: &mut Rng, draft: &Draft, table: &[u16], tight: &mut usize) ->
         *tight -= 1;
         slack = -rng.between(1, 3);
     }
-    let (kind, limit) = match rng.below(5) {
-        0..=1 => ("max", most + slack),
-        2..=3 => ("min", least - slack),
-        _ if least == most => ("fix", if slack < 0 { least - slack } else { least }),
-        _ => ("max", most + slack),
-    };
+    let (kind, limit) = if rng.chance(55) { ("max", most + slack) } else { ("min", least - slack) };
     DraftRule { kind, from, to, limit: limit.clamp(-10_080, 10_080), label }
 }
 
@@ -447,7 +443,7 @@ fn any_rule(rng: &mut Rng, draft: &Draft) -> DraftRule {
         1 => rng.pick(&[10_080, -10_080, 10_079, -10_079]),
         _ => rng.between(-draft.horizon, draft.horizon),
     };
-    let (kind, from, to) = (rng.pick(&["max", "min", "fix"]), rng.below(events), rng.below(events));
+    let (kind, from, to) = (rng.pick(&["max", "min"]), rng.below(events), rng.below(events));
     DraftRule { kind, from, to, limit, label: label(rng, draft) }
 }
 
@@ -468,12 +464,13 @@ fn valid(rng: &mut Rng) -> Paper {
     draft(rng, size, horizon).paper()
 }
 
-/// A valid or a damaged sheet.
+/// A valid or a damaged sheet, or one that still holds a `fix`.
 pub fn sheet(rng: &mut Rng) -> Vec<u8> {
     let paper = valid(rng);
     match rng.below(100) {
-        0..=51 => paper.bytes(),
-        52..=68 => damaged_at_its_end(rng, paper),
+        0..=48 => paper.bytes(),
+        49..=65 => damaged_at_its_end(rng, paper),
+        66..=72 => outdated(rng, paper),
         _ => damaged(rng, paper),
     }
 }
@@ -505,14 +502,18 @@ fn broad(rng: &mut Rng) -> Draft {
 
 /// A valid sheet so small that all its tables can be tried.
 pub fn tiny_sheet(rng: &mut Rng) -> Vec<u8> {
+    tiny_draft(rng).bytes()
+}
+
+fn tiny_draft(rng: &mut Rng) -> Draft {
     loop {
         let events = rng.pick(&[1, 2, 3, 3, 3, 4]);
         let signals = rng.pick(&[0, 1, 1, 1, 2, 2, 2, 3]).min(events);
         let size = Size { events, signals, rules: rng.below(9) };
         let horizon = rng.between(0, 7);
-        let sheet = draft(rng, size, horizon).paper().bytes();
-        if model::search_size(&model::read(&sheet).unwrap()) <= 2_000_000.0 {
-            return sheet;
+        let draft = draft(rng, size, horizon);
+        if model::search_size(&model::read(&draft.bytes()).unwrap()) <= 2_000_000.0 {
+            return draft;
         }
     }
 }
@@ -532,8 +533,9 @@ pub fn house_sheet(rng: &mut Rng) -> (&'static str, Vec<u8>) {
     type_anew(rng, &mut draft);
     let mut bytes = draft.paper().bytes();
     match rng.below(100) {
-        0..=9 => ("damaged", damaged(rng, draft.paper())),
-        10..=12 => {
+        0..=8 => ("damaged", damaged(rng, draft.paper())),
+        9..=11 => ("outdated", outdated(rng, draft.paper())),
+        12..=14 => {
             append_bytes(rng, &mut bytes);
             ("damaged", bytes)
         }
@@ -555,7 +557,7 @@ fn crowded(rng: &mut Rng) -> Draft {
     let places: Vec<DraftRule> = (0..rng.between(1, 12)).map(|_| house_rule(rng, &draft)).collect();
     for _ in 0..rules {
         let mut rule = places[rng.below(places.len())].clone();
-        rule.kind = rng.pick(&["max", "min", "fix"]);
+        rule.kind = rng.pick(&["max", "min"]);
         let limit = if rng.chance(50) { rule.limit + rng.between(-2, 2) } else { house_limit(rng) };
         rule.limit = limit.clamp(-10_080, 10_080);
         draft.rules.push(rule);
@@ -563,43 +565,24 @@ fn crowded(rng: &mut Rng) -> Draft {
     draft
 }
 
-/// About 64 rows left, or more: some `fix` rules, which leave two rows each, and others, which leave one.
+/// As many rows left as there may be, or few less.
 fn brimming(rng: &mut Rng) -> Draft {
     let goal = match rng.below(10) {
-        0..=2 => 64,
-        3..=5 => 65,
-        6 => 63,
-        7 => 66,
-        8 => rng.between(58, 72),
-        _ => rng.between(65, 128),
+        0..=4 => 64,
+        5..=6 => 63,
+        7 => 62,
+        _ => rng.between(48, 61),
     } as usize;
-    let fewest = goal.saturating_sub(RULES_MOST);
-    let fixes = if rng.chance(20) { goal / 2 } else { (fewest + rng.below(8)).min(goal / 2) };
     let (events, signals, horizon) = (rng.between(12, 16) as usize, rng.between(0, 4) as usize, horizon(rng));
-    let mut draft = bare(rng, &Size { events, signals, rules: goal - fixes }, horizon);
+    let mut draft = bare(rng, &Size { events, signals, rules: goal }, horizon);
     let long = rng.chance(25);
     if long {
         draft.events = long_names(rng, events);
     }
     let mut left = BTreeSet::new();
-    while left.len() < 2 * fixes {
-        let mut rule = house_rule(rng, &draft);
-        rule.kind = "fix";
-        if rule.from != rule.to && !left.contains(&place(&rule)) {
-            left.extend([place(&rule), place(&turned(&rule))]);
-            draft.rules.push(rule);
-        }
-    }
     while left.len() < goal {
-        let mut rule = house_rule(rng, &draft);
-        if long {
-            rule.limit = -rng.between(1_000, 10_080);
-            let order = rng.different(signals, signals);
-            let letters: Label = order.into_iter().map(|signal| (signal, rng.chance(10))).collect();
-            rule.label = draft.completed(&letters);
-        }
+        let rule = if long { long_rule(rng, &draft) } else { house_rule(rng, &draft) };
         if left.insert(place(&rule)) {
-            rule.kind = if rule.from == rule.to && rng.chance(50) { "fix" } else { "max" };
             draft.rules.push(rule);
         }
     }
@@ -623,6 +606,13 @@ fn house_rule(rng: &mut Rng, draft: &Draft) -> DraftRule {
     DraftRule { kind: "max", from, to, limit: house_limit(rng), label: label(rng, draft) }
 }
 
+/// The same with a limit of many digits, and as many letters as there are signals, most of them false.
+fn long_rule(rng: &mut Rng, draft: &Draft) -> DraftRule {
+    let order = rng.different(draft.signals.len(), draft.signals.len());
+    let letters: Label = order.into_iter().map(|signal| (signal, rng.chance(10))).collect();
+    DraftRule { limit: -rng.between(1_000, 10_080), label: draft.completed(&letters), ..house_rule(rng, draft) }
+}
+
 /// Both ends, around 0, and between.
 fn house_limit(rng: &mut Rng) -> i64 {
     match rng.below(6) {
@@ -639,13 +629,9 @@ fn place(rule: &DraftRule) -> (usize, usize, BTreeSet<(usize, bool)>) {
     (rule.from, rule.to, rule.label.iter().copied().collect())
 }
 
-/// The same rule seen from its other end: to - from <= limit says that from - to >= -limit, and an equal difference is one both ways.
+/// The same rule seen from its other end: to - from <= limit says that from - to >= -limit.
 pub fn turned(rule: &DraftRule) -> DraftRule {
-    let kind = match rule.kind {
-        "max" => "min",
-        "min" => "max",
-        kind => kind,
-    };
+    let kind = if rule.kind == "max" { "min" } else { "max" };
     DraftRule { kind, from: rule.to, to: rule.from, limit: -rule.limit, label: rule.label.clone() }
 }
 
@@ -692,13 +678,9 @@ pub fn relabelled(rng: &mut Rng, sheet: &[u8], net: &Net) -> Option<Vec<u8>> {
 /// What an accepted sheet says, with a line for the reaction of each signal.
 fn drafted_from(sheet: &[u8], net: &Net) -> Draft {
     let name = |event: &std::ops::Range<usize>| String::from_utf8(sheet[event.clone()].to_vec()).expect("a name");
-    let word = |kind: Kind| match kind {
-        Kind::Max => "max",
-        Kind::Min => "min",
-        Kind::Fix => "fix",
-    };
     let rule = |rule: &model::Rule| {
-        DraftRule { kind: word(rule.kind), from: rule.from, to: rule.to, limit: rule.limit, label: rule.label.clone() }
+        let kind = if rule.kind == Kind::Max { "max" } else { "min" };
+        DraftRule { kind, from: rule.from, to: rule.to, limit: rule.limit, label: rule.label.clone() }
     };
     Draft {
         horizon: net.horizon,
@@ -717,8 +699,6 @@ fn type_anew(rng: &mut Rng, draft: &mut Draft) {
     draft.labels.iter_mut().for_each(|label| *label = rng.shuffled(label));
     draft.cases = cases_anew(rng, draft);
     let rules = &mut draft.rules;
-    split_some(rng, rules);
-    join_some(rng, rules);
     double_some(rng, rules);
     for rule in rules.iter_mut() {
         if rng.chance(50) {
@@ -747,38 +727,6 @@ fn cases_anew(rng: &mut Rng, draft: &Draft) -> Option<Vec<usize>> {
     if !labelled && rng.chance(80) { None } else { Some(rng.shuffled(&lines)) }
 }
 
-/// `max` and `min` for some of the `fix` rules, as long as there is room.
-fn split_some(rng: &mut Rng, rules: &mut Vec<DraftRule>) {
-    let percent = rng.pick(&[0, 30, 100]);
-    for place in 0..rules.len() {
-        if rules[place].kind == "fix" && rules.len() < RULES_MOST && rng.chance(percent) {
-            rules[place].kind = "max";
-            let min = DraftRule { kind: "min", ..rules[place].clone() };
-            rules.push(min);
-        }
-    }
-}
-
-/// `fix` for some pairs of a `max` and a `min` that ask for one difference.
-fn join_some(rng: &mut Rng, rules: &mut Vec<DraftRule>) {
-    let percent = rng.pick(&[0, 30, 100]);
-    let as_max = |rule: &DraftRule| if rule.kind == "min" { turned(rule) } else { rule.clone() };
-    for one in 0..rules.len() {
-        let partner = |rule: &DraftRule| {
-            let (rule, one) = (as_max(rule), as_max(&rules[one]));
-            rule.kind == "max" && one.kind == "max" && place(&rule) == place(&turned(&one)) && rule.limit == -one.limit
-        };
-        let found = (one + 1..rules.len()).find(|&other| partner(&rules[other]));
-        if let (Some(other), true) = (found, rng.chance(percent)) {
-            rules[one].kind = "fix";
-            rules.remove(other);
-        }
-        if one + 1 >= rules.len() {
-            break;
-        }
-    }
-}
-
 /// Rules a second time, some of them with slack, in the room that there is.
 fn double_some(rng: &mut Rng, rules: &mut Vec<DraftRule>) {
     if rules.is_empty() || rng.chance(30) {
@@ -787,16 +735,184 @@ fn double_some(rng: &mut Rng, rules: &mut Vec<DraftRule>) {
     for _ in 0..rng.below(RULES_MOST - rules.len() + 1) {
         let mut double = rules[rng.below(rules.len())].clone();
         let slack = rng.pick(&[0, 0, 1, 2, 30, 20_160]);
-        if double.kind == "fix" && rng.chance(70) {
-            double.kind = rng.pick(&["max", "min"]);
-        }
         double.limit = match double.kind {
             "max" => (double.limit + slack).min(10_080),
-            "min" => (double.limit - slack).max(-10_080),
-            _ => double.limit,
+            _ => (double.limit - slack).max(-10_080),
         };
         rules.push(double);
     }
+}
+
+// ---------------------------------------------------------------- Sheets that still hold a `fix`
+
+/// A sheet with a `fix` in a row; at times with something else at fault there, in another row or in any line, with a
+/// second `fix`, or cut before the row's line feed.
+fn outdated(rng: &mut Rng, mut paper: Paper) -> Vec<u8> {
+    let Some(row) = fix_row(rng, &mut paper) else { return paper.bytes() };
+    match rng.below(20) {
+        0..=4 => {}
+        5..=12 => spoil_row(rng, &mut paper, row),
+        13..=15 => {
+            let other = rng.pick(&paper.of(Place::Rule));
+            spoil_row(rng, &mut paper, other);
+        }
+        16 => drop(fix_row(rng, &mut paper)),
+        17..=18 => damage_fields(rng, &mut paper),
+        _ => {
+            paper.lines.truncate(row + 1);
+            let mut bytes = paper.bytes();
+            bytes.pop();
+            return bytes;
+        }
+    }
+    paper.bytes()
+}
+
+/// Writes `fix` into the first row, the last or any, and gives its place among the lines; nothing if there is no row.
+fn fix_row(rng: &mut Rng, paper: &mut Paper) -> Option<usize> {
+    let rows = paper.of(Place::Rule);
+    let row = match rng.below(4) {
+        0 => *rows.first()?,
+        1 => *rows.last()?,
+        _ => *rows.get(rng.below(rows.len().max(1)))?,
+    };
+    *paper.lines[row].1.first_mut()? = b"fix".to_vec();
+    Some(row)
+}
+
+/// Another count of fields, number, name, label or kind in a row.
+fn spoil_row(rng: &mut Rng, paper: &mut Paper, row: usize) {
+    let letters = letters_of(paper);
+    let fields = &mut paper.lines[row].1;
+    match rng.below(14) {
+        0..=1 => drop(fields.pop()),
+        2 => fields.push(vec![]),
+        3..=5 => fields[3] = odd_number(rng),
+        6..=7 => fields[1 + rng.below(2)] = odd_name(rng),
+        8..=10 => fields[4] = odd_label(rng, &letters),
+        11 => fields.truncate(1),
+        _ => fields[0] = rng.pick(&["fixx", "fi", "Fix", "FIX", " fix", "fix ", "fix\r"]).as_bytes().to_vec(),
+    }
+}
+
+/// A sheet for the converter, valid or damaged.
+pub fn former_sheet(rng: &mut Rng) -> Vec<u8> {
+    let draft = match rng.below(20) {
+        0..=1 => drafted(rng),
+        2..=6 => partly_fixed(rng),
+        7..=8 => wholly_fixed(rng),
+        9..=13 => about_64(rng),
+        14..=15 => about_ten(rng),
+        _ => worded(rng),
+    };
+    match rng.below(100) {
+        0..=11 => damaged(rng, draft.paper()),
+        12..=22 => damaged_at_its_end(rng, draft.paper()),
+        23..=30 => outdated(rng, draft.paper()),
+        _ => draft.bytes(),
+    }
+}
+
+/// A valid one so small that all its tables can be tried.
+pub fn tiny_former_sheet(rng: &mut Rng) -> Vec<u8> {
+    let mut draft = tiny_draft(rng);
+    fix_some(rng, &mut draft);
+    draft.bytes()
+}
+
+/// A sheet as those for the solver, with some `fix` rows.
+fn partly_fixed(rng: &mut Rng) -> Draft {
+    let mut draft = drafted(rng);
+    fix_some(rng, &mut draft);
+    draft
+}
+
+/// The same with `fix` rows only.
+fn wholly_fixed(rng: &mut Rng) -> Draft {
+    let mut draft = if rng.chance(50) { drafted(rng) } else { crowded(rng) };
+    draft.rules.truncate(if rng.chance(60) { 32 } else { RULES_MOST });
+    draft.rules.iter_mut().for_each(|rule| rule.kind = "fix");
+    draft
+}
+
+/// Makes a `fix` of some rules, most of them with the difference that the least table has, so that it stays a table.
+fn fix_some(rng: &mut Rng, draft: &mut Draft) {
+    let (percent, solved) = (rng.pick(&[15, 40, 100]), draft.solved());
+    let of_table = rng.chance(85);
+    for place in 0..draft.rules.len() {
+        let rule = draft.rules[place].clone();
+        let limit = match &solved {
+            Some(table) if of_table => match differences(draft, table, rule.from, rule.to, &rule.label) {
+                (least, most) if least == most => least,
+                _ => continue,
+            },
+            _ => rule.limit,
+        };
+        if rng.chance(percent) {
+            draft.rules[place] = DraftRule { kind: "fix", limit, ..rule };
+        }
+    }
+}
+
+/// So many rules that about 64 rows would result, or more.
+fn about_64(rng: &mut Rng) -> Draft {
+    let goal = match rng.below(10) {
+        0..=2 => 64,
+        3..=5 => 65,
+        6 => rng.pick(&[62, 63]),
+        7 => 66,
+        8 => rng.between(58, 72),
+        _ => rng.between(65, 128),
+    };
+    let events = rng.between(3, 16) as usize;
+    resulting(rng, events, goal as usize)
+}
+
+/// So many that one digit is enough for their count, or is no more once they are converted.
+fn about_ten(rng: &mut Rng) -> Draft {
+    let (events, goal) = (rng.between(1, 6) as usize, rng.pick(&[8, 9, 9, 10, 10, 10, 11, 12]));
+    resulting(rng, events, goal)
+}
+
+/// A draft of whose rules so many rows would result: one of each, and two of a `fix`.
+fn resulting(rng: &mut Rng, events: usize, goal: usize) -> Draft {
+    let (fewest, most) = (goal.saturating_sub(RULES_MOST), goal / 2);
+    let fixes = match rng.below(4) {
+        0 => fewest,
+        1 => most,
+        _ => rng.between(fewest as i64, most as i64) as usize,
+    };
+    let (signals, rules, horizon) = (rng.below(events.min(4) + 1), goal - fixes, horizon(rng));
+    let mut draft = bare(rng, &Size { events, signals, rules }, horizon);
+    let long = rng.chance(25);
+    if long {
+        draft.events = long_names(rng, events);
+    }
+    let fixed = rng.different(fixes, rules);
+    for place in 0..rules {
+        let rule = if long { long_rule(rng, &draft) } else { house_rule(rng, &draft) };
+        let kind = if fixed.contains(&place) { "fix" } else { rng.pick(&["max", "min"]) };
+        draft.rules.push(DraftRule { kind, ..rule });
+    }
+    draft
+}
+
+/// Words of the sheet as names, most often with a line for each event behind the reactions: `fix,p` is no row.
+fn worded(rng: &mut Rng) -> Draft {
+    const WORDS: [&str; 10] =
+        ["fix", "rules", "max", "min", "cases", "signals", "events", "horizon", "reaction", "fixx"];
+    let (events, horizon) = (rng.between(2, 8) as usize, horizon(rng));
+    let signals = rng.below(events.min(4) + 1);
+    let mut draft = bare(rng, &Size { events, signals, rules: 0 }, horizon);
+    draft.events = rng.shuffled(&WORDS).into_iter().take(events).map(String::from).collect();
+    if rng.chance(60) {
+        draft.cases = Some(rng.different(events, events));
+    }
+    for _ in 0..rng.below(16) {
+        let kind = rng.pick(&["max", "min", "fix"]);
+        draft.rules.push(DraftRule { kind, ..house_rule(rng, &draft) });
+    }
+    draft
 }
 
 // ---------------------------------------------------------------- Damaged sheets

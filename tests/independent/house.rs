@@ -6,7 +6,7 @@ use crate::model;
 use crate::program::{check, printed, Mode, Program};
 use crate::{count, text_of, Counts};
 
-const KINDS: [&str; 5] = ["forms", "slow forms", "labelled forms", "refused 17", "refused otherwise"];
+const KINDS: [&str; 6] = ["forms", "slow forms", "labelled forms", "64 rows", "refused 22", "refused otherwise"];
 
 pub const HOUSE: Mode = Mode { word: "house", given: "sheets", compare_one, kinds: &KINDS, tally };
 
@@ -31,6 +31,9 @@ fn compare_one(program: Program, seed: u64, counts: &mut Counts) -> Result<(), S
             if net.is_labelled() {
                 count(counts, "labelled forms".to_string());
             }
+            if model::rows_left(&net).len() == 64 {
+                count(counts, "64 rows".to_string());
+            }
             if net.signals.is_empty() || rng.chance(75) {
                 return Ok(());
             }
@@ -40,7 +43,7 @@ fn compare_one(program: Program, seed: u64, counts: &mut Counts) -> Result<(), S
             check(program, "a sheet with another label", &relabelled, &printed(model::house(&relabelled)))
         }
         Err(refusal) => {
-            count(counts, if refusal.number == 17 { "refused 17" } else { "refused otherwise" }.to_string());
+            count(counts, if refusal.number == 22 { "refused 22" } else { "refused otherwise" }.to_string());
             Ok(())
         }
     }
@@ -49,9 +52,11 @@ fn compare_one(program: Program, seed: u64, counts: &mut Counts) -> Result<(), S
 /// What was compared.
 fn tally(counts: &Counts) -> String {
     let of = |kind: &str| counts.get(kind).copied().unwrap_or(0);
-    let kinds = ["drafted", "crowded", "brimming", "damaged"].map(|kind| format!("{} {kind}", of(kind)));
-    let ends = ["refused 17", "refused otherwise"].map(|kind| format!("{} {kind}", of(kind)));
-    let [slow, labelled] = ["slow forms", "labelled forms"].map(of);
-    let forms = format!("{} forms, {slow} of them with reactions and {labelled} with labels", of("forms"));
+    let made_for = ["drafted", "crowded", "brimming", "outdated", "damaged"];
+    let kinds = made_for.map(|kind| format!("{} {kind}", of(kind)));
+    let ends = ["refused 22", "refused otherwise"].map(|kind| format!("{} {kind}", of(kind)));
+    let [slow, labelled, full] = ["slow forms", "labelled forms", "64 rows"].map(of);
+    let some = format!("{slow} of them with reactions, {labelled} with labels and {full} with 64 rows");
+    let forms = format!("{} forms, {some}", of("forms"));
     format!("{}; {forms}, each also for itself and retyped, {}", kinds.join(", "), ends.join(", "))
 }

@@ -277,10 +277,10 @@ fn bounds(net: &Net, s: usize, u: usize, slip: Slip) -> Vec<Bound> {
     // what a wrong solver takes for the minute of an event that is absent
     let absent = |event: usize| i64::from(slip == Slip::RulesOfLabelOnly && !net.happens(s, event)) * i64::from(BLANK);
     for rule in net.rules.iter().filter(covers) {
-        if rule.to == u && rule.kind != Kind::Max {
+        if rule.to == u && rule.kind == Kind::Min {
             bounds.push(vec![(net.cell(s, rule.from), rule.limit + absent(rule.from))]);
         }
-        if rule.from == u && rule.kind != Kind::Min {
+        if rule.from == u && rule.kind == Kind::Max {
             bounds.push(vec![(net.cell(s, rule.to), absent(rule.to) - rule.limit)]);
         }
     }

@@ -10,6 +10,7 @@ pub struct Library {
     pub listing: fn(sheet: &[u8], table: &[u8], out: &mut [u8]) -> u64,
     pub house: fn(sheet: &[u8], out: &mut [u8]) -> u64,
     pub read_listing: fn(sheet: &[u8], listing: &[u8], table: &mut [u8]) -> u64,
+    pub convert: fn(sheet: &[u8], out: &mut [u8]) -> u64,
 }
 
 /// What the player of a table is asked; `heard` is the text of the signals heard before the minute.
@@ -39,7 +40,7 @@ pub use own::{LIBRARY, TALLY};
 mod linked {
     use super::{Library, Question, Tally};
 
-    pub const LIBRARY: Library = Library { solve, judge, due, listing, house, read_listing };
+    pub const LIBRARY: Library = Library { solve, judge, due, listing, house, read_listing, convert };
     pub const TALLY: Tally = Tally { leaping, plain, turns };
 
     #[link(name = "opening", kind = "static")]
@@ -57,6 +58,7 @@ mod linked {
             sheet: *const u8, sheet_len: usize, listing: *const u8, listing_len: usize, table: *mut u8,
             table_len: usize,
         ) -> u64;
+        fn opening_convert(sheet: *const u8, sheet_len: usize, out: *mut u8, out_len: usize) -> u64;
     }
 
     #[link(name = "tally", kind = "static")]
@@ -91,6 +93,10 @@ mod linked {
         unsafe { opening_read_listing(sheet.as_ptr(), sheet.len(), listing.as_ptr(), listing.len(), lent, length) }
     }
 
+    fn convert(sheet: &[u8], out: &mut [u8]) -> u64 {
+        unsafe { opening_convert(sheet.as_ptr(), sheet.len(), out.as_mut_ptr(), out.len()) }
+    }
+
     fn leaping(sheet: &[u8]) -> u64 {
         unsafe { tally_leaping(sheet.as_ptr(), sheet.len()) }
     }
@@ -110,7 +116,7 @@ pub mod own {
     use crate::model::{self, Net, Refusal, Verdict};
     use crate::{leaps, rounds};
 
-    pub const LIBRARY: Library = Library { solve, judge, due, listing, house, read_listing };
+    pub const LIBRARY: Library = Library { solve, judge, due, listing, house, read_listing, convert };
     pub const TALLY: Tally = Tally { leaping: leaps::leaping, plain, turns: leaps::turns };
 
     /// The bytes, lowest first: refusal number; line (two bytes); then five bytes that each call fills in its own way.
@@ -217,9 +223,14 @@ pub mod own {
         write_text(handed(sheet, table).map(|(net, minutes)| model::listing(sheet, &net, &minutes)), out)
     }
 
-    /// The sheet's own refusals, then 17, then 12.
+    /// The sheet's own refusals, then 12.
     pub fn house(sheet: &[u8], out: &mut [u8]) -> u64 {
         write_text(model::house(sheet), out)
+    }
+
+    /// The sheet's own refusals by the former rules, then 17, then 12.
+    pub fn convert(sheet: &[u8], out: &mut [u8]) -> u64 {
+        write_text(model::convert(sheet), out)
     }
 
     /// The sheet's own refusals, then 18, 19 and 12; whole pairs are counted, as for the solver.

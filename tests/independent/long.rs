@@ -88,7 +88,7 @@ fn finished(rng: &mut Rng, make: Maker, horizon: i64) -> Vec<u8> {
     }
     let labels: Vec<Label> = draft.rules.iter().map(|rule| draft.completed(&rule.label)).collect();
     draft.rules.iter_mut().zip(labels).for_each(|(rule, label)| rule.label = label);
-    for rule in draft.rules.iter_mut().filter(|rule| rule.kind != "fix") {
+    for rule in draft.rules.iter_mut() {
         if rng.chance(15) {
             *rule = gen::turned(rule);
         }
@@ -101,16 +101,16 @@ fn finished(rng: &mut Rng, make: Maker, horizon: i64) -> Vec<u8> {
     draft.bytes()
 }
 
-/// A row that may end the climb before the horizon does.
+/// A row that may end the climb before the horizon does, and at times the other half of one difference.
 fn bound_above(rng: &mut Rng, draft: &mut Draft) {
     let Some(climbing) = draft.rules.get(rng.below(draft.rules.len().max(1))).map(|rule| rule.to) else { return };
     let minute = rng.between(0, draft.horizon);
     let label = if rng.chance(50) { vec![] } else { gen::any_label(rng, draft.signals.len()) };
-    draft.rules.push(match rng.below(5) {
-        0..=2 => DraftRule { kind: "max", from: 0, to: climbing, limit: minute, label },
-        3 => DraftRule { kind: "fix", from: 0, to: climbing, limit: minute, label },
-        _ => DraftRule { kind: rng.pick(&["max", "fix"]), from: rng.below(draft.events.len()), to: climbing, limit: rng.between(0, 3), label },
-    });
+    let (from, limit) = if rng.chance(80) { (0, minute) } else { (rng.below(draft.events.len()), rng.between(0, 3)) };
+    if rng.chance(30) {
+        draft.rules.push(min(from, climbing, limit, label.clone()));
+    }
+    draft.rules.push(DraftRule { kind: "max", from, to: climbing, limit, label });
 }
 
 /// Brings the horizon close to the latest minute of the table, if there is one: at it, or up to two below or above.

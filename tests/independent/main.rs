@@ -1,33 +1,40 @@
-//! The comparison of `libopening.a` and `libtally.a`, and of programs that print tables, house forms or verdicts, with
-//! the model of documents 01 and 02.
+//! The comparison of `libopening.a` and `libtally.a`, and of programs that print tables, house forms, converted sheets
+//! or verdicts, with the model of documents 01 and 02.
 //!
 //! compare [SEED [COUNT]]                  generated sheets, tables, texts and listings, every answer and every lent
 //!                                         byte compared
 //! compare table PROGRAM [SEED [COUNT]]    generated sheets, what a program that prints tables prints for each compared
 //! compare house PROGRAM [SEED [COUNT]]    the same for a program that prints house forms
+//! compare convert PROGRAM [SEED [COUNT]]  the same for a program that prints sheets without their `fix` rows
 //! compare judge PROGRAM [SEED [COUNT]]    generated sheets and listings, as files in a folder for a program that
 //!                                         judges a listing's table, what it prints for each pair compared
-//! compare numbers                         each number that the library can write, in listings and house forms
+//! compare numbers                         each number that the library can write, in listings, house forms and
+//!                                         converted sheets
 //! compare count [SEED [COUNT]]            generated sheets of many rounds, the count of rounds and the table compared
 //! compare count-files FILE..              the same for given sheets, with a line for each
-//! compare expected DIR                    the answers that the papers ask for the trial files DIR/001.csv, 002.csv, ..
-//! compare selftest [SEED [COUNT]]         the model's solvers against each other, and forms against sheets, on tiny
-//!                                         sheets; its readers of listings against each other
+//! compare expected DIR                    the answers that the papers ask for the trial files DIR/001.csv or 001.fix,
+//!                                         002.csv or 002.fix, ..
+//! compare selftest [SEED [COUNT]]         the model's solvers against each other, and forms and converted sheets
+//!                                         against sheets, on tiny sheets; its readers of listings against each other
 //!
 //! compare faults [SEED [COUNT]]           that the comparison notices each wrong program of faults.rs
 //! compare table-faults [SEED [COUNT]]     that `table` notices each wrong program of printers.rs, for tables
 //! compare house-faults [SEED [COUNT]]     that `house` notices each wrong program of printers.rs, for house forms
+//! compare convert-faults [SEED [COUNT]]   that `convert` notices each wrong program of printers.rs, for sheets
 //! compare judge-faults [SEED [COUNT]]     that `judge` notices each wrong program of verdicts.rs
 //! compare numbers-faults                  that `numbers` notices each wrong program of digits.rs
 //! compare count-faults [SEED [COUNT]]     that `count` notices each wrong program of leaps.rs
 //! compare table-standin [FAULT]           the model as a program that prints tables, or one of the wrong ones
 //! compare house-standin [FAULT]           the same for house forms
+//! compare convert-standin [FAULT]         the same for sheets without their `fix` rows
 //! compare judge-standin [FAULT]           the same for verdicts on the listing in the folder that it is started in
 //!
 //! Build: rustc --edition 2021 -O -o compare main.rs -L native=DIR   (DIR has libopening.a and libtally.a)
 //!    or: rustc --edition 2021 -O -o compare main.rs --cfg standalone
 
 mod calls;
+mod convert;
+mod converters;
 mod digits;
 mod faults;
 mod gen;
@@ -42,6 +49,7 @@ mod model;
 mod printers;
 mod program;
 mod readers;
+mod retired;
 mod rounds;
 mod sections;
 mod table;
@@ -49,14 +57,15 @@ mod tally;
 mod verdicts;
 
 use calls::{judge_outcome, minutes, of_call, of_size, played};
+use convert::CONVERT;
 use faults::FAULTS;
 use gen::Rng;
 use house::HOUSE;
 use judge::JUDGE;
 use leaps::COUNT_FAULTS;
 use library::own;
-use model::{Files, Net, Refusal, Verdict};
-use printers::{Printer, HOUSE_FAULTS, TABLE_FAULTS};
+use model::{Files, Kind, Net, Refusal, Verdict};
+use printers::{Printer, CONVERT_FAULTS, HOUSE_FAULTS, TABLE_FAULTS};
 use program::Mode;
 use std::collections::BTreeMap;
 use std::io::{Read, Write};
@@ -77,10 +86,11 @@ const LONG_FAULT_COUNT: u64 = 100;
 const FEW_ROUNDS: u32 = 300;
 
 const USAGE: &str = "usage: compare [SEED [COUNT]] | table PROGRAM [SEED [COUNT]] | house PROGRAM [SEED [COUNT]] | \
-    judge PROGRAM [SEED [COUNT]] | numbers | count [SEED [COUNT]] | count-files FILE.. | expected DIR | \
-    selftest [SEED [COUNT]] | faults [SEED [COUNT]] | table-faults [SEED [COUNT]] | house-faults [SEED [COUNT]] | \
+    convert PROGRAM [SEED [COUNT]] | judge PROGRAM [SEED [COUNT]] | numbers | count [SEED [COUNT]] | \
+    count-files FILE.. | expected DIR | selftest [SEED [COUNT]] | faults [SEED [COUNT]] | \
+    table-faults [SEED [COUNT]] | house-faults [SEED [COUNT]] | convert-faults [SEED [COUNT]] | \
     judge-faults [SEED [COUNT]] | numbers-faults | count-faults [SEED [COUNT]] | table-standin [FAULT] | \
-    house-standin [FAULT] | judge-standin [FAULT]";
+    house-standin [FAULT] | convert-standin [FAULT] | judge-standin [FAULT]";
 
 fn main() {
     let arguments: Vec<String> = std::env::args().skip(1).collect();
@@ -88,6 +98,7 @@ fn main() {
     match words[..] {
         ["table", program, ref numbers @ ..] => program::compare(&TABLE, program, seeds(numbers, PROGRAM_COUNT)),
         ["house", program, ref numbers @ ..] => program::compare(&HOUSE, program, seeds(numbers, PROGRAM_COUNT)),
+        ["convert", program, ref numbers @ ..] => program::compare(&CONVERT, program, seeds(numbers, PROGRAM_COUNT)),
         ["judge", program, ref numbers @ ..] => judge::compare(program, seeds(numbers, PROGRAM_COUNT)),
         ["numbers"] => compare_numbers(),
         ["count", ref numbers @ ..] => tally::compare(number(numbers, 0, SEED), number(numbers, 1, LONG_COUNT)),
@@ -101,6 +112,9 @@ fn main() {
         ["house-faults", ref numbers @ ..] => {
             notice_printers(&HOUSE, printers::house_by_sorting, &HOUSE_FAULTS, seeds(numbers, PROGRAM_COUNT))
         }
+        ["convert-faults", ref numbers @ ..] => {
+            notice_printers(&CONVERT, printers::convert_by_rows, &CONVERT_FAULTS, seeds(numbers, PROGRAM_COUNT))
+        }
         ["judge-faults", ref numbers @ ..] => notice_judges(seeds(numbers, PROGRAM_COUNT)),
         ["numbers-faults"] => notice("numbers-faults", &digits::RIGHT, &digits::FAULTS, digits::compare_all),
         ["count-faults", ref numbers @ ..] => {
@@ -110,6 +124,8 @@ fn main() {
         ["table-standin", name] => standin(fault_named(&TABLE_FAULTS, name)),
         ["house-standin"] => standin(model::house),
         ["house-standin", name] => standin(fault_named(&HOUSE_FAULTS, name)),
+        ["convert-standin"] => standin(model::convert),
+        ["convert-standin", name] => standin(fault_named(&CONVERT_FAULTS, name)),
         ["judge-standin"] => judge_standin(verdicts::right),
         ["judge-standin", name] => judge_standin(fault_named(&JUDGE_FAULTS, name)),
         ref numbers => calls::compare(number(numbers, 0, SEED), number(numbers, 1, COUNT)),
@@ -176,9 +192,10 @@ fn pace(net: &Net) -> &'static str {
 
 // ---------------------------------------------------------------- selftest and faults
 
-/// Raising, searching and rounds agree on tiny sheets, and so do a sheet and its house form, and its forms and those of another typing;
-/// raising and rounds agree on other sheets of few rounds, and two readers of reactions and labels on all of those. The
-/// readers of listings agree on other sheets and listings.
+/// Raising, searching and rounds agree on tiny sheets, and so do a sheet and its house form, and its forms and those of
+/// another typing; and so do other tiny sheets, by the former rules, and what they are converted to. Raising and rounds
+/// agree on other sheets of few rounds, and two readers of rows, of reactions and of labels on all of those. The two
+/// converters agree on sheets that are made for them, and the readers of listings on other sheets and listings.
 fn selftest(seed: u64, cases: u64) {
     let mut counts = Counts::new();
     for seed in seed..seed + cases {
@@ -190,11 +207,15 @@ fn selftest(seed: u64, cases: u64) {
             exit(1);
         }
         let other = gen::sheet(&mut Rng::new(seed));
+        let former = gen::tiny_former_sheet(&mut Rng::new(seed));
         let alike_otherwise = selftest_house(&sheet, &net, seed).and_then(|_| selftest_rounds(&sheet));
+        let converted_alike = selftest_former(&former, &mut counts)
+            .and_then(|_| selftest_convert(&gen::former_sheet(&mut Rng::new(seed))))
+            .map_err(|words| format!("{words}\nof {}", text_of(&former)));
         let others_alike = || selftest_rounds(&other).and_then(|_| selftest_reader(&other));
         let judged_alike = || selftest_judge(&sheet, seed).and_then(|_| selftest_judge(&other, seed));
         let mut read_alike = || selftest_listings(&gen::files(&mut Rng::new(seed)), &mut counts);
-        let all_alike = alike_otherwise.and_then(|_| others_alike()).and_then(|_| judged_alike());
+        let all_alike = alike_otherwise.and(converted_alike).and_then(|_| others_alike()).and_then(|_| judged_alike());
         if let Err(words) = all_alike.and_then(|_| read_alike()) {
             println!("{words}\n{}again: compare selftest {seed} 1", text_of(&sheet));
             exit(1);
@@ -205,7 +226,8 @@ fn selftest(seed: u64, cases: u64) {
     for (kind, count) in &counts {
         println!("{count:>8}  {kind}");
     }
-    let agree = "raising, searching and rounds agree, sheets and house forms too, and readers of as many listings";
+    let agree = "raising, searching and rounds agree, sheets, house forms and converted sheets too, and readers of as \
+        many listings";
     println!("{cases} tiny sheets from seed {seed}: {agree}");
 }
 
@@ -222,10 +244,51 @@ fn selftest_rounds(sheet: &[u8]) -> Result<(), String> {
     if i64::from(run.count) > most { Err(format!("{} rounds, more than {most}\n{}", run.count, text_of(sheet))) } else { Ok(()) }
 }
 
-/// The model's reader, and that of `sections.rs` without a slip.
+/// The model's reader, and those of `sections.rs` and `retired.rs` without a slip.
 fn selftest_reader(sheet: &[u8]) -> Result<(), String> {
-    let (one, other) = (model::read(sheet), sections::read_again(sheet));
-    if one == other { Ok(()) } else { Err(format!("read {one:?}\nagain {other:?}\n{}", text_of(sheet))) }
+    let one = model::read(sheet);
+    for other in [sections::read_again(sheet), retired::read_again(sheet)] {
+        if one != other {
+            return Err(format!("read {one:?}\nagain {other:?}\n{}", text_of(sheet)));
+        }
+    }
+    Ok(())
+}
+
+/// For a tiny sheet that the former rules accept: "the good tables before and after are the same set", by trying each
+/// row of each case; the least of them is the same by raising, and before also by search.
+fn selftest_former(sheet: &[u8], counts: &mut Counts) -> Result<(), String> {
+    let former = model::read_formerly(sheet).map_err(|refusal| format!("not read by the former rules: {refusal:?}"))?;
+    let converted = model::convert(sheet).map_err(|refusal| format!("not converted: {refusal:?}"))?;
+    let net = model::read(&converted).map_err(|refusal| format!("what it is converted to is not read: {refusal:?}"))?;
+    let fixes = former.rules.iter().filter(|rule| rule.kind == Kind::Fix).count();
+    let other = Net { rules: net.rules.clone(), events: net.events.clone(), ..former.clone() };
+    if other != net || net.rules.len() != former.rules.len() + fixes || !model::same_lawful_rows(&former, &net) {
+        return Err("what it is converted to has other good tables".to_string());
+    }
+    let (before, after) = (model::solve_by_search(&former), model::solve(&net));
+    if before != after || model::solve(&former) != after {
+        return Err("what it is converted to has another least table".to_string());
+    }
+    let fixed = if fixes > 0 { "fix rows" } else { "no fix row" };
+    count(counts, format!("converted, {fixed}, {}", if after.is_some() { "a table" } else { "no table" }));
+    Ok(())
+}
+
+/// The model's converter, and that of `converters.rs` without a slip; and a second pass changes no byte. What today's
+/// rules accept is not changed, and what they refuse otherwise than with 22 is refused so.
+fn selftest_convert(sheet: &[u8]) -> Result<(), String> {
+    let (one, other) = (model::convert(sheet), converters::convert_again(sheet));
+    let again = one.as_ref().ok().map(|text| model::convert(text));
+    let today = match model::read(sheet) {
+        Ok(_) => one.as_deref() == Ok(sheet),
+        Err(Refusal { number: 22, line }) => one.as_ref().err().is_none_or(|own| own.line == 0 || own.line >= line),
+        Err(refusal) => one == Err(refusal),
+    };
+    match today && one == other && again.is_none_or(|again| again == one) {
+        true => Ok(()),
+        false => Err(format!("converted {one:?}\nagain {other:?}\n{}", text_of(sheet))),
+    }
 }
 
 /// The model's judge, and that of `labels.rs` without a slip.
@@ -374,10 +437,18 @@ fn expected(directory: &str) -> Vec<u8> {
     let mut text = vec![];
     let mut last_form = None;
     for number in 1.. {
-        let Ok(sheet) = std::fs::read(format!("{directory}/{number:03}.csv")) else { break };
-        let table = std::fs::read(format!("{directory}/{number:03}.tab")).unwrap_or_default();
-        let listing = std::fs::read(format!("{directory}/{number:03}.lst")).ok();
+        let file = |kind: &str| std::fs::read(format!("{directory}/{number:03}.{kind}")).ok();
+        let Some(mut sheet) = file("csv").or_else(|| file("fix")) else { break };
         text.extend(format!("{number:03} ").into_bytes());
+        if file("csv").is_none() {
+            text.extend(reading_line(&model::read(&sheet)).into_bytes());
+            text.extend(expected_conversion(&sheet));
+            match model::convert(&sheet) {
+                Ok(converted) => sheet = converted,
+                Err(_) => continue,
+            }
+        }
+        let (table, listing) = (file("tab").unwrap_or_default(), file("lst"));
         let reading = model::read(&sheet);
         text.extend(reading_line(&reading).into_bytes());
         text.extend(expected_house(&sheet, &mut last_form));
@@ -392,6 +463,27 @@ fn expected(directory: &str) -> Vec<u8> {
     text
 }
 
+/// The converter's refusal; or the sheet that it makes, whether that stays as it is, and what the call says to a buffer
+/// that is one byte too short.
+fn expected_conversion(sheet: &[u8]) -> Vec<u8> {
+    let converted = match model::convert(sheet) {
+        Err(refusal) => return refused_line("converted ", refusal).into_bytes(),
+        Ok(converted) => converted,
+    };
+    [b"converted\n", &converted[..], again_and_short(&converted, model::convert).as_bytes()].concat()
+}
+
+/// Whether a text is written once more as it is, and what a call says that would write it into a buffer that is one
+/// byte too short.
+fn again_and_short(text: &[u8], write: Printer) -> String {
+    let again = if write(text).as_deref() == Ok(text) { "same" } else { "other" };
+    let short = match model::within(text.to_vec(), text.len() - 1) {
+        Ok(text) => text.len().to_string(),
+        Err(refusal) => short_refusal(refusal),
+    };
+    format!("again {again} short {short}\n")
+}
+
 /// The house form's refusal; or the form, unless the last one before it was the same, whether it is its own form, and what the call says
 /// to a buffer that is one byte too short.
 fn expected_house(sheet: &[u8], last_form: &mut Option<Vec<u8>>) -> Vec<u8> {
@@ -403,12 +495,7 @@ fn expected_house(sheet: &[u8], last_form: &mut Option<Vec<u8>>) -> Vec<u8> {
         Some(last) if *last == form => b"house as before\n".to_vec(),
         _ => [b"house\n", &form[..]].concat(),
     };
-    let again = if model::house(&form).as_ref() == Ok(&form) { "same" } else { "other" };
-    let short = match model::within(form.clone(), form.len() - 1) {
-        Ok(form) => form.len().to_string(),
-        Err(refusal) => short_refusal(refusal),
-    };
-    text.extend(format!("again {again} short {short}\n").into_bytes());
+    text.extend(again_and_short(&form, model::house).into_bytes());
     *last_form = Some(form);
     text
 }

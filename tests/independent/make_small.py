@@ -55,8 +55,8 @@ def label(signals):
 def rule(events, signals):
     """Half of the rules ask for a wait from the start or one event after another, so that tables are not all 0."""
     if rng.random() < 0.5:
-        return one_of(["min", "max", "fix"]), pick(0, events - 1), pick(0, events - 1), pick(-3, 4), label(signals)
-    return one_of(["min", "min", "fix"]), one_of([0, pick(0, events - 1)]), pick(0, events - 1), pick(1, 3), label(signals)
+        return one_of(["min", "max"]), pick(0, events - 1), pick(0, events - 1), pick(-3, 4), label(signals)
+    return "min", one_of([0, pick(0, events - 1)]), pick(0, events - 1), pick(1, 3), label(signals)
 
 
 def completed(letters, signals, labels):
@@ -122,7 +122,7 @@ def happens(net, case, event):
 def holds(rule, row):
     kind, start, end, limit, _ = rule
     difference = row[end] - row[start]
-    return {"max": difference <= limit, "min": difference >= limit, "fix": difference == limit}[kind]
+    return {"max": difference <= limit, "min": difference >= limit}[kind]
 
 
 def lawful(net, case, row):

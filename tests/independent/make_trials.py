@@ -1,6 +1,6 @@
 #!/usr/bin/env python3
-"""Writes the trial files of document 01 and of points 2, 3, 4 and 6 of document 02: crates/trials/data/NNN.csv,
-NNN.tab, NNN.lst and titles.txt.
+"""Writes the trial files of document 01 and of points 2, 3, 4, 6 and 7 of document 02: crates/trials/data/NNN.csv or
+NNN.fix, NNN.tab, NNN.lst and titles.txt.
 
     make_trials.py          writes the files
     make_trials.py titled   copies standard input, the output of `compare expected crates/trials/data`, with each trial's title beside its
@@ -11,7 +11,8 @@ NNN.tab, NNN.lst and titles.txt.
                             here; behind the listing of each solved table `returned same` is asked for
 
 A trial is: what it shows, the sheet, the answer, for some a table or a listing, for some a house form, and for some
-what is due at minutes that are asked about. Nothing here is computed by the model.
+what is due at minutes that are asked about. For some it is another sheet, in NNN.fix, that is converted first, to the
+one of the trial or to a refusal. Nothing here is computed by the model.
 """
 
 import pathlib
@@ -22,15 +23,21 @@ HOME = HERE.parent.parent / "crates" / "trials"
 TRIALS = []
 
 
-def trial(about, sheet, answer, table=None, tail=b"", house=None, asked=(), listing=None):
+def trial(about, sheet, answer, table=None, tail=b"", house=None, asked=(), listing=None, former=None):
     """`table` is a list of minutes; `tail` are bytes put behind them; `house` is the house form, its refusal, or `as
     before`; `asked` are the beginnings of some of the lines `asked`: a minute, and what is due to those who have heard
-    nothing, p and !p; `listing` is a listing to be read back, an empty one too."""
-    sheet = sheet if isinstance(sheet, bytes) else sheet.encode("latin-1")
+    nothing, p and !p; `listing` is a listing to be read back, an empty one too; `former` is the sheet that is converted
+    to this one, and what the reader says of it. Where the converter refuses it, there is no sheet, and the answer is
+    the converter's."""
     table = None if table is None else b"".join(minute.to_bytes(2, "little") for minute in table) + tail
-    house = answer if answer.startswith("refused") and house is None else house
+    house = answer if sheet is not None and answer.startswith("refused") and house is None else house
     listing = listing.encode("latin-1") if isinstance(listing, str) else listing
-    TRIALS.append((about, sheet, answer, table, listing, house, asked))
+    TRIALS.append((about, sheet, answer, table, listing, house, asked, former))
+
+
+def refuse_former(about, former, answer, read):
+    """A sheet that the converter refuses, and what the reader says of it."""
+    trial(about, None, answer, former=(former, read))
 
 
 def sheet(events, signals=(), rules=(), horizon=60):
@@ -57,7 +64,10 @@ def document_01():
     trial("01 trial 1: as printed", EXAMPLE, LISTING)
     trial("01 trial 2: last limit 20", line(11, "max,start,door,20,-"), LISTING)
     trial("01 trial 3: last limit 19", line(11, "max,start,door,19,-"), "accepted 60 3 1 3" + NO_TABLE)
-    trial("01 trial 4: door fixed at 20", line(11, "fix,start,door,20,-"), "accepted 60 3 1 3\ncase,start,call,door\nF,0,5,20\nT,0,5,20")
+    four = sheet("start call door", ["p,call"], two + ["max,start,door,20,-", "min,start,door,20,-"])
+    trial("01 trial 4: door fixed at 20, converted first", four,
+          "accepted 60 3 1 4\ncase,start,call,door\nF,0,5,20\nT,0,5,20",
+          former=(line(11, "fix,start,door,20,-"), "refused 22 line 11"))
     trial("01 trial 5: start alone", sheet("start"), "accepted 60 1 0 0\ncase,start\n-,0")
     trial("01 trial 6: a rule from an event to itself", sheet("start", rules=["max,start,start,0,-"]), "accepted 60 1 0 1\ncase,start\n-,0")
     trial("01 trial 7: the same with -1", sheet("start", rules=["max,start,start,-1,-"]), "accepted 60 1 0 1" + NO_TABLE)
@@ -127,7 +137,7 @@ def ranges():
     trial("the limit -10081", line(11, "max,start,door,-10081,-"), "refused 5 line 11")
     widest = sheet("start door", rules=["max,start,door,10080,-", "min,start,door,-10080,-", "min,start,door,10080,-"], horizon=10080)
     trial("limits at both ends", widest, "accepted 10080 2 0 3\ncase,start,door\n-,0,10080")
-    trial("horizon 0, all events in one minute", sheet("start door", rules=["fix,start,door,0,-"], horizon=0), "accepted 0 2 0 1\ncase,start,door\n-,0,0")
+    trial("horizon 0, all events in one minute", sheet("start door", rules=["max,start,door,0,-", "min,start,door,0,-"], horizon=0), "accepted 0 2 0 2\ncase,start,door\n-,0,0")
 
 
 def names():
@@ -245,9 +255,9 @@ def broken_rules():
     trial("judged: min broken by one", EXAMPLE, "accepted 60 3 1 3\njudged rule 0 0\n...", [0, 4, 6, 0, 5, 20])
     trial("judged: min broken by one where the label holds", EXAMPLE, "accepted 60 3 1 3\njudged rule 1 1\n...", [0, 5, 6, 0, 5, 19])
     trial("judged: max broken by one", EXAMPLE, "accepted 60 3 1 3\njudged rule 1 2\n...", [0, 5, 6, 0, 5, 31])
-    fixed = sheet("start door", rules=["fix,start,door,20,-", "fix,door,start,-20,-"])
-    trial("judged: fix broken by one below", fixed, "accepted 60 2 0 2\njudged rule 0 0\ncase,start,door\n-,0,19", [0, 19])
-    trial("judged: fix broken by one above", fixed, "accepted 60 2 0 2\njudged rule 0 0\ncase,start,door\n-,0,21", [0, 21])
+    fixed = sheet("start door", rules=["max,start,door,20,-", "min,start,door,20,-"])
+    trial("judged: the max and the min of one difference, broken by one below", fixed, "accepted 60 2 0 2\njudged rule 0 1\ncase,start,door\n-,0,19", [0, 19])
+    trial("judged: the max and the min of one difference, broken by one above", fixed, "accepted 60 2 0 2\njudged rule 0 0\ncase,start,door\n-,0,21", [0, 21])
     trial("judged: by case and then rule", EXAMPLE, "accepted 60 3 1 3\njudged rule 0 2\n...", [0, 5, 31, 0, 4, 20])
     trial("judged: Rule in case 1 comes before Unheard in case 0", EXAMPLE, "accepted 60 3 1 3\njudged rule 1 1\n...", [0, 6, 6, 0, 5, 7])
     own = sheet("start door", rules=["min,door,door,0,-", "max,door,door,-1,-", "max,door,door,-1,-"])
@@ -303,30 +313,35 @@ def turned(rule):
     return ",".join([{"max": "min", "min": "max"}[kind], end, start, str(-int(limit)), label])
 
 
+def both(*rows):
+    """A `max` and a `min` for each row, of which all but the kind is told."""
+    return [f"{kind},{row}" for row in rows for kind in ("max", "min")]
+
+
 def one_procedure():
     events, signals = "start call door vault", ["p,start", "q,call"]
     table = "case,start,call,door,vault\nFF,0,5,1,4\nTF,0,5,20,1\nFT,0,5,1,4\nTT,0,5,6,1"
-    one = lambda about, rules, house="as before": trial("one procedure, " + about, sheet(events, signals, rules), f"accepted 60 4 2 {len(rules)}\n{table}", house=house)
-    first = ["max,start,call,10,-", "min,start,call,5,-", "min,call,door,15,p!q", "max,start,door,30,-", "fix,door,vault,3,!p", "max,start,vault,50,q!p"]
+    one = lambda about, rules, house="as before", **former: trial("one procedure, " + about, sheet(events, signals, rules), f"accepted 60 4 2 {len(rules)}\n{table}", house=house, **former)
+    first = ["max,start,call,10,-", "min,start,call,5,-", "min,call,door,15,p!q", "max,start,door,30,-", "max,door,vault,3,!p", "min,door,vault,3,!p", "max,start,vault,50,q!p"]
     rows = ["max,start,call,10,-", "max,start,door,30,-", "max,start,vault,50,!pq", "max,call,start,-5,-", "max,door,call,-15,p!q", "max,door,vault,3,!p", "max,vault,door,-3,!p"]
-    apart = first[:4] + ["max,door,vault,3,!p", "min,door,vault,3,!p"] + first[5:]
+    fixed = lambda row: {"former": (sheet(events, signals, first[:4] + [row] + first[6:]), "refused 22 line 15")}
     slack = ["max,start,call,11,-", "min,start,call,-5,-", "min,call,door,14,p!q", "max,start,door,10080,-", "max,door,vault,4,!p", "min,door,vault,-10080,!p", "max,start,vault,51,q!p"]
-    permuted = first[:2] + ["min,call,door,15,!qp"] + first[3:5] + ["max,start,vault,50,!pq"]
+    permuted = first[:2] + ["min,call,door,15,!qp"] + first[3:6] + ["max,start,vault,50,!pq"]
     one("as its maker typed it", first, sheet(events, signals, rows))
-    one("rows shuffled", [first[place] for place in (4, 0, 5, 3, 1, 2)])
+    one("rows shuffled", [first[place] for place in (4, 0, 6, 3, 1, 5, 2)])
     one("each row twice", [rule for rule in first for _ in range(2)])
-    one("max and min for fix", apart)
-    one("min for max and max for min", [turned(rule) for rule in apart])
-    one("the fix from its other end", first[:4] + ["fix,vault,door,-3,!p"] + first[5:])
-    one("min rows only", [rule if rule.startswith("min") else turned(rule) for rule in apart])
+    one("a fix for one max and min, converted first", first, **fixed("fix,door,vault,3,!p"))
+    one("min for max and max for min", [turned(rule) for rule in first])
+    one("the fix from its other end, converted first", first[:4] + ["max,vault,door,-3,!p", "min,vault,door,-3,!p"] + first[6:], **fixed("fix,vault,door,-3,!p"))
+    one("min rows only", [rule if rule.startswith("min") else turned(rule) for rule in first])
     one("labels in another order", permuted)
-    one("doubles with slack behind the rows", apart + slack)
-    one("doubles with slack before the rows, from their other ends", [turned(rule) for rule in slack] + apart)
-    one("all of this", slack[3:] + permuted[:3] + [turned(rule) for rule in slack] + permuted[4:] + apart[::-1] + ["fix,vault,door,-3,!p"] + rows)
+    one("doubles with slack behind the rows", first + slack)
+    one("doubles with slack before the rows, from their other ends", [turned(rule) for rule in slack] + first)
+    one("all of this", slack[3:] + permuted[:3] + [turned(rule) for rule in slack] + permuted[4:] + first[::-1] + ["min,vault,door,-3,!p"] + rows)
     one("as its house form", rows)
     one("as its house form from the end", rows[::-1])
     # q has weight 1 now: cases 1 and 2 change places
-    swapped = "accepted 60 4 2 6\ncase,start,call,door,vault\nFF,0,5,1,4\nTF,0,5,1,4\nFT,0,5,20,1\nTT,0,5,6,1"
+    swapped = "accepted 60 4 2 7\ncase,start,call,door,vault\nFF,0,5,1,4\nTF,0,5,1,4\nFT,0,5,20,1\nTT,0,5,6,1"
     other = rows[:2] + ["max,start,vault,50,q!p", "max,call,start,-5,-", "max,door,call,-15,!qp"] + rows[5:]
     trial("its signals the other way round: another form", sheet(events, signals[::-1], first), swapped, house=sheet(events, signals[::-1], other))
 
@@ -336,36 +351,44 @@ def about_64_rows():
     count_up = lambda count: "\ncase," + ",".join(f"e{i}" for i in range(count)) + "\n-," + ",".join(map(str, range(count)))
     full = [f"max,e{i},e{j},{100 * i + j},-" for i in range(8) for j in range(8)]
     trial("64 `max` rows, from the end: 64 rows left", sheet(eight, rules=full[::-1]), "accepted 60 8 0 64" + zeros(eight), house=sheet(eight, rules=full))
-    own = full[:-1] + ["fix,e7,e7,0,-"]
-    trial("63 `max` rows and a `fix` from an event to itself: 64 rows left", sheet(eight, rules=own), "accepted 60 8 0 64" + zeros(eight), house=sheet(eight, rules=full[:-1] + ["max,e7,e7,0,-"]))
+    own = full[:-1] + ["min,e7,e7,0,-"]
+    trial("63 `max` rows and a `min` from an event to itself: 64 rows left", sheet(eight, rules=own), "accepted 60 8 0 64" + zeros(eight), house=sheet(eight, rules=full[:-1] + ["max,e7,e7,0,-"]))
     # 36 pairs of 9 events, without the two that are 7 apart, the one 8 apart and one more
     ends = [(i, j) for i in range(9) for j in range(9) if 0 < abs(i - j) < 7 and {i, j} != {0, 1}]
-    fixes = [f"fix,e{i},e{j},{j - i},-" for i, j in ends if i < j]
-    trial("32 `fix` rows: 64 rows left", sheet(nine, rules=fixes), "accepted 60 9 0 32" + count_up(9), house=sheet(nine, rules=[f"max,e{i},e{j},{j - i},-" for i, j in ends]))
+    pairs = [f"e{i},e{j},{j - i},-" for i, j in ends if i < j]
+    trial("32 `fix` rows, converted first: 64 rows", sheet(nine, rules=both(*pairs)), "accepted 60 9 0 64" + count_up(9), house=sheet(nine, rules=[f"max,e{i},e{j},{j - i},-" for i, j in ends]),
+          former=(sheet(nine, rules=["fix," + pair for pair in pairs]), "refused 22 line 14"))
     over = sheet(eight + " x", rules=full[:-1] + ["fix,e7,x,0,-"])
-    trial("63 `max` rows and a `fix`: 65 rows would be left", over, "accepted 60 9 0 64" + zeros(eight + " x"), house="refused 17 line 0")
-    trial("65 rows would be left, and a byte follows the rules: 2", over + "x", "refused 2 line 78")
+    refuse_former("63 `max` rows and a `fix`: 65 rows would result", over, "refused 17 line 0", "refused 22 line 77")
+    refuse_former("65 rows would result, and a byte follows the rules: 2", over + "x", "refused 2 line 78", "refused 22 line 77")
     fixes = [f"fix,e{i},e{j},{j - i},-" for i in range(12) for j in range(i + 1, 12)]
-    trial("64 `fix` rows: 128 rows would be left", sheet(twelve, rules=fixes[:64]), "accepted 60 12 0 64" + count_up(12), house="refused 17 line 0")
+    refuse_former("64 `fix` rows: 128 rows would result", sheet(twelve, rules=fixes[:64]), "refused 17 line 0", "refused 22 line 17")
     merging = sheet("start door", ["p,start"], [f"fix,start,door,{limit},p" for limit in range(1, 65)])
-    trial("64 `fix` rows: two rows left", merging, "accepted 60 2 1 64" + NO_TABLE, house=sheet("start door", ["p,start"], ["max,start,door,1,p", "max,door,start,-64,p"]))
+    refuse_former("64 `fix` rows: 128 rows would result, of which two would be left", merging, "refused 17 line 0", "refused 22 line 8")
 
 
 def limits():
-    ends = ["max,start,a,10080,-", "max,start,b,-10080,-", "min,start,c,10080,-", "min,start,d,-10080,-", "fix,start,e,10080,-", "fix,start,f,-10080,-"]
+    ends = ["max,start,a,10080,-", "max,start,b,-10080,-", "min,start,c,10080,-", "min,start,d,-10080,-"]
+    former = sheet("start a b c d e f", rules=ends + ["fix,start,e,10080,-", "fix,start,f,-10080,-"], horizon=10080)
+    ends += both("start,e,10080,-", "start,f,-10080,-")
     rows = ["max,start,a,10080,-", "max,start,b,-10080,-", "max,start,e,10080,-", "max,start,f,-10080,-"]
     rows += ["max,c,start,-10080,-", "max,d,start,10080,-", "max,e,start,-10080,-", "max,f,start,10080,-"]
     form = sheet("start a b c d e f", rules=rows, horizon=10080)
-    trial("limits at both ends, of each kind", sheet("start a b c d e f", rules=ends, horizon=10080), "accepted 10080 7 0 6" + NO_TABLE, house=form)
+    trial("limits at both ends, of each kind, converted first", sheet("start a b c d e f", rules=ends, horizon=10080), "accepted 10080 7 0 8" + NO_TABLE, house=form,
+          former=(former, "refused 22 line 16"))
     events = " ".join("abcdefghijklmnop")
     near = ["max,a,b,0,-", "min,c,d,0,-", "fix,e,f,0,-", "max,g,h,1,-", "min,g,h,1,-", "fix,i,j,1,-", "max,k,l,-1,-", "min,m,n,-1,-", "fix,o,p,-1,-"]
+    former = (sheet(events, rules=near), "refused 22 line 23")
+    near = near[:2] + both("e,f,0,-", "g,h,1,-", "i,j,1,-") + near[6:8] + both("o,p,-1,-")
     rows = ["max,a,b,0,-", "max,d,c,0,-", "max,e,f,0,-", "max,f,e,0,-", "max,g,h,1,-", "max,h,g,-1,-", "max,i,j,1,-", "max,j,i,-1,-", "max,k,l,-1,-", "max,n,m,1,-", "max,o,p,-1,-", "max,p,o,1,-"]
     table = "\ncase,a,b,c,d,e,f,g,h,i,j,k,l,m,n,o,p\n-,0,0,0,0,0,0,0,1,0,1,1,0,0,0,1,0"
-    trial("limits 0, 1 and -1, of each kind", sheet(events, rules=near), "accepted 60 16 0 9" + table, house=sheet(events, rules=rows))
+    trial("limits 0, 1 and -1, of each kind, converted first", sheet(events, rules=near), "accepted 60 16 0 12" + table, house=sheet(events, rules=rows), former=former)
     own = ["fix,f,f,0,-", "max,start,start,5,-", "max,a,a,-5,p", "max,a,a,5,-", "min,b,b,5,-", "min,c,c,-5,-", "fix,d,d,5,-", "fix,e,e,-5,-", "max,g,g,0,-", "min,g,g,0,-"]
+    former = (sheet("start a b c d e f g", ["p,start"], own), "refused 22 line 14")
+    own = both("f,f,0,-") + own[1:6] + both("d,d,5,-", "e,e,-5,-", "g,g,0,-")
     rows = ["max,start,start,5,-", "max,a,a,5,-", "max,a,a,-5,p", "max,b,b,-5,-", "max,c,c,5,-", "max,d,d,-5,-", "max,e,e,-5,-", "max,f,f,0,-", "max,g,g,0,-"]
     form = sheet("start a b c d e f g", ["p,start"], rows)
-    trial("rules from an event to itself, of each kind", sheet("start a b c d e f g", ["p,start"], own), "accepted 60 8 1 10" + NO_TABLE, house=form)
+    trial("rules from an event to itself, of each kind, converted first", sheet("start a b c d e f g", ["p,start"], own), "accepted 60 8 1 13" + NO_TABLE, house=form, former=former)
 
 
 def rows_and_labels():
@@ -510,9 +533,9 @@ def around_their_end():
     ends = [f"max,e{i},e{j},{100 * i + j},-" for i in range(8) for j in range(8)]
     eight = " ".join(f"e{i}" for i in range(8)) + " x"
     over = slow(sheet(eight, rules=ends[:-1] + ["fix,e7,x,0,-"]))
-    trial("65 rows would be left, no lines of reactions", over, "accepted 60 9 0 64" + zeros(eight),
-          house="refused 17 line 0")
-    trial("65 rows would be left, and a byte follows the reactions: 2", over + "x", "refused 2 line 79")
+    refuse_former("65 rows would result, no lines of reactions", over, "refused 17 line 0", "refused 22 line 77")
+    refuse_former("65 rows would result, and a byte follows the reactions: 2", over + "x", "refused 2 line 79",
+                  "refused 22 line 77")
 
 
 def judged_reactions():
@@ -618,10 +641,10 @@ def returned():
     refused_with_listings()
 
 
-def reread(about, listing, count, verdict, of=EXAMPLE, accepted="60 3 1 3", house="as before"):
+def reread(about, listing, count, verdict, of=EXAMPLE, accepted="60 3 1 3", house="as before", former=None):
     """So many minutes are recovered; what is accepted prints back to its own bytes."""
     answer = f"accepted {accepted}\nreturned {count} short r12.0\njudged {verdict}\n{listing[:-1]}"
-    trial("returned: " + about, of, answer, house=house, listing=listing)
+    trial("returned: " + about, of, answer, house=house, listing=listing, former=former)
 
 
 def misread(about, listing, number, at, of=EXAMPLE, accepted="60 3 1 3", house="as before"):
@@ -658,9 +681,11 @@ def printed_back():
     slow_door()
     eight = " ".join(f"e{i}" for i in range(8)) + " x"
     ends = [f"max,e{i},e{j},{100 * i + j},-" for i in range(8) for j in range(8)]
-    over = sheet(eight, rules=ends[:-1] + ["fix,e7,x,0,-"])
-    reread("a sheet without a house form", zeros(eight)[1:] + "\n", 9, "pass", of=over, accepted="60 9 0 64",
-           house="refused 17 line 0")
+    full = sheet(eight, rules=ends[:-2] + both("e7,x,0,-"))
+    form = sheet(eight, rules=ends[:-2] + ["max,e7,x,0,-", "max,x,e7,0,-"])
+    reread("62 `max` rows and a `fix`, converted first", zeros(eight)[1:] + "\n", 9, "pass", of=full,
+           accepted="60 9 0 64", house=form,
+           former=(sheet(eight, rules=ends[:-2] + ["fix,e7,x,0,-"]), "refused 22 line 76"))
 
 
 def slow_door():
@@ -957,8 +982,9 @@ def covered_rules():
     apart = lambda *rules: sheet("start call door vault", ["p,call"], ["min,start,call,5,-", *rules])
     two = lambda of: only(slow(of), "door,p", "vault,!p")
     table = "accepted 60 4 1 {}\ncase,start,call,door,vault\nF,0,5,-,{}\nT,0,5,{},-"
-    trial("a rule between events of different cases covers nothing", two(apart("fix,door,vault,30,-")),
-          table.format(2, 6, 6), house=two(sheet("start call door vault", ["p,call"],
+    trial("a rule between events of different cases covers nothing, converted first",
+          two(apart("max,door,vault,30,-", "min,door,vault,30,-")), table.format(3, 6, 6),
+          former=(two(apart("fix,door,vault,30,-")), "refused 22 line 11"), house=two(sheet("start call door vault", ["p,call"],
           ["max,call,start,-5,-", "max,door,vault,30,-", "max,vault,door,-30,-"])))
     trial("a rule covers where its event happens", two(apart("min,call,door,9,-", "max,vault,start,-20,-")),
           table.format(3, 20, 14), house=two(sheet("start call door vault", ["p,call"],
@@ -1086,9 +1112,9 @@ def around_the_labels():
     ends = [f"max,e{i},e{j},{100 * i + j},-" for i in range(8) for j in range(8)]
     eight = " ".join(f"e{i}" for i in range(8)) + " x"
     over = only(slow(sheet(eight, rules=ends[:-1] + ["fix,e7,x,0,-"])))
-    trial("65 rows would be left, no lines of labels", over, "accepted 60 9 0 64" + zeros(eight),
-          house="refused 17 line 0")
-    trial("65 rows would be left, and a byte follows the labels: 10", over + "x", "refused 10 line 80")
+    refuse_former("65 rows would result, no lines of labels", over, "refused 17 line 0", "refused 22 line 77")
+    refuse_former("65 rows would result, and a byte follows the labels: 10", over + "x", "refused 10 line 80",
+                  "refused 22 line 77")
 
 
 def twenty():
@@ -1249,19 +1275,257 @@ def listed_labels():
           "accepted 10080 16 4 64" + NO_TABLE, house=form)
 
 
+def retired():
+    """`fix` is no kind any more (02, point 7); the rules of the example stand on lines 9 to 11."""
+    refused_fixes()
+    fixes_and_other_faults()
+    no_fixes()
+
+
+def refused_fixes():
+    trial("22 on the first row", line(9, "fix,start,call,5,-"), "refused 22 line 9")
+    trial("22 on a row between others", line(10, "fix,call,door,15,p"), "refused 22 line 10")
+    trial("22 on the last row", line(11, "fix,start,door,30,-"), "refused 22 line 11")
+    trial("22 on the last of 64 rows", sheet("start door", rules=["max,start,door,9,-"] * 63 + ["fix,start,door,9,-"]),
+          "refused 22 line 70")
+    trial("22 on the only row, from an event to itself", sheet("start", rules=["fix,start,start,0,-"]),
+          "refused 22 line 6")
+    trial("22 on two rows: the first", line(10, "fix,call,door,15,p", of=line(11, "fix,start,door,30,-")),
+          "refused 22 line 10")
+    trial("22 where there are reactions and labels", only(slow(line(11, "fix,start,door,30,-"), "p,2"), "door,p"),
+          "refused 22 line 11")
+    late = line(11, "fix,start,door,20,-")
+    refused = "refused 22 line 11\njudged refused 22 line 11\nlisted refused 22 line 11"
+    trial("22, and a table", late, refused, [0, 5, 20, 0, 5, 20])
+    trial("22, and an odd table of another length", late, refused, [0, 5], b"\0")
+    own = lambda about, listing: trial("22, and " + about, late, "refused 22 line 11\nreturned refused 22 line 11",
+                                       listing=listing)
+    own("the listing of its former table", "case,start,call,door\nF,0,5,20\nT,0,5,20\n")
+    own("a misread listing", line(2, "F,0,05,6", PRINTED))
+    own("4,097 bytes of listing", "x" * 4097)
+
+
+def fixes_and_other_faults():
+    """22 comes directly behind 3, so before 4 to 9; of two lines the first decides."""
+    for about, text in [("an ill-formed number", "fix,start,door,05,-"), ("the number -0", "fix,start,door,-0,-"),
+                        ("no number", "fix,start,door,,-"), ("a number beyond its range", "fix,start,door,10081,-"),
+                        ("an ill-formed event", "fix,start,Door,5,-"), ("an empty event", "fix,,door,5,-"),
+                        ("an ill-formed label", "fix,start,door,5,p!"), ("no label", "fix,start,door,5,"),
+                        ("an undefined event", "fix,start,gate,5,-"), ("an undefined letter", "fix,start,door,5,q"),
+                        ("a letter twice", "fix,start,door,5,p!p"), ("nothing in order", "fix,,,,")]:
+        trial(f"one line, a fix and {about}: 22", line(10, text), "refused 22 line 10")
+    for text in ("fix", "fix,", "fix,start,door,20", "fix,start,door,20,-,", "fix,start,door,5,-,p", "fix,fix,fix,fix"):
+        trial(f"the row {text!a}: another count of fields", line(10, text), "refused 3 line 10")
+    for text in ("Fix", "FIX", "fixx", "fi", " fix", "fix ", "fix\r", "fix\0", "\xe6ix", ""):
+        trial(f"the kind {text!a}", line(10, text + ",start,door,20,-"), "refused 3 line 10")
+    trial("a fix without a line feed: 2", line(11, "fix,start,door,20,-")[:-1], "refused 2 line 11")
+    trial("a fix, and a row missing behind it", line(8, "rules,4", of=line(11, "fix,start,door,20,-")),
+          "refused 22 line 11")
+    trial("two lines, a letter twice and then a fix", line(9, "min,start,call,5,pp", of=line(10, "fix,call,door,5,-")),
+          "refused 9 line 9")
+    trial("two lines, a fix and then four fields", line(9, "fix,start,call,5,-", of=line(10, "min,call,door,15")),
+          "refused 22 line 9")
+    trial("a fix, and 65 rules are announced", line(8, "rules,65", of=line(9, "fix,start,call,5,-")),
+          "refused 5 line 8")
+    trial("a fix, and a name is defined twice", line(5, "start", of=line(9, "fix,start,call,5,-")), "refused 7 line 5")
+    behind = line(11, "fix,start,door,30,-")
+    trial("a fix, and a byte follows the rules", behind + "x", "refused 22 line 11")
+    trial("a fix, and a reaction of 61", slow(behind, "p,61"), "refused 22 line 11")
+    trial("a fix, and the start is labelled", only(slow(behind), "start,p"), "refused 22 line 11")
+    trial("a fix, and a byte follows the labels", only(slow(behind)) + "x", "refused 22 line 11")
+    trial("4,097 bytes, a fix among them", behind + "x" * (4097 - len(behind)), "refused 1 line 0")
+    trial("a fix too many: not the heading of the reactions", EXAMPLE + "fix,start,door,30,-\n", "refused 3 line 12")
+
+
+def no_fixes():
+    """Words decide nothing: a row has five fields."""
+    events, signals = "rules fix max min", ["f,fix"]
+    rules = ["min,rules,fix,5,-", "max,fix,max,0,f", "min,fix,min,2,!f"]
+    rows = ["max,fix,rules,-5,-", "max,fix,max,0,f", "max,min,fix,-2,!f"]
+    table = "accepted 60 4 1 3\ncase,rules,fix,max,min\nF,0,5,{0},{1}\nT,0,5,{0},{2}"
+    trial("events named rules, fix, max and min", sheet(events, signals, rules), table.format(0, 7, 6),
+          house=sheet(events, signals, rows))
+    of = lambda rules: only(slow(sheet(events, signals, rules)), "fix,-", "max,f", "rules,-")
+    form = only(slow(sheet(events, signals, rows)), "max,f")
+    # max comes where f is true, not before 6, and then not behind fix at 5
+    trial("the same, and lines `fix,-` and `max,f`", of(rules), "accepted 60 4 1 3" + NO_TABLE, house=form)
+    trial("the same, and max may come a minute later", of(rules[:1] + ["max,fix,max,1,f"] + rules[2:]),
+          "accepted 60 4 1 3\ncase,rules,fix,max,min\nF,0,5,-,7\nT,0,5,6,6",
+          house=only(slow(sheet(events, signals, rows[:1] + ["max,fix,max,1,f"] + rows[2:])), "max,f"))
+
+
+def conversions():
+    """The converter (02, point 7)."""
+    converted_rows()
+    converted_counts()
+    converted_ends()
+    converted_words()
+    tables_of_converted()
+    refused_by_converter()
+
+
+def convert(about, former, at, of, answer, **rest):
+    """A sheet with its first `fix` at a line, or with none, and what it is converted to."""
+    read = answer.split("\n")[0] if at is None else f"refused 22 line {at}"
+    trial("converted: " + about, of, answer, former=(former, read), **rest)
+
+
+# the rules of the example on lines 9 to 11, with some of them as `fix`, and what stands for them
+FIRST, SECOND, THIRD = "start,call,5,-", "call,door,15,p", "start,door,30,-"
+DOOR = "\ncase,start,call,door\nF,0,5,{}\nT,0,5,{}"
+
+
+def three(*rules):
+    return sheet("start call door", ["p,call"], rules)
+
+
+def converted_rows():
+    kept = ["min," + FIRST, "min," + SECOND, "max," + THIRD]
+    convert("a sheet without a fix", EXAMPLE, None, EXAMPLE, LISTING)
+    convert("the first row", line(9, "fix," + FIRST), 9, three(*both(FIRST), *kept[1:]),
+            "accepted 60 3 1 4" + DOOR.format(6, 20))
+    convert("a row between others", line(10, "fix," + SECOND), 10, three(kept[0], *both(SECOND), kept[2]),
+            "accepted 60 3 1 4" + DOOR.format(6, 20))
+    convert("the last row", line(11, "fix," + THIRD), 11, three(*kept[:2], *both(THIRD)),
+            "accepted 60 3 1 4" + DOOR.format(30, 30))
+    convert("two rows that stand apart", line(9, "fix," + FIRST, of=line(11, "fix," + THIRD)), 9,
+            three(*both(FIRST), kept[1], *both(THIRD)), "accepted 60 3 1 5" + DOOR.format(30, 30))
+    # the door at 20 where p is true, and at 30
+    convert("all rows", three("fix," + FIRST, "fix," + SECOND, "fix," + THIRD), 9, three(*both(FIRST, SECOND, THIRD)),
+            "accepted 60 3 1 6" + NO_TABLE)
+    convert("one fix twice", three("fix," + FIRST, "fix," + FIRST), 9, three(*both(FIRST, FIRST)),
+            "accepted 60 3 1 4" + DOOR.format(0, 0))
+    convert("a fix behind its own max and min", three(*both(FIRST), "fix," + FIRST), 11, three(*both(FIRST, FIRST)),
+            "accepted 60 3 1 4" + DOOR.format(0, 0))
+    convert("a fix that leaves no table", line(11, "fix,start,door,19,-"), 11,
+            three(*kept[:2], *both("start,door,19,-")), "accepted 60 3 1 4" + NO_TABLE)
+    of = lambda rules: sheet("start call door", ["q,call", "p,start"], rules)
+    # the door at 12 where p is false and q true; the call is at 5, and q has weight 1
+    convert("letters in another order than the signals stay", of(["min,start,call,5,-", "fix,call,door,7,!pq"]), 11,
+            of(["min,start,call,5,-", "max,call,door,7,!pq", "min,call,door,7,!pq"]),
+            "accepted 60 3 2 3\ncase,start,call,door\nFF,0,5,6\nTF,0,5,12\nFT,0,5,1\nTT,0,5,1")
+    alone = sheet("start", rules=["fix,start,start,0,-"])
+    convert("from an event to itself", alone, 6, sheet("start", rules=both("start,start,0,-")),
+            "accepted 60 1 0 2\ncase,start\n-,0")
+
+
+def converted_counts():
+    """A count of one digit stays one up to 9."""
+    of = lambda *rules: sheet("start door", rules=rules)
+    row = "start,door,7,-"
+    table = "\ncase,start,door\n-,0,7"
+    for maxes, fixes in ((8, 0), (7, 1), (8, 1), (9, 0), (9, 1), (0, 5), (0, 9), (1, 9), (62, 1), (2, 31)):
+        rows = maxes + 2 * fixes
+        former = of(*["max," + row] * maxes, *["fix," + row] * fixes)
+        least = table if fixes else "\ncase,start,door\n-,0,0"
+        convert(f"{maxes} rows and {fixes} of fix: {rows}", former, 7 + maxes if fixes else None,
+                of(*["max," + row] * maxes, *both(row) * fixes), f"accepted 60 2 0 {rows}{least}")
+    full = of(*["max," + row] * 64)
+    convert("64 rows and none of fix: 64", full, None, full, "accepted 60 2 0 64\ncase,start,door\n-,0,0")
+    empty = of()
+    convert("no rules", empty, None, empty, "accepted 60 2 0 0\ncase,start,door\n-,0,0")
+    for maxes, fixes in ((63, 1), (1, 32), (0, 33), (0, 64)):
+        refuse_former(f"converted: {maxes} rows and {fixes} of fix: {maxes + 2 * fixes}",
+                      of(*["max," + row] * maxes, *["fix," + row] * fixes), "refused 17 line 0",
+                      f"refused 22 line {7 + maxes}")
+
+
+def converted_ends():
+    """What stands behind the rules stays, byte for byte."""
+    former, of = line(9, "fix," + FIRST), three(*both(FIRST), "min," + SECOND, "max," + THIRD)
+    for about, ends, door in [("no lines of reactions", slow, 6),
+                              ("a reaction of 1", lambda text: slow(text, "p,1"), 6),
+                              ("a reaction of 3", lambda text: slow(text, "p,3"), 8),
+                              ("no lines of labels", lambda text: only(slow(text)), 6),
+                              ("lines with -", lambda text: only(slow(text, "p,1"), "door,-", "start,-"), 6)]:
+        convert(about, ends(former), 9, ends(of), "accepted 60 3 1 4" + DOOR.format(door, 20))
+    some = lambda text: only(slow(text, "p,3"), "call,-", "door,p")
+    convert("a door that only some cases have", some(former), 9, some(of), "accepted 60 3 1 4" + DOOR.format("-", 20))
+
+
+def converted_words():
+    events, signals, table = "rules fix max", ["f,fix"], "accepted 60 3 1 {}\ncase,rules,fix,max\nF,0,5,{}\nT,0,5,{}"
+    of = lambda rules, *lines: only(slow(sheet(events, signals, rules)), *lines)
+    lines = ["fix,-", "max,f", "rules,-"]
+    plain = of(["min,rules,fix,5,-"], *lines)
+    convert("lines `fix,-` and `max,f`, and no fix", plain, None, plain, table.format(1, "-", 6))
+    convert("the same, and a fix between fix and max", of(["min,rules,fix,5,-", "fix,fix,max,4,f"], *lines), 10,
+            of(["min,rules,fix,5,-", "max,fix,max,4,f", "min,fix,max,4,f"], *lines), table.format(3, "-", 9))
+    convert("a fix from fix to fix", sheet(events, signals, ["fix,fix,fix,0,-"]), 9,
+            sheet(events, signals, both("fix,fix,0,-")), "accepted 60 3 1 2\ncase,rules,fix,max\nF,0,0,0\nT,0,0,0")
+    refuse_former("converted: the kind fixx", sheet(events, signals, ["fixx,fix,fix,0,-"]), "refused 3 line 9",
+                  "refused 3 line 9")
+
+
+def tables_of_converted():
+    """The rules of a verdict have their places in what the sheet is converted to."""
+    former, of = line(9, "fix," + FIRST), three(*both(FIRST), "min," + SECOND, "max," + THIRD)
+    one = lambda about, verdict, table: convert(about, former, 9, of, f"accepted 60 3 1 4\njudged {verdict}\n...",
+                                                table=table)
+    one("judged, pass", "pass", [0, 5, 6, 0, 5, 20])
+    one("judged, the max of a fix broken", "rule 0 0", [0, 6, 7, 0, 6, 21])
+    one("judged, the min of a fix broken", "rule 0 1", [0, 4, 6, 0, 4, 20])
+    one("judged, a row behind a fix broken", "rule 1 2", [0, 5, 6, 0, 5, 19])
+    text = "case,start,call,door\nF,0,5,6\nT,0,5,31\n"
+    convert("a listing read back", former, 9, of,
+            f"accepted 60 3 1 4\nreturned 6 short r12.0\njudged rule 1 3\n{text[:-1]}", listing=text)
+
+
+def refused_by_converter():
+    """As by the former rules, with the line that the sheet has as it is typed; never 22."""
+    one = lambda about, former, answer, at: refuse_former("converted: " + about, former, answer,
+                                                          f"refused 22 line {at}")
+    fix = lambda number, text: line(number, text, of=line(9, "fix," + FIRST))
+    one("the last rule has no line feed", fix(11, "max," + THIRD)[:-1], "refused 2 line 11", 9)
+    one("a rule is missing", line(8, "rules,4", of=line(9, "fix," + FIRST)), "refused 2 line 12", 9)
+    one("a rule without a label", fix(10, "min,call,door,15"), "refused 3 line 10", 9)
+    one("another kind", fix(11, "fox," + THIRD), "refused 3 line 11", 9)
+    one("an ill-formed limit of a fix", line(9, "fix,start,call,05,-"), "refused 4 line 9", 9)
+    one("a limit of a fix beyond its range", line(11, "fix,start,door,10081,-"), "refused 5 line 11", 11)
+    one("an ill-formed label of a fix", line(10, "fix,call,door,15,p!"), "refused 6 line 10", 10)
+    one("an undefined event of a fix", line(10, "fix,call,gate,15,p"), "refused 8 line 10", 10)
+    one("an undefined letter behind a fix", fix(11, "max,start,door,30,q"), "refused 8 line 11", 9)
+    one("a letter twice in a fix", line(10, "fix,call,door,15,p!p"), "refused 9 line 10", 10)
+    one("the second fix at fault", fix(10, "fix,call,door,-0,p"), "refused 4 line 10", 9)
+    one("a byte behind the rules", line(9, "fix," + FIRST) + "x", "refused 2 line 12", 9)
+    one("a lone line feed behind the rules", line(9, "fix," + FIRST) + "\n", "refused 3 line 12", 9)
+    one("a letter's second reaction", slow(line(9, "fix," + FIRST), "p,2", "p,2"), "refused 7 line 14", 9)
+    one("a reaction of 61", slow(line(9, "fix," + FIRST), "p,61"), "refused 5 line 13", 9)
+    one("bytes behind the labels", only(slow(line(9, "fix," + FIRST)), "door,p") + "\n", "refused 10 line 15", 9)
+    one("the start labelled", only(slow(line(9, "fix," + FIRST)), "start,p"), "refused 20 line 14", 9)
+    pair = sheet("start call door", ["p,start", "q,call"], ["fix,start,door,9,q"])
+    one("a fix whose label lacks something", only(slow(pair), "call,p"), "refused 21 line 13", 10)
+    over = [f"fix,start,door,{limit},-" for limit in range(33)]
+    one("17 behind 9", sheet("start door", ["p,start"], over + ["max,start,door,5,p!p"]), "refused 9 line 41", 8)
+    one("17 behind 10", only(slow(sheet("start door", rules=over))) + "x", "refused 10 line 42", 7)
+    same = lambda about, former, answer: refuse_former("converted: " + about, former, answer, answer)
+    same("an empty sheet", "", "refused 2 line 1")
+    same("a fix with four fields", line(10, "fix,call,door,15"), "refused 3 line 10")
+    same("a fix with six fields", line(10, "fix,call,door,15,p,-"), "refused 3 line 10")
+    same("a fix without its line feed", line(11, "fix," + THIRD)[:-1], "refused 2 line 11")
+    same("a name twice before a fix", line(5, "call", of=line(9, "fix," + FIRST)), "refused 7 line 5")
+    same("65 rules", line(8, "rules,65", of=line(9, "fix," + FIRST)), "refused 5 line 8")
+    same("a fix too many", EXAMPLE + "fix," + THIRD + "\n", "refused 3 line 12")
+    long = line(9, "fix," + FIRST)
+    one("4,096 bytes", long + "x" * (4096 - len(long)), "refused 2 line 12", 9)
+    same("4,097 bytes", long + "x" * (4097 - len(long)), "refused 1 line 0")
+
+
 def write():
     data = HOME / "data"
     data.mkdir(parents=True, exist_ok=True)
     for old in data.glob("[0-9]*"):
         old.unlink()
-    for number, (_, text, _, table, listing, *_) in enumerate(TRIALS, 1):
-        for kind, contents in (("csv", text), ("tab", table), ("lst", listing)):
+    for number, (_, text, _, table, listing, _, _, former) in enumerate(TRIALS, 1):
+        kind, text = ("fix", former[0]) if former else ("csv", text)
+        for kind, contents in ((kind, text.encode("latin-1")), ("tab", table), ("lst", listing)):
             if contents is not None:
                 (data / f"{number:03}.{kind}").write_bytes(contents)
     (data / "titles.txt").write_text("".join(about + "\n" for about, *_ in TRIALS))
     tables = sum(table is not None for _, _, _, table, *_ in TRIALS)
-    listings = sum(listing is not None for *_, listing, _, _ in TRIALS)
-    print(f"{len(TRIALS)} sheets, {tables} tables, {listings} listings")
+    listings = sum(listing is not None for _, _, _, _, listing, *_ in TRIALS)
+    formers = sum(former is not None for *_, former in TRIALS)
+    print(f"{len(TRIALS)} sheets, {formers} of them to be converted first, {tables} tables, {listings} listings")
 
 
 def titled():
@@ -1313,10 +1577,26 @@ def with_returned(answer, table, listing):
     return answer + "\nreturned same" if solved else answer
 
 
+def converted(sheet, answer, former):
+    """What is printed of a sheet that is converted first, up to what is printed of what it is converted to."""
+    if sheet is None:
+        return f"{former[1]}\nconverted {answer}"
+    return f"{former[1]}\nconverted\n{sheet}again same short r12.0\n"
+
+
 def check():
     found = answers()
     wrong = abs(len(found) - len(TRIALS))
-    for number, ((about, _, answer, table, listing, house, asked), text) in enumerate(zip(TRIALS, found), 1):
+    for number, (of_trial, text) in enumerate(zip(TRIALS, found), 1):
+        about, of, answer, table, listing, house, asked, former = of_trial
+        first = converted(of, answer, former) if former else ""
+        if not text.startswith(first) or of is None and text != first:
+            wrong += 1
+            print(f"{number:03} {about}\nby hand:\n{first}\nprinted:\n{text}\n")
+            continue
+        if of is None:
+            continue
+        text = text[len(first) :]
         answer = with_returned(answer, table, listing)
         for begins in asked:
             if not any(printed.startswith(f"asked {begins} ") for printed in text.split("\n")):
@@ -1330,7 +1610,7 @@ def check():
         if house is not None and lines != house_lines(house):
             wrong += 1
             print(f"{number:03} {about}\nby hand:\n{house_lines(house)}\nprinted:\n{lines}\n")
-    formed = sum(house is not None for *_, house, _ in TRIALS)
+    formed = sum(house is not None for *_, house, _, _ in TRIALS)
     print(f"{len(TRIALS)} trials, {formed} of them with the house form or its refusal, {wrong} differ from what is written by hand")
     sys.exit(1 if wrong else 0)
 
@@ -1353,6 +1633,8 @@ house_forms()
 reactions()
 returned()
 labelled()
+retired()
+conversions()
 
 if sys.argv[1:] == ["check"]:
     check()

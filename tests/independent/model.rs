@@ -1,7 +1,7 @@
-//! Document 01, and points 1, 2, 3, 4, 6 and 8 of document 02, in plain Rust, written from the papers alone.
+//! Document 01, and points 1, 2, 3, 4, 6, 7 and 8 of document 02, in plain Rust, written from the papers alone.
 //!
 //! Nothing here is fast or clever on purpose: each function renders one rule of the paper, and its comment says which.
-//! Quoted words are those of the papers. "Readings" are those of docs/DECISIONS.md, 8, 16, 20, 44 and 48.
+//! Quoted words are those of the papers. "Readings" are the decisions of docs/DECISIONS.md with this title.
 
 use std::collections::{BTreeMap, VecDeque};
 use std::ops::Range;
@@ -36,6 +36,7 @@ pub struct Refusal {
     pub line: usize,
 }
 
+/// A rule's kind. `fix` is one by the former rules only (02, point 7).
 #[derive(Clone, Copy, Debug, PartialEq, Eq)]
 pub enum Kind {
     Max,
@@ -144,8 +145,25 @@ pub fn holds_in(label: &[(usize, bool)], case: usize) -> bool {
 
 // ---------------------------------------------------------------- The sheet
 
+/// By which rules a sheet is read: those of today, or, by the converter, "the former rules". Readings: these "are
+/// those after request 6".
+#[derive(Clone, Copy, PartialEq)]
+enum Kinds {
+    Today,
+    Former,
+}
+
 /// Reads a sheet, "from the top", and gives the network or the refusal of the first line at fault.
 pub fn read(sheet: &[u8]) -> Result<Net, Refusal> {
+    read_by(sheet, Kinds::Today)
+}
+
+/// The same by the former rules.
+pub fn read_formerly(sheet: &[u8]) -> Result<Net, Refusal> {
+    read_by(sheet, Kinds::Former)
+}
+
+fn read_by(sheet: &[u8], kinds: Kinds) -> Result<Net, Refusal> {
     if sheet.len() > SHEET_MOST {
         return Err(Refusal { number: 1, line: 0 });
     }
@@ -165,7 +183,7 @@ pub fn read(sheet: &[u8]) -> Result<Net, Refusal> {
     }
     for _ in 0..lines.section(b"rules", 0, RULES_MOST)? {
         let line = lines.take()?;
-        let rule = rule_line(sheet, line, &net).map_err(|number| lines.refuse(number))?;
+        let rule = rule_line(sheet, line, &net, kinds).map_err(|number| lines.refuse(number))?;
         net.rules.push(rule);
     }
     if !lines.at_end() {
@@ -370,31 +388,30 @@ fn gives_no_signal_yet(net: &Net, event: usize) -> Result<usize, u8> {
     if net.signals.iter().any(|signal| signal.event == event) { Err(7) } else { Ok(event) }
 }
 
-/// `kind,from,to,limit,label`. Refusals 3, 4, 5, 6, 8 and 9.
-fn rule_line(sheet: &[u8], line: Range<usize>, net: &Net) -> Result<Rule, u8> {
+/// `kind,from,to,limit,label`. Refusals 3, 22, 4, 5, 6, 8 and 9: "22, the row is a `fix`, .. tried directly after 3".
+fn rule_line(sheet: &[u8], line: Range<usize>, net: &Net, kinds: Kinds) -> Result<Rule, u8> {
     let fields = fields(&sheet[line]);
     if fields.len() != 5 {
         return Err(3);
     }
-    let kind = kind(fields[0]);
+    let kind = kind(fields[0], kinds)?;
     let from = used_event(sheet, net, fields[1]);
     let to = used_event(sheet, net, fields[2]);
     let limit = number(fields[3], -MINUTES_MOST, MINUTES_MOST);
     let label = label(net, fields[4]);
-    match (kind, from, to, limit, label) {
-        (Ok(kind), Ok(from), Ok(to), Ok(limit), Ok(label)) => Ok(Rule { kind, from, to, limit, label }),
-        (kind, from, to, limit, label) => {
-            Err(lowest(&[kind.err(), from.err(), to.err(), limit.err(), label.err()]).unwrap())
-        }
+    match (from, to, limit, label) {
+        (Ok(from), Ok(to), Ok(limit), Ok(label)) => Ok(Rule { kind, from, to, limit, label }),
+        (from, to, limit, label) => Err(lowest(&[from.err(), to.err(), limit.err(), label.err()]).unwrap()),
     }
 }
 
-/// Refusal 3: "another .. kind".
-fn kind(field: &[u8]) -> Result<Kind, u8> {
+/// Refusal 3: "another .. kind"; refusal 22: "the row is a `fix`".
+fn kind(field: &[u8], kinds: Kinds) -> Result<Kind, u8> {
     match field {
         b"max" => Ok(Kind::Max),
         b"min" => Ok(Kind::Min),
-        b"fix" => Ok(Kind::Fix),
+        b"fix" if kinds == Kinds::Former => Ok(Kind::Fix),
+        b"fix" => Err(22),
         _ => Err(3),
     }
 }
@@ -489,7 +506,8 @@ fn letters(field: &[u8]) -> Option<Vec<(u8, bool)>> {
 
 // ---------------------------------------------------------------- Good tables and the judge
 
-/// Whether minute(to) - minute(from) is as the rule's kind asks.
+/// Whether minute(to) - minute(from) is as the rule's kind asks; a `fix`, by the former rules, asks that "it equals the
+/// limit".
 pub fn holds(rule: &Rule, from: u16, to: u16) -> bool {
     let difference = i64::from(to) - i64::from(from);
     match rule.kind {
@@ -674,7 +692,8 @@ impl<'a> Raising<'a> {
         }
     }
 
-    /// to - from <= limit forces `from` up to to - limit; to - from >= limit forces `to` up to from + limit; `fix` is both.
+    /// to - from <= limit forces `from` up to to - limit; to - from >= limit forces `to` up to from + limit. A `fix` of
+    /// the former rules forces both.
     fn force_by_rule(&mut self, case: usize, rule: &Rule) {
         if rule.kind != Kind::Min {
             self.raise(case, rule.from, self.minute(case, rule.to) - rule.limit);
@@ -835,10 +854,10 @@ fn by_label(net: &Net, before: &[i64], case: usize, event: usize) -> Vec<i64> {
 fn by_rules(net: &Net, before: &[i64], case: usize, event: usize) -> Vec<i64> {
     let mut bounds = vec![];
     for rule in net.rules.iter().filter(|rule| net.covers(rule, case)) {
-        if rule.kind != Kind::Min && rule.from == event {
+        if rule.kind == Kind::Max && rule.from == event {
             bounds.push(before[net.cell(case, rule.to)] - rule.limit);
         }
-        if rule.kind != Kind::Max && rule.to == event {
+        if rule.kind == Kind::Min && rule.to == event {
             bounds.push(before[net.cell(case, rule.from)] + rule.limit);
         }
     }
@@ -1059,13 +1078,11 @@ pub struct Row {
 /// false ones'".
 pub type Key = (usize, usize, u32, u32);
 
-/// Document 02, points 2, 3 and 6: the house form of a sheet, or its own refusal, or 17.
+/// Document 02, points 2, 3 and 6: the house form of a sheet, or its own refusal. Each rule leaves at most one row, "so
+/// the house form never meets 17 again".
 pub fn house(sheet: &[u8]) -> Result<Vec<u8>, Refusal> {
     let net = read(sheet)?;
     let rows = rows_left(&net);
-    if rows.len() as i64 > RULES_MOST {
-        return Err(Refusal { number: 17, line: 0 });
-    }
     let mut form = head(sheet, &net);
     form.extend(format!("rules,{}\n", rows.len()).into_bytes());
     for row in rows.values() {
@@ -1107,15 +1124,13 @@ fn labels_text(sheet: &[u8], net: &Net) -> Vec<u8> {
     text
 }
 
-/// "a `min` swaps its ends and negates its limit, and a `fix` becomes both".
-fn max_rows(rule: &Rule) -> Vec<Row> {
-    let label: BTreeMap<usize, bool> = rule.label.iter().copied().collect();
-    let as_max = Row { from: rule.from, to: rule.to, limit: rule.limit, label: label.clone() };
-    let as_min = Row { from: rule.to, to: rule.from, limit: -rule.limit, label };
+/// "a `min` swaps its ends and negates its limit".
+fn max_row(rule: &Rule) -> Row {
+    let label = rule.label.iter().copied().collect();
     match rule.kind {
-        Kind::Max => vec![as_max],
-        Kind::Min => vec![as_min],
-        Kind::Fix => vec![as_max, as_min],
+        Kind::Max => Row { from: rule.from, to: rule.to, limit: rule.limit, label },
+        Kind::Min => Row { from: rule.to, to: rule.from, limit: -rule.limit, label },
+        Kind::Fix => unreachable!("a sheet with a `fix` has no form"),
     }
 }
 
@@ -1123,7 +1138,7 @@ fn max_rows(rule: &Rule) -> Vec<Row> {
 /// no table can break stays too.
 pub fn rows_left(net: &Net) -> BTreeMap<Key, Row> {
     let mut left: BTreeMap<Key, Row> = BTreeMap::new();
-    for row in net.rules.iter().flat_map(max_rows) {
+    for row in net.rules.iter().map(max_row) {
         let key = (row.from, row.to, weights(&row.label, true), weights(&row.label, false));
         let stays = left.entry(key).or_insert_with(|| row.clone());
         assert_eq!(stays.label, row.label, "two labels with equal sums");
@@ -1153,6 +1168,32 @@ fn label_text(net: &Net, label: &BTreeMap<usize, bool>) -> Vec<u8> {
 fn head(sheet: &[u8], net: &Net) -> Vec<u8> {
     let lines = 1 + (1 + net.events.len()) + (1 + net.signals.len());
     sheet.split_inclusive(|&byte| byte == b'\n').take(lines).flatten().copied().collect()
+}
+
+// ---------------------------------------------------------------- The converter
+
+/// Document 02, point 7: the sheet with "a `max` and a `min` row in the place of each `fix`", in which "every other
+/// byte but the count of rules stays"; or its refusal by the former rules; or "17 if more than 64 rows would result".
+/// Readings: its line is 0.
+pub fn convert(sheet: &[u8]) -> Result<Vec<u8>, Refusal> {
+    let net = read_formerly(sheet)?;
+    let rows = |rule: &Rule| if rule.kind == Kind::Fix { 2 } else { 1 };
+    let count: i64 = net.rules.iter().map(rows).sum();
+    if count > RULES_MOST {
+        return Err(Refusal { number: 17, line: 0 });
+    }
+    let lines: Vec<&[u8]> = sheet.split_inclusive(|&byte| byte == b'\n').collect();
+    let (head, rest) = lines.split_at(1 + (1 + net.events.len()) + (1 + net.signals.len()));
+    let (rules, behind) = rest[1..].split_at(net.rules.len());
+    let mut text = [head.concat(), format!("rules,{count}\n").into_bytes()].concat();
+    for (rule, line) in net.rules.iter().zip(rules) {
+        match (rule.kind, line.strip_prefix(b"fix")) {
+            (Kind::Fix, Some(ends)) => text.extend([b"max", ends, b"min", ends].concat()),
+            _ => text.extend_from_slice(line),
+        }
+    }
+    text.extend(behind.concat());
+    Ok(text)
 }
 
 /// Whether two networks with equal events allow a case the same rows by points 1 and 2; for small networks only.

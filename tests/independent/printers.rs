@@ -1,16 +1,19 @@
-//! Wrong programs that print tables (01, The printed listing) or house forms (02, points 2, 3 and 6), to see that the
-//! comparison notices them.
+//! Wrong programs that print tables (01, The printed listing), house forms (02, points 2, 3 and 6) or sheets without
+//! their `fix` rows (02, point 7), to see that the comparison notices them.
 
-use crate::digits::{self, respelled};
+use crate::converters::{self, convert_with, Slip as Converted};
+use crate::digits::{self, recounted, respelled};
 use crate::leaps::{self, Slip as Solved};
 use crate::model::{self, Kind, Net, Refusal, Rule};
+use crate::retired::is_of;
+use std::collections::BTreeSet;
 
 // ---------------------------------------------------------------- Wrong listings
 
 /// A program that prints something of a sheet, or its refusal.
 pub type Printer = fn(&[u8]) -> Result<Vec<u8>, Refusal>;
 
-pub const TABLE_FAULTS: [(&str, Printer); 43] = [
+pub const TABLE_FAULTS: [(&str, Printer); 47] = [
     ("line-before", |sheet| refused_with(sheet, |refusal| refusal.line = refusal.line.saturating_sub(1))),
     ("line-lost", |sheet| refused_with(sheet, |refusal| refusal.line = 0)),
     ("12-for-13", |sheet| refused_with(sheet, |refusal| if refusal.number == 13 { refusal.number = 12 })),
@@ -57,6 +60,10 @@ pub const TABLE_FAULTS: [(&str, Printer); 43] = [
     ("21-is-20", |sheet| refused_with(sheet, |refusal| if refusal.number == 21 { refusal.number = 20 })),
     ("20-without-line", |sheet| refused_with(sheet, |refusal| if refusal.number == 20 { refusal.line = 0 })),
     ("21-without-line", |sheet| refused_with(sheet, |refusal| if refusal.number == 21 { refusal.line = 0 })),
+    ("22-is-3", |sheet| refused_with(sheet, |refusal| if refusal.number == 22 { refusal.number = 3 })),
+    ("22-without-line", |sheet| refused_with(sheet, |refusal| if refusal.number == 22 { refusal.line = 0 })),
+    ("22-a-line-behind", |sheet| refused_with(sheet, |refusal| if refusal.number == 22 { refusal.line += 1 })),
+    ("fix-is-read", |sheet| model::table(&model::convert(sheet).unwrap_or(sheet.to_vec()))),
     ("digits-place-skipped", |sheet| model::table(sheet).map(|text| respelled(&text, digits::Slip::PlaceSkipped))),
     ("digits-leading-zero", |sheet| model::table(sheet).map(|text| respelled(&text, digits::Slip::LeadingZero))),
     ("digits-ten-ones", |sheet| model::table(sheet).map(|text| respelled(&text, digits::Slip::TenOnes))),
@@ -192,7 +199,7 @@ fn two_digits_at_least(rows: &mut Rows) {
 
 // ---------------------------------------------------------------- Wrong house forms
 
-pub const HOUSE_FAULTS: [(&str, Printer); 71] = [
+pub const HOUSE_FAULTS: [(&str, Printer); 70] = [
     ("greatest-limit-kept", |sheet| house_with(sheet, Slip::GreatestLimit)),
     ("first-limit-kept", |sheet| house_with(sheet, Slip::FirstLimit)),
     ("last-limit-kept", |sheet| house_with(sheet, Slip::LastLimit)),
@@ -206,7 +213,8 @@ pub const HOUSE_FAULTS: [(&str, Printer); 71] = [
     ("min-not-swapped", |sheet| house_with(sheet, Slip::NotSwapped)),
     ("min-not-negated", |sheet| house_with(sheet, Slip::NotNegated)),
     ("min-negated-to-10079", |sheet| house_with(sheet, Slip::EndLost)),
-    ("fix-is-max", |sheet| house_with(sheet, Slip::FixIsMax)),
+    ("fix-is-read", |sheet| model::house(&model::convert(sheet).unwrap_or(sheet.to_vec()))),
+    ("22-is-17", |sheet| model::house(sheet).map_err(seventeen_for_22)),
     ("to-before-from", |sheet| house_with(sheet, Slip::ToFirst)),
     ("label-before-ends", |sheet| house_with(sheet, Slip::LabelFirst)),
     ("false-before-true", |sheet| house_with(sheet, Slip::FalseFirst)),
@@ -215,11 +223,9 @@ pub const HOUSE_FAULTS: [(&str, Printer); 71] = [
     ("order-as-typed", |sheet| house_with(sheet, Slip::OrderAsTyped)),
     ("minus-0", |sheet| house_with(sheet, Slip::MinusZero)),
     ("count-as-typed", |sheet| house_with(sheet, Slip::CountAsTyped)),
-    ("65th-row-dropped", |sheet| house_with(sheet, Slip::RowDropped)),
+    ("64th-row-dropped", |sheet| house_with(sheet, Slip::RowDropped)),
     ("64-rows-refused", |sheet| house_with(sheet, Slip::Refused64)),
-    ("17-before-merging", |sheet| house_with(sheet, Slip::RefusedUnmerged)),
-    ("17-with-a-line", |sheet| house_with(sheet, Slip::RefusedWithLine)),
-    ("17-before-10", |sheet| if seventeen_but_for_its_end(sheet) { Err(Refusal { number: 17, line: 0 }) } else { model::house(sheet) }),
+    ("64-rules-refused", |sheet| house_with(sheet, Slip::RefusedUnmerged)),
     ("own-line-lost", |sheet| model::house(sheet).map_err(|refusal| Refusal { line: 0, ..refusal })),
     ("self-rows-dropped", |sheet| house_with(sheet, Slip::SelfDropped)),
     ("idle-self-rows-dropped", |sheet| house_with(sheet, Slip::IdleSelfDropped)),
@@ -287,7 +293,6 @@ enum Slip {
     NotSwapped,
     NotNegated,
     EndLost,
-    FixIsMax,
     ToFirst,
     LabelFirst,
     FalseFirst,
@@ -299,7 +304,6 @@ enum Slip {
     RowDropped,
     Refused64,
     RefusedUnmerged,
-    RefusedWithLine,
     SelfDropped,
     IdleSelfDropped,
     BeyondHorizonDropped,
@@ -350,18 +354,17 @@ struct Typed {
 /// A house form made another way than the model's, by sorting, with one slip or none.
 fn house_with(sheet: &[u8], slip: Slip) -> Result<Vec<u8>, Refusal> {
     let net = model::read(sheet)?;
-    let refused = |line: usize| Err(Refusal { number: 17, line });
+    let refused = Err(Refusal { number: 17, line: 0 });
     let mut rows = typed_rows(&net, slip);
-    if slip == Slip::RefusedUnmerged && rows.len() > 64 {
-        return refused(0);
+    if slip == Slip::RefusedUnmerged && rows.len() == 64 {
+        return refused;
     }
     rows.sort_by_key(|row| (row_key(sheet, &net, row, slip), kept_first(row, slip)));
     rows.dedup_by_key(|row| row_key(sheet, &net, row, slip));
     drop_rows(&net, &mut rows, slip);
-    match rows.len() {
-        64 if slip == Slip::Refused64 => return refused(0),
-        65 if slip == Slip::RowDropped => drop(rows.pop()),
-        65.. => return refused(if slip == Slip::RefusedWithLine { sheet.iter().filter(|&&byte| byte == b'\n').count() } else { 0 }),
+    match (rows.len(), slip) {
+        (64, Slip::Refused64) => return refused,
+        (64, Slip::RowDropped) => drop(rows.pop()),
         _ => {}
     }
     if slip == Slip::OrderAsTyped {
@@ -476,11 +479,9 @@ fn label_letters(net: &Net, event: usize, slip: Slip) -> String {
     if label.is_empty() { "-".to_string() } else { label.iter().map(one).collect() }
 }
 
-/// A sheet refused with 10 that would be refused with 17 without the bytes behind its reactions.
-fn seventeen_but_for_its_end(sheet: &[u8]) -> bool {
-    let Err(Refusal { number: 10, line }) = model::read(sheet) else { return false };
-    let lines: Vec<&[u8]> = sheet.split_inclusive(|&byte| byte == b'\n').take(line - 1).collect();
-    model::house(&lines.concat()).is_err()
+/// A `fix` refused as if its rows were too many.
+fn seventeen_for_22(refusal: Refusal) -> Refusal {
+    if refusal.number == 22 { Refusal { number: 17, line: 0 } } else { refusal }
 }
 
 fn typed_rows(net: &Net, slip: Slip) -> Vec<Typed> {
@@ -494,20 +495,19 @@ fn typed_rows(net: &Net, slip: Slip) -> Vec<Typed> {
             whole
         };
         let label = if slip == Slip::LabelsJoinedToRules { &joined() } else { label };
-        let max = Typed { from, to, limit, label: label.clone(), place: rows.len(), negated: false };
-        let mut min = Typed { from: to, to: from, limit: -limit, label: label.clone(), place: rows.len() + 1, negated: true };
+        let (label, place) = (label.clone(), rows.len());
+        if kind == Kind::Max {
+            rows.push(Typed { from, to, limit, label, place, negated: false });
+            continue;
+        }
+        let mut min = Typed { from: to, to: from, limit: -limit, label, place, negated: true };
         match slip {
             Slip::NotSwapped => (min.from, min.to) = (from, to),
             Slip::NotNegated => min.limit = limit,
             Slip::EndLost => min.limit = min.limit.max(-10_079),
             _ => {}
         }
-        match kind {
-            Kind::Max => rows.push(max),
-            Kind::Fix if slip == Slip::FixIsMax => rows.push(max),
-            Kind::Min => rows.push(min),
-            Kind::Fix => rows.extend([max, min]),
-        }
+        rows.push(min);
     }
     rows
 }
@@ -573,4 +573,94 @@ fn letters(net: &Net, row: &Typed, slip: Slip) -> String {
     }
     let one = |letter: &(usize, bool)| [if letter.1 { "" } else { "!" }, &char::from(net.signals[letter.0].letter).to_string()].concat();
     if label.is_empty() { "-".to_string() } else { label.iter().map(one).collect() }
+}
+
+// ---------------------------------------------------------------- Wrong converted sheets
+
+pub const CONVERT_FAULTS: [(&str, Printer); 68] = [
+    ("min-left-out", |sheet| convert_with(sheet, Converted::MinLeftOut)),
+    ("max-left-out", |sheet| convert_with(sheet, Converted::MaxLeftOut)),
+    ("both-max", |sheet| convert_with(sheet, Converted::BothMax)),
+    ("both-min", |sheet| convert_with(sheet, Converted::BothMin)),
+    ("min-first", |sheet| convert_with(sheet, Converted::MinFirst)),
+    ("min-negated", |sheet| convert_with(sheet, Converted::MinNegated)),
+    ("both-negated", |sheet| convert_with(sheet, Converted::BothNegated)),
+    ("two-max-rows", |sheet| convert_with(sheet, Converted::AsMaxRows)),
+    ("min-with-ends-swapped", |sheet| convert_with(sheet, Converted::EndsSwapped)),
+    ("label-in-signal-order", |sheet| convert_with(sheet, Converted::LabelOrdered)),
+    ("label-lost", |sheet| convert_with(sheet, Converted::LabelLost)),
+    ("limit-0-once", |sheet| convert_with(sheet, Converted::ZeroOnce)),
+    ("self-row-once", |sheet| convert_with(sheet, Converted::SelfOnce)),
+    ("doubles-dropped", |sheet| convert_with(sheet, Converted::DoublesDropped)),
+    ("min-rows-at-the-end", |sheet| convert_with(sheet, Converted::MinAtTheEnd)),
+    ("both-rows-at-the-end", |sheet| convert_with(sheet, Converted::BothAtTheEnd)),
+    ("each-fix-of-a-row-replaced", |sheet| convert_with(sheet, Converted::EachFixReplaced)),
+    ("nothing-done", |sheet| convert_with(sheet, Converted::NothingDone)),
+    ("only-the-first-converted", |sheet| convert_with(sheet, Converted::OnlyFirst)),
+    ("only-the-last-converted", |sheet| convert_with(sheet, Converted::OnlyLast)),
+    ("first-missed", |sheet| convert_with(sheet, Converted::FirstMissed)),
+    ("last-missed", |sheet| convert_with(sheet, Converted::LastMissed)),
+    ("second-of-two-missed", |sheet| convert_with(sheet, Converted::SecondOfTwoMissed)),
+    ("count-kept", |sheet| convert_with(sheet, Converted::CountKept)),
+    ("count-one-more", |sheet| convert_with(sheet, Converted::CountOneMore)),
+    ("count-doubled", |sheet| convert_with(sheet, Converted::CountDoubled)),
+    ("count-of-fix-rows", |sheet| convert_with(sheet, Converted::CountOfFixes)),
+    ("count-of-one-digit", |sheet| convert_with(sheet, Converted::CountOfOneDigit)),
+    ("count-of-two-digits", |sheet| convert_with(sheet, Converted::CountOfTwoDigits)),
+    ("count-ten-ones", |sheet| counted(sheet, digits::Slip::TenOnes)),
+    ("count-leading-zero", |sheet| counted(sheet, digits::Slip::LeadingZero)),
+    ("count-nothing-for-0", |sheet| counted(sheet, digits::Slip::NothingForZero)),
+    ("cases-converted", |sheet| convert_with(sheet, Converted::CasesConverted)),
+    ("names-converted", |sheet| convert_with(sheet, Converted::NamesConverted)),
+    ("other-rows-turned", |sheet| convert_with(sheet, Converted::OthersTurned)),
+    ("other-labels-in-signal-order", |sheet| convert_with(sheet, Converted::OthersOrdered)),
+    ("reactions-dropped", |sheet| convert_with(sheet, Converted::ReactionsDropped)),
+    ("reactions-of-1-dropped", |sheet| convert_with(sheet, Converted::ReactionsOf1Dropped)),
+    ("cases-dropped", |sheet| convert_with(sheet, Converted::CasesDropped)),
+    ("cases-with-dashes-dropped", |sheet| convert_with(sheet, Converted::DashesDropped)),
+    ("64-rows-refused", |sheet| convert_with(sheet, Converted::Refused64)),
+    ("65-rows-accepted", |sheet| convert_with(sheet, Converted::Passed65)),
+    ("17-missed", |sheet| convert_with(sheet, Converted::NeverRefused)),
+    ("64-rules-refused", |sheet| convert_with(sheet, Converted::Refused64Rules)),
+    ("17-of-fix-rows-only", |sheet| convert_with(sheet, Converted::FixesOnly)),
+    ("17-with-a-line", |sheet| convert_with(sheet, Converted::SeventeenWithLine)),
+    ("17-at-the-heading", |sheet| convert_with(sheet, Converted::SeventeenAtTheHeading)),
+    ("17-is-5", |sheet| convert_with(sheet, Converted::SeventeenIs5)),
+    ("17-is-12", |sheet| convert_with(sheet, Converted::SeventeenIs12)),
+    ("17-before-the-sheet", |sheet| convert_with(sheet, Converted::SeventeenFirst)),
+    ("17-of-different-rows", seventeen_of_different_rows),
+    ("22", |sheet| convert_with(sheet, Converted::TwentyTwo)),
+    ("22-on-a-row-at-fault", |sheet| convert_with(sheet, Converted::TwentyTwoOnTheRow)),
+    ("22-before-a-fault", |sheet| convert_with(sheet, Converted::TwentyTwoBefore)),
+    ("fix-is-3", |sheet| convert_with(sheet, Converted::FixIsThree)),
+    ("line-lost", |sheet| convert_with(sheet, Converted::LineLost)),
+    ("line-before", |sheet| convert_with(sheet, Converted::LineBefore)),
+    ("line-behind", |sheet| convert_with(sheet, Converted::LineBehind)),
+    ("line-as-converted", |sheet| convert_with(sheet, Converted::LineAsConverted)),
+    ("refused-sheets-as-they-are", |sheet| convert_with(sheet, Converted::RefusedAsItIs)),
+    ("house-form", |sheet| model::house(&model::convert(sheet)?)),
+    ("without-fix-silent", |sheet| if model::read(sheet).is_ok() { Ok(vec![]) } else { model::convert(sheet) }),
+    ("as-long-as-the-sheet", |sheet| model::convert(sheet).map(|text| text[..sheet.len()].to_vec())),
+    ("2048-bytes-at-most", |sheet| model::convert(sheet).map(|text| text[..text.len().min(2048)].to_vec())),
+    ("last-feed-lost", |sheet| model::convert(sheet).map(|text| text[..text.len() - 1].to_vec())),
+    ("feed-behind", |sheet| model::convert(sheet).map(|text| [text, b"\n".to_vec()].concat())),
+    ("refusal-without-feed", |sheet| model::convert(sheet).or_else(|refusal| Ok(without_feed(refusal)))),
+    ("4096-bytes-read", |sheet| model::convert(&sheet[..sheet.len().min(4096)])),
+];
+
+/// The same without a slip, so that it is the slip that is noticed.
+pub fn convert_by_rows(sheet: &[u8]) -> Result<Vec<u8>, Refusal> {
+    counted(sheet, digits::Slip::None)
+}
+
+/// A converted sheet with the count of its rules spelt by counting off.
+fn counted(sheet: &[u8], slip: digits::Slip) -> Result<Vec<u8>, Refusal> {
+    converters::convert_again(sheet).map(|text| recounted(&text, slip))
+}
+
+/// 17 only where more than 64 of the rows that would result are different ones.
+fn seventeen_of_different_rows(sheet: &[u8]) -> Result<Vec<u8>, Refusal> {
+    let all = convert_with(sheet, Converted::NeverRefused)?;
+    let rows = all.split(|&byte| byte == b'\n').filter(|line| is_of(line, b"max", 5) || is_of(line, b"min", 5));
+    if rows.collect::<BTreeSet<&[u8]>>().len() <= 64 { Ok(all) } else { model::convert(sheet) }
 }

@@ -60,7 +60,7 @@ impl Rounds {
     fn new(net: &Net) -> Self {
         let mut limits = [0; MOST];
         limits[1..net.events.len()].fill(net.horizon as i16);
-        let of_rules = |case: usize| net.rules.iter().filter(move |rule| net.covers(rule, case)).flat_map(bounds);
+        let of_rules = |case: usize| net.rules.iter().filter(move |rule| net.covers(rule, case)).map(bound);
         let of_case = |case: usize| of_rules(case).chain(waits(net, case)).collect();
         let happens = |case: usize| {
             let mut masks = [0; MOST];
@@ -130,14 +130,13 @@ fn waits(net: &Net, case: usize) -> Vec<(usize, usize, i16)> {
     waits
 }
 
-/// `min` bounds `to` by `from` and `max` bounds `from` by `to`; `fix` is both.
-fn bounds(rule: &Rule) -> Vec<(usize, usize, i16)> {
+/// `min` bounds `to` by `from` and `max` bounds `from` by `to`.
+fn bound(rule: &Rule) -> (usize, usize, i16) {
     let limit = rule.limit as i16;
-    let (as_min, as_max) = ((rule.from, rule.to, limit), (rule.to, rule.from, -limit));
     match rule.kind {
-        Kind::Min => vec![as_min],
-        Kind::Max => vec![as_max],
-        Kind::Fix => vec![as_min, as_max],
+        Kind::Min => (rule.from, rule.to, limit),
+        Kind::Max => (rule.to, rule.from, -limit),
+        Kind::Fix => unreachable!("a sheet with a `fix` is not solved"),
     }
 }
 

@@ -6,12 +6,14 @@
 //! With FAULT=name in the environment it is one of the wrong programs of `faults.rs` or of `leaps.rs` instead.
 #![allow(dead_code)]
 
+mod converters;
 mod faults;
 mod labels;
 mod leaps;
 mod library;
 mod model;
 mod readers;
+mod retired;
 mod rounds;
 mod sections;
 
@@ -81,6 +83,13 @@ pub unsafe extern "C" fn opening_read_listing(
 ) -> u64 {
     let (sheet, listing) = (from_raw_parts(sheet, sheet_len), from_raw_parts(listing, listing_len));
     (chosen().read_listing)(sheet, listing, from_raw_parts_mut(table, table_len))
+}
+
+/// # Safety
+/// The slices are valid, and the last does not overlap the first.
+#[no_mangle]
+pub unsafe extern "C" fn opening_convert(sheet: *const u8, sheet_len: usize, out: *mut u8, out_len: usize) -> u64 {
+    (chosen().convert)(from_raw_parts(sheet, sheet_len), from_raw_parts_mut(out, out_len))
 }
 
 /// # Safety

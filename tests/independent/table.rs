@@ -8,10 +8,10 @@ use crate::{count, Counts};
 
 /// Sheets refused for each reason, sheets without a table, and sheets with one; of these two also some with reactions
 /// other than 1, and some with labelled events.
-const KINDS: [&str; 18] = [
+const KINDS: [&str; 19] = [
     "refused 1", "refused 2", "refused 3", "refused 4", "refused 5", "refused 6", "refused 7", "refused 8", "refused 9",
-    "refused 10", "refused 20", "refused 21", "refused 13", "slow and refused 13", "labelled and refused 13", "listed",
-    "slow and listed", "labelled and listed",
+    "refused 10", "refused 20", "refused 21", "refused 22", "refused 13", "slow and refused 13",
+    "labelled and refused 13", "listed", "slow and listed", "labelled and listed",
 ];
 
 pub const TABLE: Mode = Mode { word: "table", given: "sheets", compare_one, kinds: &KINDS, tally };

@@ -8,7 +8,7 @@ use crate::readers::{self, Slip};
 /// What a program prints for its two files.
 pub type Judging = fn(&Files) -> String;
 
-pub const JUDGE_FAULTS: [(&str, Judging); 142] = [
+pub const JUDGE_FAULTS: [(&str, Judging); 143] = [
     ("18-and-19-exchanged", |files| read_by(files, Slip::NumbersExchanged)),
     ("lines-in-turn", |files| read_by(files, Slip::LinesInTurn)),
     ("19-before-18-on-a-line", |files| read_by(files, Slip::NineteenOnTheLine)),
@@ -150,6 +150,7 @@ pub const JUDGE_FAULTS: [(&str, Judging); 142] = [
     ("listing-before-sheet", listing_before_sheet),
     ("long-sheet-cut", |files| with_sheet(files, |sheet| sheet.truncate(4096))),
     ("sheet-length-of-16-bits", |files| with_sheet(files, |sheet| sheet.truncate(sheet.len() % 65_536))),
+    ("fix-is-read", |files| with_sheet(files, |sheet| *sheet = model::convert(sheet).unwrap_or(sheet.clone()))),
     ("files-exchanged", |files| right(&Files { sheet: files.listing.clone(), listing: files.sheet.clone() })),
 ];
 

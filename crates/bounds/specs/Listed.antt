@@ -4,12 +4,15 @@ use Rattle.std.proofs.Common.{lit≤}
 use Rattle.network.specs.Limits as L
 use Rattle.network.specs.Scenario.{satisfies}
 use Rattle.network.specs.WellFormed.{InLimits, FewLetters}
+use Rattle.network.specs.declared.Kind.{Kind}
+use Rattle.network.specs.declared.Kind.TheVariants.{Max, Min}
 use Rattle.network.specs.declared.Constraint.{Constraint}
 use Rattle.network.specs.declared.Label.{Label}
 use Rattle.bounds.specs.declared.bound.Bound.{Bound}
 use Rattle.bounds.specs.declared.list.BoundList.{BoundList}
+use Rattle.bounds.specs.Weight.{weight_of, lower_weight}
 
--- a constraint whose halves are bounds, under its own label
+-- a constraint that can be listed as a bound, under its own label
 pub record Listable (c : Constraint) : Type 0 where
   pub from : c.from < L.events
   pub to : c.to < L.events
@@ -21,6 +24,12 @@ pub record Is (b : Bound) (target source weight : ℕ) : Type 0 where
   pub target_is : b.target ≡ target
   pub source_is : b.source ≡ source
   pub weight_is : b.weight ≡ weight
+
+-- the bound is the constraint's, by its kind: a `max` asks that `from` comes late enough for `to`, and a `min` that
+-- `to` does for `from`
+abbrev pub ByKind : Kind → Constraint → Bound → Type 0
+ByKind Max c b = Is b c.from c.to (weight_of c.bound)
+ByKind Min c b = Is b c.to c.from (lower_weight c.bound)
 
 -- what a bound asks of event u at the times of row, and 10,080
 abbrev pub asking : Bound → List ℕ → ℕ → ℕ

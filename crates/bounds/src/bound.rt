@@ -3,7 +3,7 @@ ghost use Rattle.std.specs.Prelude.{◌≤◌, ◌<◌};
 ghost use Rattle.network.specs.Limits as L;
 ghost use Rattle.bounds.specs.Weight.{heaviest};
 
-use network::{Constraint, Network};
+use network::{Constraint, Kind, Network};
 
 // It asks that the time of its target is at least the time of its source and its weight, less 10,080: so no number is
 // signed.
@@ -19,8 +19,8 @@ pub struct Bound {
 
 impl Bound {
     ghost use Rattle.network.specs.WellFormed.{InLimits};
-    ghost use Rattle.bounds.specs.Weight.{weight_of, lower_weight};
-    ghost use Rattle.bounds.specs.Listed.{Listable, Is};
+    ghost use Rattle.bounds.specs.Weight.{weight_of};
+    ghost use Rattle.bounds.specs.Listed.{Listable, Is, ByKind};
 
     // That the source comes at most the limit after the target. The weight is 10,080 less the limit, which never is
     // negative. The casts lose nothing, since an event's number is below 16 and a weight at most 20,160.
@@ -35,20 +35,16 @@ impl Bound {
         }
     }
 
-    // The upper half of a constraint: `to` comes at most the limit after `from`. (That it can be listed is asked: a
-    // type for it would be made anew of each constraint and each wait.)
-    pub fn upper(c: &Constraint) -> Self
+    // The bound of a constraint: of a `max`, that `to` comes at most the limit after `from`; of a `min`, at least, that
+    // is, that `from` comes at most the limit negated after `to`. (That it can be listed is asked: a type for it would
+    // be made anew of each constraint and each wait.)
+    pub fn by_kind(c: &Constraint) -> Self
         requires { Listable c.now }
-        ensures { Is result c.now.from c.now.to (weight_of c.now.bound) }
+        ensures { ByKind c.now.kind c.now result }
     {
-        Self::of(c.from, c.to, c.bound)
-    }
-
-    // Its lower half: `to` comes at least the limit after `from`, that is, `from` at most the limit negated after `to`.
-    pub fn lower(c: &Constraint) -> Self
-        requires { Listable c.now }
-        ensures { Is result c.now.to c.now.from (lower_weight c.now.bound) }
-    {
-        Self::of(c.to, c.from, -c.bound)
+        match c.kind {
+            Kind::Max => Self::of(c.from, c.to, c.bound),
+            Kind::Min => Self::of(c.to, c.from, -c.bound),
+        }
     }
 }

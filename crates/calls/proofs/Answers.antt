@@ -23,7 +23,7 @@ use Rattle.calls.proofs.Settled.{settled_empty, settled_exactly}
 of_sheet : (n : ℕ) → 2 ≤ n → OfSheet n → names_line n ≡ true
 of_sheet n l (inl h) = rw (le-leb 2 n l, le-leb n 10 h)
 of_sheet n l (inr h) =
-    rw (le-leb 2 n l, lt-leb n 10 (omega (arith, h.0)), le-leb 18 n (omega (arith, h.0)), le-leb n 21 h.1)
+    rw (le-leb 2 n l, lt-leb n 10 (omega (arith, h.0)), le-leb 18 n (omega (arith, h.0)), le-leb n 22 h.1)
 
 module _ {A : Type 0} (nothing : A) (sheet : List ℕ) (own : List Own) (v : Values A) (above : are_own own ≡ true)
     (refused : (r : Refusal) → read sheet ≡ Err r → v ≡ turned_away nothing r)

@@ -28,6 +28,7 @@ use Rattle.calls.proofs.Writing.{listing-wrote}
 use Rattle.calls.proofs.Alike.{playing-alike}
 use Rattle.calls.proofs.Play.{lettered}
 use Rattle.calls.proofs.Header.{header-judge, header-solver, header-lister, header-house, header-player}
+use Rattle.calls.proofs.Header.{header-converter}
 use Rattle.calls.proofs.Header.{header-recoverer}
 
 module _ (sheet : List ℕ) (a : Accepts sheet) (b : List ℕ) where
@@ -75,5 +76,6 @@ benched = record {
   lister_holds = header-lister;
   recoverer_holds = header-recoverer;
   house_holds = header-house;
+  converter_holds = header-converter;
   player_holds = header-player;
 }

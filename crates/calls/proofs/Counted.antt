@@ -9,11 +9,13 @@ use Rattle.sheet.specs.Reading.{network_of}
 use Rattle.solver.specs.Solve.{found}
 use Rattle.listing.specs.Listing.{listing}
 use Rattle.canonical.specs.House.{house_text}
+use Rattle.conversion.specs.FormerRules.{read_as_max_lem}
+use Rattle.conversion.specs.Converted.{converted}
 use Rattle.calls.specs.Values.{OrRefusal, number_values}
 use Rattle.calls.specs.Call.{Tests, call, Left, Leaves}
 use Rattle.calls.specs.Lent.{as_minutes, in_place_lem}
 use Rattle.calls.specs.Calls.{writing, refusing, solving_tests, solving, listing_tests, listed}
-use Rattle.calls.specs.Calls.{house_tests, housed}
+use Rattle.calls.specs.Calls.{house_tests, housed, convert_tests, converting}
 use Rattle.calls.specs.Recover.{recovered_in, recovering_tests, recovering}
 use Rattle.calls.proofs.Call.{Ends, faulty, failed, worked, ends}
 
@@ -46,6 +48,9 @@ module _ {w : OrRefusal ℕ} {m' : List ℕ} (sheet m : List ℕ) where
 
   pub housed-counted : Leaves (housed sheet m) w m' → Within m' w
   housed-counted = counted sheet m (house_tests sheet (in_place_lem m)) (house_text sheet)
+
+  pub converting-counted : Leaves (converting sheet m) w m' → Within m' w
+  converting-counted = counted (read_as_max_lem sheet) m (convert_tests sheet (in_place_lem m)) (converted sheet)
 
   pub recovering-counted : (bytes : List ℕ) → Leaves (recovering sheet bytes m) w m' → Within m' w
   recovering-counted bytes = counted sheet m (recovering_tests sheet bytes (in_place_lem m)) (recovered_in sheet bytes)

@@ -9,6 +9,7 @@ use Rattle.checker.proofs.First.{breach_iff}
 use Rattle.solver.specs.Solve.{found}
 use Rattle.rounds.proofs.Hyperarcs.{hyperarcs_agree}
 use Rattle.solver.proofs.Least.{solve-least, solve-none}
+use Rattle.conversion.proofs.Retired.{retired_iff}
 use Rattle.calls.specs.Demands.{Demands}
 use Rattle.calls.specs.Lent.{as_minutes, in_place_lem}
 use Rattle.calls.specs.Numbers.{minutes}
@@ -31,6 +32,7 @@ demands = record {
   start_labelled = λ Γ _. start_fails Γ;
   incomplete = complete_fails;
   labelled = λ sheet Γ r. (reads_well_formed r).labels;
+  retired = retired_iff;
   lowest = fault-lowest;
   judged = λ sheet σ Γ r l. judged Γ σ l;
   breach_first = λ sheet σ Γ b r. breach_iff Γ σ b;

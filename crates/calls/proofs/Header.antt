@@ -15,18 +15,20 @@ use Rattle.sheet.proofs.WellFormed.{accepted_well_formed}
 use Rattle.checker.specs.declared.Verdict.{Verdict}
 use Rattle.checker.specs.Verdict.{verdict}
 use Rattle.dispatch.specs.HeardText.{heard_in, due_text}
+use Rattle.conversion.specs.FormerRules.{read_as_max_lem}
 use Rattle.calls.specs.Values.{OrRefusal, Values, number_values}
 use Rattle.calls.specs.Lent.{as_bytes, in_pairs}
-use Rattle.calls.specs.Calls.{judging_tests, housed}
+use Rattle.calls.specs.Calls.{judging_tests, housed, converting}
 use Rattle.calls.specs.Bench.{bench_judgement, bench_solving, bench_listed, bench_due, bench_recovering}
 use Rattle.calls.specs.Bench.{Finding, no_finding}
 use Rattle.calls.specs.Bench.{judgement_values, refused, packed, Small, packed_count_lem}
 use Rattle.calls.specs.Answers.{OfSheet, Own, OneOf, Answers}
-use Rattle.calls.specs.Numbers.{bytes, judges, solves, lists, houses, recovers, plays, misnamed_in, unheard_by}
+use Rattle.calls.specs.Numbers.{bytes, judges, solves, lists, houses, converts, recovers, plays}
+use Rattle.calls.specs.Numbers.{misnamed_in, unheard_by}
 use Rattle.calls.specs.Header.{JudgeHolds, CountHolds}
 use Rattle.calls.proofs.Call.{Ends, faulty, failed, worked, ends}
 use Rattle.calls.proofs.Small.{verdict_small, solving_small, listing_small, house_small, playing_small}
-use Rattle.calls.proofs.Small.{recovering_small, text_small}
+use Rattle.calls.proofs.Small.{recovering_small, converting_small, text_small}
 use Rattle.calls.proofs.Numbers.{numbers}
 
 -- the numbers of a call's own refusals fit a byte
@@ -135,3 +137,9 @@ pub header-house : (sheet m : List ℕ)
 header-house sheet m =
     count-holds sheet (houses sheet m) (number_values (housed sheet m).answer) refl
     (numbers.house_writer sheet m).answers (house_small sheet m)
+
+pub header-converter : (sheet m : List ℕ)
+    → let v = number_values (converting sheet m).answer in CountHolds (packed_count_lem v) v
+header-converter sheet m =
+    count-holds (read_as_max_lem sheet) (converts sheet m) (number_values (converting sheet m).answer) refl
+    (numbers.converter sheet m).answers (converting_small sheet m)

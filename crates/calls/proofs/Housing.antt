@@ -4,17 +4,16 @@ use mathlib.Core.Logic.{◌↔◌}
 use mathlib.Core.List.{List}
 use Prim.Native.Nat.{ℕ, ◌≤◌}
 use lib.ListN.{length}
-use Rattle.network.specs.Limits as L
 use Rattle.network.specs.declared.Network.{Network}
 use Rattle.network.proofs.Least.{same-least, same_inconsistent}
 use Rattle.sheet.specs.Reading.{network_of, Accepts}
-use Rattle.tighten.specs.Tightest.{remaining_of}
 use Rattle.tighten.proofs.Agree.{same-events}
+use Rattle.tighten.proofs.Few.{remaining_of-few}
 use Rattle.tighten.proofs.Regular.{uppers_regular}
 use Rattle.tighten.proofs.Remains.{remaining-is, remaining_unique}
 use Rattle.canonical.specs.House.{house_text}
 use Rattle.canonical.specs.Same.{Same}
-use Rattle.canonical.proofs.Again.{form-accepted, form_agrees, form-again, form-few, form-tables}
+use Rattle.canonical.proofs.Again.{form-accepted, form_agrees, form-again, form-tables}
 use Rattle.canonical.proofs.Forms.{forms-equal}
 use Rattle.calls.specs.Calls.{housed}
 use Rattle.calls.specs.Answers.{Reads, WroteText}
@@ -24,12 +23,12 @@ use Rattle.calls.proofs.Writing.{house-wrote}
 
 -- a form by its sheet alone: the network and the bytes are told by it
 by-sheet {ℓ} : (P : List ℕ → Network → List ℕ → Type ℓ)
-    → ((sheet : List ℕ) → Accepts sheet → length (remaining_of (network_of sheet)) ≤ L.rules
+    → ((sheet : List ℕ) → Accepts sheet
     → P sheet (network_of sheet) (house_text sheet (network_of sheet)))
     → (sheet f : List ℕ) (Γ : Network) → Form sheet Γ f → P sheet Γ f
 by-sheet P h sheet f Γ form =
     let n = form.reads.network in
-    rw (form.form, ← n) (h sheet form.reads.accepted (rw (← n) at form.few))
+    rw (form.form, ← n) (h sheet form.reads.accepted)
 
 all-written : (sheet m f : List ℕ) (Γ : Network) → Form sheet Γ f → length f ≤ length m → WroteText f m (housed sheet m)
 all-written sheet m f Γ form =
@@ -39,12 +38,11 @@ all-written sheet m f Γ form =
 again : (sheet f : List ℕ) (Γ : Network) → Form sheet Γ f → (Δ : Network) × Form f Δ f
 again =
     by-sheet (λ sheet Γ f. (Δ : Network) × Form f Δ f)
-    (λ sheet a few. (
+    (λ sheet a. (
       _,
       record {
-        reads = record { accepted = form-accepted sheet a few; network = refl };
-        few = form-few sheet a few;
-        form = sym (form-again sheet a few);
+        reads = record { accepted = form-accepted sheet a; network = refl };
+        form = sym (form-again sheet a);
       },
     ))
 
@@ -55,22 +53,23 @@ second_pass sheet f m Γ form l = let own = again sheet f Γ form in all-written
 tables : (sheet f : List ℕ) (Γ Δ : Network) → Form sheet Γ f → Reads f Δ → SameTables Γ Δ
 tables sheet f Γ Δ form reads =
     by-sheet (λ sheet Γ f. (Δ : Network) → network_of f ≡ Δ → SameTables Γ Δ)
-    (λ sheet a few Δ n. rw (← n)
-    (let good = form-tables sheet a few in
-    let events = same-events (form_agrees sheet a few) in
+    (λ sheet a Δ n. rw (← n)
+    (let good = form-tables sheet a in
+    let events = same-events (form_agrees sheet a) in
     record { good = good; least = same-least events good; none = same_inconsistent events good }))
     sheet f Γ form Δ reads.network
 
 equal : (sheet other f g : List ℕ) (Γ Δ : Network) → Form sheet Γ f → Form other Δ g → (f ≡ g) ↔ Same sheet Γ other Δ
 equal sheet other f g Γ Δ form form' =
     by-sheet (λ sheet Γ f. (f ≡ g) ↔ Same sheet Γ other Δ)
-    (λ sheet a few.
+    (λ sheet a.
     by-sheet (λ other Δ g. (house_text sheet (network_of sheet) ≡ g) ↔ Same sheet (network_of sheet) other Δ)
-    (λ other b few'. forms-equal sheet a few other b few') other g Δ form')
+    (λ other b. forms-equal sheet a other b) other g Δ form')
     sheet f Γ form
 
 pub housing : Housing
 housing = record {
+  few = λ sheet Γ reads. remaining_of-few Γ (reads_well_formed reads);
   written = all-written;
   rows = λ sheet Γ reads. remaining-is (uppers_regular Γ (reads_well_formed reads));
   rows_alone = λ sheet Γ rs reads is. remaining_unique (uppers_regular Γ (reads_well_formed reads)) is;

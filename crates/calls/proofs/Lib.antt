@@ -24,6 +24,7 @@ pub mod Counted
 pub mod Header
 pub mod Playing
 pub mod Housing
+pub mod Converting
 pub mod Likewise
 pub mod LikeVerdicts
 pub mod LikePlays

@@ -22,7 +22,7 @@ use Rattle.calls.proofs.Matched.{answers-call}
 use Rattle.calls.proofs.Handed.{minutes_rightly, bytes_rightly}
 use Rattle.calls.proofs.Judging.{judge-answers}
 use Rattle.calls.proofs.Solving.{solver_writes}
-use Rattle.calls.proofs.Writing.{lister_writes, house_writes}
+use Rattle.calls.proofs.Writing.{lister_writes, house_writes, converter_writes}
 use Rattle.calls.proofs.Recovering.{recoverer-writes}
 use Rattle.calls.proofs.Player.{player-answers, list-says, mask-says, text_says}
 use Rattle.calls.proofs.Play.{lettered}
@@ -67,6 +67,7 @@ numbers = record {
   solver = λ sheet m. solver_writes sheet (in_place_lem m);
   lister = λ sheet t m. lister_writes sheet (as_minutes t) (minutes t) m (λ _. minutes_rightly t (network_of sheet));
   house_writer = house_writes;
+  converter = converter_writes;
   recoverer = λ sheet bytes m. recoverer-writes sheet bytes (in_place_lem m);
   player = player;
   player_on = player_on;

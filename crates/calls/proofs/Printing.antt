@@ -17,19 +17,21 @@ use Rattle.sheet.proofs.WellFormed.{accepted_well_formed}
 use Rattle.listing.specs.Listing.{listing}
 use Rattle.listing.specs.Most.{most_listing}
 use Rattle.listing.proofs.Short.{listing-short, good-times}
-use Rattle.tighten.specs.Tightest.{remaining_of}
 use Rattle.canonical.specs.House.{house_text}
+use Rattle.conversion.specs.FormerRules.{read_as_max_lem}
+use Rattle.conversion.specs.Converted.{resulting, converted}
+use Rattle.conversion.proofs.Accepted.{converted-short}
 use Rattle.canonical.proofs.Again.{form-short}
 use Rattle.calls.specs.Values.{OrRefusal, refused_as}
 use Rattle.calls.specs.Call.{Left}
 use Rattle.calls.specs.Lent.{as_minutes, in_place_lem}
-use Rattle.calls.specs.Calls.{solving, listed, housed}
+use Rattle.calls.specs.Calls.{solving, listed, housed, converting}
 use Rattle.calls.specs.Recover.{recovering}
-use Rattle.calls.specs.Table.{refused_text, listing_on, table_on_lem, form_on}
+use Rattle.calls.specs.Table.{refused_text, listing_on, table_on_lem, form_on, converted_on}
 use Rattle.calls.specs.Numbers.{minutes}
 use Rattle.calls.specs.Printing.{Printing}
 use Rattle.calls.proofs.Handed.{cells-few, minutes_rightly}
-use Rattle.calls.proofs.Writing.{wrote, listing-wrote, house-wrote, house-many}
+use Rattle.calls.proofs.Writing.{wrote, listing-wrote, house-wrote, converter-wrote, converter-many}
 use Rattle.calls.proofs.Solving.{solves-least, refuses_none}
 use Rattle.calls.proofs.OnPages.{wrote_on, refused-on}
 use Rattle.calls.proofs.PrintedVerdict.{judged, misfit-on, unread-on, judge-on, passes_on}
@@ -68,15 +70,26 @@ module _ (sheet : List ℕ) (a : Accepts sheet) where
       (refuses_none sheet (in_place_lem m) a (omega (arith, cells-few formed.0))
       i))
 
-  many-on : (page : List ℕ) → L.rules < length (remaining_of net) → form_on page sheet ≡ refused_text (refused_as 17)
-  many-on page h =
-      refused-on (housed sheet page) _ (λ t. t) (ap (λ (l : Left (OrRefusal ℕ)). l.answer) (house-many sheet page a h))
-
-  form-on : (page : List ℕ) → length (remaining_of net) ≤ L.rules → longest ≤ length page
-      → form_on page sheet ≡ house_text sheet net
-  form-on page few h =
+  form-on : (page : List ℕ) → longest ≤ length page → form_on page sheet ≡ house_text sheet net
+  form-on page h =
       wrote_on (housed sheet page) (house_text sheet net) page (λ t. t)
-      (house-wrote sheet page a few (omega (arith, form-short sheet a few)))
+      (house-wrote sheet page a (omega (arith, form-short sheet a)))
+
+-- of the converter, which reads by the former rules
+module _ (sheet : List ℕ) (a : Accepts (read_as_max_lem sheet)) where
+  abbrev former : Network
+  former = network_of (read_as_max_lem sheet)
+
+  many-on : (page : List ℕ) → L.rules < resulting sheet former → converted_on page sheet ≡ refused_text (refused_as 17)
+  many-on page h =
+      refused-on (converting sheet page) _ (λ t. t)
+      (ap (λ (l : Left (OrRefusal ℕ)). l.answer) (converter-many sheet page a h))
+
+  converted-on : (page : List ℕ) → resulting sheet former ≤ L.rules → longest ≤ length page
+      → converted_on page sheet ≡ converted sheet former
+  converted-on page few h =
+      wrote_on (converting sheet page) (converted sheet former) page (λ t. t)
+      (converter-wrote sheet page a few (omega (arith, converted-short sheet former a few)))
 
 abbrev table : List ℕ
 table = replicate L.cells 0
@@ -92,6 +105,9 @@ printing = record {
   house_refused = λ sheet r f.
       let e = (refused_iff sheet r).1 f in
       refused-on (housed sheet (page longest)) r (λ t. t) (rw e);
+  convert_refused = λ sheet r f.
+      let e = (refused_iff (read_as_max_lem sheet) r).1 f in
+      refused-on (converting sheet (page longest)) r (λ t. t) (rw e);
   none = λ sheet Γ r. rw (← r.network)
       (λ i. none-on sheet r.accepted table (page most_listing) i
       (omega (arith, length-replicate {A = ℕ} L.cells 0)));
@@ -104,7 +120,11 @@ printing = record {
   house = λ sheet f Γ form.
       let n = form.reads.network in
       rw (form.form, ← n)
-      (form-on sheet form.reads.accepted (page longest) (rw (← n) at form.few)
+      (form-on sheet form.reads.accepted (page longest) (omega (arith, length-replicate {A = ℕ} longest 0)));
+  convert = λ sheet t Γ c.
+      let n = c.reads.network in
+      rw (c.text, ← n)
+      (converted-on sheet c.reads.accepted (page longest) (rw (← n) at c.few)
       (omega (arith, length-replicate {A = ℕ} longest 0)));
   judge_refused = λ sheet bytes r f.
       let e = (refused_iff sheet r).1 f in

@@ -16,7 +16,6 @@ use Rattle.refusal.specs.declared.Cause.TheVariants as C
 use Rattle.network.specs.Build.{name_of_lem, cells}
 use Rattle.network.specs.Solution.{Solution}
 use Rattle.network.specs.Least as L
-use Rattle.network.specs.declared.Constraint.{Constraint}
 use Rattle.network.specs.declared.Network.{Network}
 use Rattle.network.proofs.Least.{least_unique, same-least, same_inconsistent}
 use Rattle.sheet.specs.Reading.{network_of, Accepts}
@@ -42,7 +41,7 @@ use Rattle.calls.specs.Call.{without_line_lem}
 use Rattle.calls.specs.Lent.{Handed, Lent, as_minutes, as_bytes, in_place_lem}
 use Rattle.calls.specs.Calls.{counts_of, summary, judging_tests, judging, enough, writing}
 use Rattle.calls.specs.Calls.{refusing, rests, solving_tests, solving_into}
-use Rattle.calls.specs.Calls.{listing_tests, listing_of, fit, house_tests, housed}
+use Rattle.calls.specs.Calls.{listing_tests, listing_of, house_tests, housed}
 use Rattle.calls.specs.Play.{named, ever_heard, events_of, is_pass, playing_tests, playing, events_due_lem}
 use Rattle.calls.specs.Play.{events_due_on_lem}
 use Rattle.calls.specs.Bench.{bench_due}
@@ -163,9 +162,7 @@ module _ (sheet other : List ℕ) (a : Accepts sheet) (b : Accepts other)
       let text = text_same s (faithful sheet a) in
       calls_alike (refusing m) sheet other (house_tests sheet m) (house_tests other m)
       (λ Γ. writing m (house_text sheet Γ)) (λ Γ. writing m (house_text other Γ)) a b
-      (ap₂ (λ (rs : List Constraint) (x : List ℕ).
-      first_failing_lem ((fit rs, without_line_lem C.TooManyRows) ∷ enough m (length x) ∷ []))
-      s.remaining text)
+      (ap (λ (x : List ℕ). first_failing_lem (enough m (length x) ∷ [])) text)
       (λ _. ap (writing m) text)
 
   pub same-answers : SameAnswers sheet other

@@ -35,14 +35,16 @@ use Rattle.dispatch.proofs.Bits.{mask_small}
 use Rattle.listing.specs.Listing.{header, listing}
 use Rattle.listing.proofs.Short.{listing-short}
 use Rattle.readback.proofs.RoundTrip.{length-recovered}
-use Rattle.tighten.specs.Tightest.{remaining_of}
 use Rattle.canonical.specs.House.{house_text}
+use Rattle.conversion.specs.FormerRules.{read_as_max_lem}
+use Rattle.conversion.specs.Converted.{resulting, converted}
+use Rattle.conversion.proofs.Accepted.{converted-short}
 use Rattle.canonical.proofs.Again.{form-short}
 use Rattle.calls.specs.Values.{OrRefusal, Values, turned_away, number_values}
 use Rattle.calls.specs.Call.{Tests, call, Left}
 use Rattle.calls.specs.Lent.{Handed, Lent, in_place_lem}
 use Rattle.calls.specs.Calls.{judging_tests, judging, writing, refusing, solving_tests, solving_into}
-use Rattle.calls.specs.Calls.{listing_tests, listing_of, house_tests, housed}
+use Rattle.calls.specs.Calls.{listing_tests, listing_of, house_tests, housed, convert_tests, converting}
 use Rattle.calls.specs.Play.{events_of, playing_tests, playing}
 use Rattle.calls.specs.Recover.{recovered_in, recovering_tests, recovering_into}
 use Rattle.calls.specs.Bench.{Small, verdict_values, breach_values}
@@ -144,7 +146,16 @@ module _ (sheet : List ℕ) where
       value_small count (refusing (in_place_lem m)) (λ r. refl) sheet
       (house_tests sheet (in_place_lem m))
       (λ Γ. writing (in_place_lem m) (house_text sheet Γ))
-      (λ a h. omega (arith, form-short sheet a (fit-few (remaining_of net) h.0)))
+      (λ a h. omega (arith, form-short sheet a))
+
+  pub converting_small : (m : List ℕ) → (count (converting sheet m)).value < 65536
+  converting_small m =
+      value_small count (refusing (in_place_lem m)) (λ r. refl) (read_as_max_lem sheet)
+      (convert_tests sheet (in_place_lem m))
+      (λ Γ. writing (in_place_lem m) (converted sheet Γ))
+      (λ a h.
+      let former = network_of (read_as_max_lem sheet) in
+      omega (arith, converted-short sheet former a (fit-few (resulting sheet former) h.0)))
 
   pub playing_small : (t : Handed) (said : Network → Result ℕ Unanswered)
       → (Accepts sheet → events_of (said net) < 65536) → (number_values (playing sheet t said)).value <

@@ -1,6 +1,7 @@
 -- The trial sheets of document 01 and what `table` prints for each: one table, which one theorem covers by
--- computation. And the first of them, played: what is due in it, in a table that fails and in one that is too short.
--- Assumes nothing.
+-- computation. "The fourth trial now runs through the converter" (02, point 7): it is converted, then solved; and
+-- `table` refuses it with 22 as document 01 has it. And the first of them, played: what is due in it, in a table that
+-- fails and in one that is too short. Assumes nothing.
 use mathlib.Core.Path.{◌≡◌, refl}
 use mathlib.Core.Bool.{Bool, true, false, ◌&&◌}
 use mathlib.Core.List.{List, [], ◌∷◌, ◌++◌}
@@ -15,7 +16,7 @@ use Rattle.network.specs.Scenario.{satisfies}
 use Rattle.network.specs.Happens.{happens}
 use Rattle.network.specs.Constraint.{covers}
 use Rattle.network.specs.Strategy.{reaction_of_lem}
-use Rattle.line.specs.Tests.{section_tests, event_tests, signal_tests, ends_tests, rule_tests}
+use Rattle.line.specs.Tests.{section_tests, event_tests, signal_tests, kind_tests, ends_tests, rule_tests}
 use Rattle.sheet.specs.Reading.{progress}
 use Rattle.checker.specs.Verdict.{verdict}
 use Rattle.rounds.specs.Propagate.{propagate}
@@ -24,22 +25,29 @@ use Rattle.solver.specs.Solve.{solve}
 use Rattle.dispatch.specs.Due.{due}
 use Rattle.dispatch.specs.declared.Heard.{Heard}
 use Rattle.listing.specs.Listing.{listing}
+use Rattle.conversion.specs.Rows.{is_fix_lem}
+use Rattle.conversion.specs.FormerRules.{read_as_max_lem}
+use Rattle.conversion.specs.Converted.{converted}
 use Rattle.calls.specs.Values.{number_values}
 use Rattle.calls.specs.Play.{events_due_lem}
-use Rattle.calls.specs.Table.{table_text}
+use Rattle.calls.specs.Table.{table_text, converted_text}
 
 -- lines of text, each with its line feed
 abbrev lines : List String → List ℕ
 lines [] = []
 lines (l ∷ ls) = ascii l ++ line_feed ∷ lines ls
 
--- a trial: the sheet's lines, and the lines that `table` prints
+-- a trial: the sheet, and the lines that `table` prints
 record Trial : Type 0 where
-  sheet : List String
+  sheet : List ℕ
   prints : List String
 
 abbrev trial : List String → List String → Trial
-trial s t = record { sheet = s; prints = t }
+trial s t = record { sheet = lines s; prints = t }
+
+-- one that runs through the converter: what `convert` prints is the sheet
+abbrev through : List String → List String → Trial
+through s t = record { sheet = converted_text (lines s); prints = t }
 
 -- the head of a sheet with start, call and door, where p is given at call
 abbrev safe : List String → List String
@@ -56,6 +64,14 @@ alone rules = "horizon,60" ∷ "events,1" ∷ "start" ∷ "signals,0" ∷ rules
 abbrev no_table : List String
 no_table = "refused 13 line 0" ∷ []
 
+-- the fourth as document 01 has it, and what it becomes
+abbrev fourth : List String
+fourth = safe ("rules,3" ∷ "min,start,call,5,-" ∷ "min,call,door,15,p" ∷ "fix,start,door,20,-" ∷ [])
+
+abbrev converted_fourth : List String
+converted_fourth =
+    safe ("rules,4" ∷ "min,start,call,5,-" ∷ "min,call,door,15,p" ∷ "max,start,door,20,-" ∷ "min,start,door,20,-" ∷ [])
+
 abbrev trials : List Trial
 trials =
     -- 1
@@ -67,7 +83,7 @@ trials =
     -- 3
     ∷ trial (safe ("rules,3" ∷ "min,start,call,5,-" ∷ "min,call,door,15,p" ∷ "max,start,door,19,-" ∷ [])) no_table
     -- 4
-    ∷ trial (safe ("rules,3" ∷ "min,start,call,5,-" ∷ "min,call,door,15,p" ∷ "fix,start,door,20,-" ∷ []))
+    ∷ through fourth
     ("case,start,call,door" ∷ "F,0,5,20" ∷ "T,0,5,20" ∷ [])
     -- 5
     ∷ trial (alone ("rules,0" ∷ [])) ("case,start" ∷ "-,0" ∷ [])
@@ -92,13 +108,21 @@ trials =
 
 abbrev all_agree : List Trial → Bool
 all_agree [] = true
-all_agree (t ∷ ts) = same (table_text (lines t.sheet)) (lines t.prints) && all_agree ts
+all_agree (t ∷ ts) = same (table_text t.sheet) (lines t.prints) && all_agree ts
 
 pub trials-agree : all_agree trials ≡ true
-unfolding is_number in_range satisfies happens covers reaction_of_lem section_tests event_tests signal_tests ends_tests
-    rule_tests
-    progress propagate masked solve listing
+unfolding is_number in_range satisfies happens covers reaction_of_lem section_tests event_tests signal_tests kind_tests
+    ends_tests rule_tests progress propagate masked solve listing is_fix_lem read_as_max_lem converted
 trials-agree = refl
+
+pub fourth_converted : same (converted_text (lines fourth)) (lines converted_fourth) ≡ true
+unfolding is_number in_range section_tests event_tests signal_tests kind_tests ends_tests rule_tests progress is_fix_lem
+    read_as_max_lem converted
+fourth_converted = refl
+
+pub fourth_retired : same (table_text (lines fourth)) (lines ("refused 22 line 11" ∷ [])) ≡ true
+unfolding is_number in_range section_tests event_tests signal_tests kind_tests ends_tests rule_tests progress
+fourth_retired = refl
 
 -- of the first trial: a table, a minute, a list, and the number and the events that are answered
 record Question : Type 0 where
@@ -143,7 +167,6 @@ all_answered (q ∷ qs) =
     (eqb v.number q.number && (eqb v.line 0 && eqb v.value q.events)) && all_answered qs
 
 pub questions_answered : all_answered questions ≡ true
-unfolding is_number in_range satisfies happens covers reaction_of_lem section_tests event_tests signal_tests ends_tests
-    rule_tests
-    progress verdict due events_due_lem
+unfolding is_number in_range satisfies happens covers reaction_of_lem section_tests event_tests signal_tests kind_tests
+    ends_tests rule_tests progress verdict due events_due_lem
 questions_answered = refl

@@ -1,4 +1,5 @@
--- The calls that write a text: the listing of a table that is handed in, and the house form. Assumes nothing.
+-- The calls that write a text: the listing of a table that is handed in, the house form, and the converted sheet.
+-- Assumes nothing.
 use mathlib.Core.Path.{◌≡◌, refl, sym}
 use mathlib.Core.Logic.{inl, ◌↔◌}
 use mathlib.Core.Bool.{false}
@@ -12,14 +13,16 @@ use Rattle.network.specs.Limits as L
 use Rattle.network.specs.declared.Network.{Network}
 use Rattle.sheet.specs.Reading.{network_of, Accepts}
 use Rattle.listing.specs.Listing.{listing}
-use Rattle.tighten.specs.Tightest.{remaining_of}
 use Rattle.canonical.specs.House.{house_text}
+use Rattle.conversion.specs.FormerRules.{read_as_max_lem}
+use Rattle.conversion.specs.Converted.{resulting, converted}
 use Rattle.calls.specs.Values.{OrRefusal}
 use Rattle.calls.specs.Call.{without_line_lem, Left}
 use Rattle.calls.specs.Lent.{Handed, Lent, in_place_lem}
 use Rattle.calls.specs.Calls.{writing, refusing, listing_tests, listing_of, house_tests, housed}
+use Rattle.calls.specs.Calls.{convert_tests, converting}
 use Rattle.calls.specs.Answers.{Writes, WroteInto, WroteText}
-use Rattle.calls.specs.Numbers.{lists, houses}
+use Rattle.calls.specs.Numbers.{lists, houses, converts}
 use Rattle.calls.proofs.Call.{call_fails, call_works}
 use Rattle.calls.proofs.Matched.{unlined, writes_call}
 use Rattle.calls.proofs.Handed.{Rightly}
@@ -74,27 +77,51 @@ module _ (sheet m : List ℕ) where
       (house_tests sheet (in_place_lem m))
       form_work
       (houses sheet m) refl
+      (λ a. (λ _. unlined refl refl, short (length (house_text sheet (network_of sheet))) (length m), λ _. tt))
+      (λ Γ. (refl, refl))
+
+  pub house-wrote : Accepts sheet → length (house_text sheet (network_of sheet)) ≤ length m
+      → WroteText (house_text sheet (network_of sheet)) m (housed sheet m)
+  house-wrote a room =
+      wrote (house_text sheet (network_of sheet)) m
+      (call_works (refusing (in_place_lem m)) sheet (house_tests sheet (in_place_lem m)) form_work
+      (network_of sheet) a
+      (le-leb _ (length m) room, tt))
+
+-- the converter, which reads the sheet by the former rules
+module _ (sheet m : List ℕ) where
+  abbrev former : Network
+  former = network_of (read_as_max_lem sheet)
+
+  abbrev work : Network → Left (OrRefusal ℕ)
+  work Γ = writing (in_place_lem m) (converted sheet Γ)
+
+  pub converter_writes : Writes (read_as_max_lem sheet) (converts sheet m) (converting sheet m) m
+  converter_writes =
+      writes_call (in_place_lem m) (read_as_max_lem sheet)
+      (convert_tests sheet (in_place_lem m))
+      work
+      (converts sheet m) refl
       (λ a. (
         λ _. unlined refl refl,
-        (not-fit-many (remaining_of (network_of sheet)), many_do_not (remaining_of (network_of sheet))),
-        λ _. (λ _. unlined refl refl, short (length (house_text sheet (network_of sheet))) (length m), λ _. tt),
+        (not-fit-many (resulting sheet former), many_do_not (resulting sheet former)),
+        λ _. (λ _. unlined refl refl, short (length (converted sheet former)) (length m), λ _. tt),
       ))
       (λ Γ. (refl, refl))
 
-  module _ (a : Accepts sheet) where
-    pub house-wrote : length (remaining_of (network_of sheet)) ≤ L.rules
-        → length (house_text sheet (network_of sheet)) ≤ length m
-        → WroteText (house_text sheet (network_of sheet)) m (housed sheet m)
-    house-wrote few room =
-        wrote (house_text sheet (network_of sheet)) m
-        (call_works (refusing (in_place_lem m)) sheet (house_tests sheet (in_place_lem m)) form_work
-        (network_of sheet) a
-        (few-fit (remaining_of (network_of sheet)) few, (le-leb _ (length m) room, tt)))
+  module _ (a : Accepts (read_as_max_lem sheet)) where
+    pub converter-wrote : resulting sheet former ≤ L.rules → length (converted sheet former) ≤ length m
+        → WroteText (converted sheet former) m (converting sheet m)
+    converter-wrote few room =
+        wrote (converted sheet former) m
+        (call_works (refusing (in_place_lem m)) (read_as_max_lem sheet) (convert_tests sheet (in_place_lem m)) work
+        former a
+        (few-fit (resulting sheet former) few, (le-leb _ (length m) room, tt)))
 
-    pub house-many : L.rules < length (remaining_of (network_of sheet))
-        → housed sheet m ≡ refusing (in_place_lem m) (without_line_lem C.TooManyRows)
-    house-many many =
-        sym (call_fails (refusing (in_place_lem m)) sheet (house_tests sheet (in_place_lem m)) form_work
-        (network_of sheet) a
+    pub converter-many : L.rules < resulting sheet former
+        → converting sheet m ≡ refusing (in_place_lem m) (without_line_lem C.TooManyRows)
+    converter-many many =
+        sym (call_fails (refusing (in_place_lem m)) (read_as_max_lem sheet) (convert_tests sheet (in_place_lem m)) work
+        former a
         (without_line_lem C.TooManyRows)
-        (inl (many_do_not (remaining_of (network_of sheet)) many, refl)))
+        (inl (many_do_not (resulting sheet former) many, refl)))

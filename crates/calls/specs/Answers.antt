@@ -9,14 +9,14 @@ use Rattle.calls.specs.Values.{OrRefusal, Values, done, turned_away, number_valu
 use Rattle.calls.specs.Call.{Left}
 use Rattle.calls.specs.Lent.{Lent, in_place_lem}
 
--- which refusals name a line: 2 to 10, 20 and 21 one of the sheet, 18 and 19 one of the listing; "Lines are 0 for
+-- which refusals name a line: 2 to 10 and 20 to 22 one of the sheet, 18 and 19 one of the listing; "Lines are 0 for
 -- refusals 1 and 11 to 13", and for each of document 02 "whose request names no line"
 abbrev pub names_line : ℕ → Bool
-names_line n = (leb 2 n && leb n 10) || (leb 18 n && leb n 21)
+names_line n = (leb 2 n && leb n 10) || (leb 18 n && leb n 22)
 
 -- no refusal, or one of the sheet's own
 abbrev pub OfSheet : ℕ → Type 0
-OfSheet n = (n ≤ 10) ⊎ ((20 ≤ n) × (n ≤ 21))
+OfSheet n = (n ≤ 10) ⊎ ((20 ≤ n) × (n ≤ 22))
 
 -- the sheet keeps every rule of its layout, and its network is Γ
 pub record Reads (sheet : List ℕ) (Γ : Network) : Type 0 where
@@ -40,7 +40,7 @@ OneOf (o ∷ os) n = (n ≡ o.number) ⊎ OneOf os n
 
 -- of the values that a call with these refusals answers for the sheet, where `nothing` is what a refusal tells
 pub record Answers (sheet : List ℕ) (own : List Own) {A : Type 0} (nothing : A) (v : Values A) : Type 0 where
-  -- 0, a number from 1 to 10, 20 or 21, or one of the call's own
+  -- 0, a number from 1 to 10 or from 20 to 22, or one of the call's own
   pub numbers : OfSheet v.number ⊎ OneOf own v.number
   -- a line from 1 on exactly for the refusals that name one; no line is further on than the longest sheet allows
   pub lines : (1 ≤ v.line) ↔ (names_line v.number ≡ true)

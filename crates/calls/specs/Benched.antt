@@ -12,7 +12,7 @@ use Rattle.checker.specs.declared.Breach.{Breach}
 use Rattle.dispatch.specs.HeardText.{is_heard_lem, heard_in}
 use Rattle.listing.specs.Listing.{listing}
 use Rattle.calls.specs.Values.{done, refused_as, number_values}
-use Rattle.calls.specs.Calls.{housed}
+use Rattle.calls.specs.Calls.{housed, converting}
 use Rattle.calls.specs.Bench.{bench_judgement, bench_solving, bench_listed, passed, breach_values, judgement_values}
 use Rattle.calls.specs.Bench.{bench_due, bench_recovering, packed, packed_count_lem}
 use Rattle.calls.specs.Play.{events_due_lem}
@@ -48,5 +48,7 @@ pub record Benched : Type 0 where
       → let v = number_values (bench_recovering sheet printed b).answer in CountHolds (packed_count_lem v) v
   pub house_holds : (sheet m : List ℕ)
       → let v = number_values (housed sheet m).answer in CountHolds (packed_count_lem v) v
+  pub converter_holds : (sheet m : List ℕ)
+      → let v = number_values (converting sheet m).answer in CountHolds (packed_count_lem v) v
   pub player_holds : (sheet b : List ℕ) (m : ℕ) (text : List ℕ)
       → let v = number_values (bench_due sheet b m text) in CountHolds (packed_count_lem v) v

@@ -1,19 +1,19 @@
 -- What the public calls answer and what they leave in the memory that they are lent (01, Refused sheets and calls, The
--- judge's verdict and The printed listing; 02, point 2). Each is its tests, in checking order, and its work.
+-- judge's verdict and The printed listing; 02, points 2 and 7). Each is its tests, in checking order, and its work.
 use Rattle.std.specs.Prelude.{Bool, true, false, List, [], ◌∷◌, ℕ, leb, length, Ok, Err}
 use Rattle.refusal.specs.declared.Refusal.{Refusal}
 use Rattle.refusal.specs.declared.Cause.TheVariants.{WrongTableLength, BufferTooShort, Inconsistent, TooManyRows}
 use Rattle.fixpoint.specs.Run.{End, Rests, Passes, Spent}
 use Rattle.network.specs.Limits as L
 use Rattle.network.specs.Build.{cells}
-use Rattle.network.specs.declared.Constraint.{Constraint}
 use Rattle.network.specs.declared.Network.{Network}
 use Rattle.checker.specs.declared.Verdict.{Verdict}
 use Rattle.checker.specs.Verdict.{verdict}
 use Rattle.solver.specs.Solve.{solve, found}
 use Rattle.listing.specs.Listing.{listing}
-use Rattle.tighten.specs.Tightest.{remaining_of}
 use Rattle.canonical.specs.House.{house_text}
+use Rattle.conversion.specs.FormerRules.{read_as_max_lem}
+use Rattle.conversion.specs.Converted.{resulting, converted}
 use Rattle.calls.specs.Values.{OrRefusal, Values, values_of}
 use Rattle.calls.specs.Call.{without_line_lem, Tests, call, Left}
 use Rattle.calls.specs.Lent.{Handed, as_minutes, Lent, in_place_lem}
@@ -88,15 +88,25 @@ listing_of sheet t out =
 abbrev pub listed : List ℕ → List ℕ → List ℕ → Left (OrRefusal ℕ)
 listed sheet t m = listing_of sheet (as_minutes t) m
 
--- writing the house form: "17, more than 64 rows would be left" (02, point 2), before 12
-abbrev pub fit : List Constraint → Bool
-fit rows = leb (length rows) L.rules
-
+-- writing the house form
 abbrev pub house_tests : List ℕ → Lent → Network → Tests
-house_tests sheet m Γ =
-    (fit (remaining_of Γ), without_line_lem TooManyRows) ∷ enough m (length (house_text sheet Γ)) ∷ []
+house_tests sheet m Γ = enough m (length (house_text sheet Γ)) ∷ []
 
 abbrev pub housed : List ℕ → List ℕ → Left (OrRefusal ℕ)
 housed sheet out =
     let m = in_place_lem out in
     call (refusing m) sheet (house_tests sheet m) (λ Γ. writing m (house_text sheet Γ))
+
+-- converting a former sheet, which is read as `read_as_max_lem` says: 17 "if more than 64 rows would result" (02, point
+-- 7), before 12
+abbrev pub fit : ℕ → Bool
+fit rows = leb rows L.rules
+
+abbrev pub convert_tests : List ℕ → Lent → Network → Tests
+convert_tests sheet m Γ =
+    (fit (resulting sheet Γ), without_line_lem TooManyRows) ∷ enough m (length (converted sheet Γ)) ∷ []
+
+abbrev pub converting : List ℕ → List ℕ → Left (OrRefusal ℕ)
+converting sheet out =
+    let m = in_place_lem out in
+    call (refusing m) (read_as_max_lem sheet) (convert_tests sheet m) (λ Γ. writing m (converted sheet Γ))

@@ -1,12 +1,12 @@
 -- The three demands, as statements about every sheet, table and lent buffer. They speak of the definitions that the
 -- calls' contracts are equations with: `summary`, `judgement`, `solving` and `listed` (Calls), in `Numbers` and
 -- `Benched` those of all calls, and of their answers in the papers' numbers.
-use Rattle.std.specs.Prelude.{◌≡◌, ◌↔◌, List, ℕ, ◌≤◌, length, Err}
+use Rattle.std.specs.Prelude.{◌≡◌, ◌↔◌, true, List, ℕ, ◌≤◌, length, Err}
 use Rattle.std.proofs.Math.Option.{none}
-use Rattle.refusal.specs.Refusal.{number_of}
+use Rattle.refusal.specs.Refusal.{turn_of}
 use Rattle.prelude.specs.Checks.{FirstFails}
 use Rattle.refusal.specs.declared.Cause.{Cause}
-use Rattle.refusal.specs.declared.Cause.TheVariants.{StartLabelled, IncompleteLabel}
+use Rattle.refusal.specs.declared.Cause.TheVariants.{StartLabelled, IncompleteLabel, RetiredKind}
 use Rattle.refusal.specs.declared.Refusal.{Refusal}
 use Rattle.fixpoint.specs.Run.{Rests}
 use Rattle.network.specs.Build.{no_label, event_label, cells}
@@ -15,6 +15,7 @@ use Rattle.network.specs.Solution.{Solution}
 use Rattle.network.specs.Least.{Least}
 use Rattle.network.specs.Least as L
 use Rattle.network.specs.declared.Network.{Network}
+use Rattle.line.specs.Tests.{rule_tests}
 use Rattle.line.specs.Labelling.{Read, whole_tests}
 use Rattle.sheet.specs.Reading.{read, Accepts}
 use Rattle.sheet.specs.Place.{tests}
@@ -28,6 +29,7 @@ use Rattle.checker.specs.declared.Verdict.TheVariants.{Pass, Breach as Breached}
 use Rattle.rounds.specs.Hyperarcs.{Dynamic, Waiting, Hyperarcs}
 use Rattle.solver.specs.Solve.{solve, found}
 use Rattle.listing.specs.Listing.{listing}
+use Rattle.conversion.specs.Rows.{are_fix}
 use Rattle.calls.specs.Values.{done, refused_as, number_values}
 use Rattle.calls.specs.Calls.{counts_of, summary, summary_values, judgement, solving, listed}
 use Rattle.calls.specs.Bench.{passed, breach_values, judgement_values}
@@ -58,9 +60,12 @@ pub record Demands : Type 0 where
       → FirstFails (whole_tests Γ) IncompleteLabel ↔ ((event_label Γ 0 ≡ no_label) × (AllComplete Γ → ⊥))
   -- so no sheet that is accepted has such a label
   pub labelled : (sheet : List ℕ) (Γ : Network) → Reads sheet Γ → WellLabelled Γ
-  -- "on one line the lowest number does"
+  -- of a rule's line: "22, the row is a `fix`", which has a rule's fields and says so (02, point 7)
+  pub retired : (sheet : List ℕ) (Γ : Network) (fs : List (List ℕ))
+      → FirstFails (rule_tests sheet Γ fs) RetiredKind ↔ (are_fix fs ≡ true)
+  -- "on one line the lowest number does", and 22 is "tried directly after 3" (02, point 7): before 4
   pub lowest : (sheet : List ℕ) (r : Refusal) (f : FirstFault sheet r) (c : Cause) → Fails (tests sheet f.above) c
-      → number_of r.cause ≤ number_of c
+      → turn_of r.cause ≤ turn_of c
   -- "The judge passes a table for an accepted sheet exactly when the three points of a good table hold"
   pub judged : (sheet σ : List ℕ) (Γ : Network) → Reads sheet Γ → length σ ≡ cells Γ
       → (verdict Γ σ ≡ Pass) ↔ Solution Γ σ

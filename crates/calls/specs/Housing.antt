@@ -1,5 +1,5 @@
--- What holds of the call that writes a sheet in its house form (02, points 2, 3 and 6), for every sheet and lent
--- buffer.
+-- What holds of the call that writes a sheet in its house form (02, points 2, 3, 6 and 7), for every sheet and
+-- lent buffer.
 use Rattle.std.specs.Prelude.{◌≡◌, ◌↔◌, List, ℕ, ◌≤◌, length}
 use Rattle.network.specs.Limits as L
 use Rattle.network.specs.Solution.{Solution}
@@ -14,10 +14,9 @@ use Rattle.canonical.specs.Same.{Same}
 use Rattle.calls.specs.Calls.{housed}
 use Rattle.calls.specs.Answers.{Reads, WroteText}
 
--- the sheet's network is Γ, no more rows remain of it than a sheet may have, and f is its form
+-- the sheet's network is Γ, and f is its form
 pub record Form (sheet : List ℕ) (Γ : Network) (f : List ℕ) : Type 0 where
   pub reads : Reads sheet Γ
-  pub few : length (remaining_of Γ) ≤ L.rules
   pub form : f ≡ house_text sheet Γ
 
 -- two networks have the same good tables: the same least one, or none
@@ -28,6 +27,8 @@ pub record SameTables (Γ Δ : Network) : Type 0 where
 
 -- where it refuses stands in `Numbers`
 pub record Housing : Type 0 where
+  -- "the house form never meets 17 again" (02, point 7): no more rows remain than a sheet may have
+  pub few : (sheet : List ℕ) (Γ : Network) → Reads sheet Γ → length (remaining_of Γ) ≤ L.rules
   -- where there is room the form is written, and everything behind it is unaltered
   pub written : (sheet m f : List ℕ) (Γ : Network) → Form sheet Γ f → length f ≤ length m
       → WroteText f m (housed sheet m)

@@ -1,5 +1,5 @@
 -- Demand 1: each public call's own refusals in checking order, with their causes, and that it answers by them (01,
--- Refused sheets and calls; 02, points 1, 2 and 4). A later call is one list and one field more.
+-- Refused sheets and calls; 02, points 1, 2, 4 and 7). A later call is one list and one field more.
 use Rattle.std.specs.Prelude.{◌≡◌, List, [], ◌∷◌, ℕ, ◌*◌, ◌/◌, ◌<◌, length}
 use Rattle.pairs.specs.Pairs.{minutes_of}
 use Rattle.network.specs.Limits as L
@@ -14,11 +14,12 @@ use Rattle.dispatch.specs.HeardText.{heard_in, WellWritten}
 use Rattle.dispatch.specs.declared.Heard.{Heard}
 use Rattle.listing.specs.Listing.{header, listing}
 use Rattle.readback.specs.Form.{Formed, Minutes}
-use Rattle.tighten.specs.Tightest.{remaining_of}
 use Rattle.canonical.specs.House.{house_text}
+use Rattle.conversion.specs.FormerRules.{read_as_max_lem}
+use Rattle.conversion.specs.Converted.{resulting, converted}
 use Rattle.calls.specs.Values.{number_values}
 use Rattle.calls.specs.Calls.{summary, no_counts, summary_values, judgement, solving, listed}
-use Rattle.calls.specs.Calls.{housed}
+use Rattle.calls.specs.Calls.{housed, converting}
 use Rattle.calls.specs.Bench.{no_finding, judgement_values, bench_judgement, bench_solving, bench_listed, bench_due}
 use Rattle.calls.specs.Bench.{bench_recovering}
 use Rattle.calls.specs.Play.{events_due_lem, events_due_on_lem}
@@ -54,11 +55,14 @@ solves lent = too_short lent cells ∷ no_table ∷ []
 abbrev pub lists : (Network → Type 0) → List ℕ → List ℕ → List ℕ → List Own
 lists right sheet t m = wrong_length right ∷ too_short (length m) (λ Γ. length (listing sheet Γ t)) ∷ []
 
--- "more than 64 rows would be left"
 abbrev pub houses : List ℕ → List ℕ → List Own
-houses sheet m =
-    record { number = 17; cause = λ Γ. L.rules < length (remaining_of Γ) }
-    ∷ too_short (length m) (λ Γ. length (house_text sheet Γ))
+houses sheet m = too_short (length m) (λ Γ. length (house_text sheet Γ)) ∷ []
+
+-- "17 if more than 64 rows would result", before 12
+abbrev pub converts : List ℕ → List ℕ → List Own
+converts sheet m =
+    record { number = 17; cause = λ Γ. L.rules < resulting sheet Γ }
+    ∷ too_short (length m) (λ Γ. length (converted sheet Γ))
     ∷ []
 
 -- 18: the listing is "longer than 4,096 bytes", or for no texts in the places of its minutes the lines of this sheet;
@@ -112,6 +116,8 @@ pub record Numbers : Type 0 where
   pub solver : (sheet m : List ℕ) → Writes sheet (solves (length m)) (solving sheet m) m
   pub lister : (sheet t m : List ℕ) → Writes sheet (lists (minutes t) sheet t m) (listed sheet t m) m
   pub house_writer : (sheet m : List ℕ) → Writes sheet (houses sheet m) (housed sheet m) m
+  -- the converter reads by the former rules: its faults are those of the sheet with each `fix` row read as a `max` row
+  pub converter : (sheet m : List ℕ) → Writes (read_as_max_lem sheet) (converts sheet m) (converting sheet m) m
   pub recoverer : (sheet printed m : List ℕ)
       → Writes sheet (recovers sheet printed (length m)) (recovering sheet printed m) m
   pub player : (sheet t : List ℕ) (m : ℕ) (hs : List Heard)
@@ -120,7 +126,7 @@ pub record Numbers : Type 0 where
   pub player_on : (sheet t : List ℕ) (m x : ℕ)
       → Answers sheet (plays (minutes t) t (misnamed_on x) (unheard_on t m x)) 0
       (number_values (events_due_on_lem sheet t m x))
-  -- of the bench's calls; its house form is that of the public call
+  -- of the bench's calls; its house form and its converter are those of the public calls
   pub bench_judge : (sheet b : List ℕ)
       → Answers sheet (judges (bytes b)) no_finding (judgement_values (bench_judgement sheet b))
   pub bench_solver : (sheet b : List ℕ)

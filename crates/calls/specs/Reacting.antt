@@ -31,7 +31,8 @@ pub record Besides (c d : Contents) : Type 0 where
   pub cases : listed_cases c ≡ listed_cases d
 
 -- they are answered the same, with tables of minutes and of bytes: the counts, the verdict, the table, what is due, the
--- listing, the table of a listing and the house form, and what is left in lent memory
+-- listing, the table of a listing and the house form, and what is left in lent memory. (The converter hands the lines
+-- of a sheet back as they are.)
 pub record SameAnswers (sheet other : List ℕ) : Type 0 where
   pub summaries : summary sheet ≡ summary other
   pub verdicts : (t : Handed) → judging sheet t ≡ judging other t

@@ -1,6 +1,7 @@
 -- What the programs print, by the calls that they make: `table` prints "the solver's listing, or `refused N line L`
--- with the number and the line" (01, The printed listing), `house` the house form (02, point 2), and `judge` the
--- verdict on the table of a listing (02, point 4). Each lends the calls memory that is long enough.
+-- with the number and the line" (01, The printed listing), `house` the house form (02, point 2), `judge` the verdict on
+-- the table of a listing (02, point 4), and `convert` the converted sheet (02, point 7). Each lends the calls memory
+-- that is long enough.
 use Rattle.std.specs.Prelude.{true, false, List, [], ◌∷◌, ◌++◌, ℕ, zero, suc, eqb, take, replicate}
 use Rattle.prelude.specs.Bytes.{ascii}
 use Rattle.text.specs.Lines.{line_feed}
@@ -10,7 +11,7 @@ use Rattle.sheet.specs.Reading.{longest}
 use Rattle.listing.specs.Most.{most_listing}
 use Rattle.calls.specs.Values.{OrRefusal, Values, number_values}
 use Rattle.calls.specs.Call.{Left}
-use Rattle.calls.specs.Calls.{judgement, solving, listed, housed}
+use Rattle.calls.specs.Calls.{judgement, solving, listed, housed, converting}
 use Rattle.calls.specs.Bench.{Finding, judgement_values}
 use Rattle.calls.specs.Recover.{recovering}
 
@@ -33,6 +34,9 @@ table_on_lem m page sheet = or_refused (solving sheet m) (listing_on page sheet)
 
 abbrev pub form_on : List ℕ → List ℕ → List ℕ
 form_on page sheet = or_refused (housed sheet page) (λ text. text)
+
+abbrev pub converted_on : List ℕ → List ℕ → List ℕ
+converted_on page sheet = or_refused (converting sheet page) (λ text. text)
 
 -- "`pass`, `late` with case and event, `rule` with case and rule, `unheard` with both cases and the event (numbers from
 -- 0, spaces between)", by the values of a verdict
@@ -63,6 +67,9 @@ table_text sheet = table_on_lem (replicate L.cells 0) (replicate most_listing 0)
 
 abbrev pub form_text : List ℕ → List ℕ
 form_text sheet = form_on (replicate longest 0) sheet
+
+abbrev pub converted_text : List ℕ → List ℕ
+converted_text sheet = converted_on (replicate longest 0) sheet
 
 abbrev pub judge_text : List ℕ → List ℕ → List ℕ
 judge_text sheet printed = judge_on (replicate L.cells 0) sheet printed

@@ -1,19 +1,20 @@
--- The form of an accepted sheet, where no more upper bounds remain than a sheet may have (02, point 2): it is accepted,
--- and its network has the horizon, the events and their labels, the signals and their reactions, and for rules those
--- that remain. So "the form reads back to the same good tables, and a second pass changes no byte". Assumes nothing.
+-- The form of an accepted sheet (02, point 2): it is accepted, and its network has the horizon, the events and their
+-- labels, the signals and their reactions, and for rules the upper bounds that remain. So "the form reads back to the
+-- same good tables, and a second pass changes no byte". Assumes nothing.
 use mathlib.Core.Path.{◌≡◌, refl, sym, ◌∙◌, ap}
 use mathlib.Core.Logic.{◌↔◌}
 use mathlib.Core.List.{List}
 use Prim.Native.Nat.{ℕ, ◌≤◌}
 use native.Mathlib.Omega.{arith}
 use lib.ListN.{length}
-use Rattle.network.specs.Limits as L
 use Rattle.network.specs.Solution.{Solution}
 use Rattle.network.specs.declared.Network.{Network}
 use Rattle.sheet.specs.Reading.{Accepts, network_of}
 use Rattle.layout.specs.Layout.{Layout, text_of}
 use Rattle.layout.specs.Contains.{Contains}
+use Rattle.layout.specs.Most.{most_form}
 use Rattle.layout.proofs.Accepted.{accepted_iff, network-contains}
+use Rattle.layout.proofs.Short.{length-text}
 use Rattle.tighten.specs.Upper.{uppers_of}
 use Rattle.tighten.specs.Tightest.{remaining, remaining_of}
 use Rattle.tighten.proofs.Regular.{uppers_regular}
@@ -22,12 +23,8 @@ use Rattle.tighten.proofs.Agree.{Agree}
 use Rattle.tighten.proofs.Tables.{solutions_by-remaining}
 use Rattle.canonical.specs.House.{house_of, house_text}
 use Rattle.canonical.specs.Same.{Same}
-use Rattle.canonical.specs.Most.{most_form}
 use Rattle.canonical.proofs.Faithful.{faithful, names-held, signals-held}
-use Rattle.canonical.proofs.Cases.{cases, case_labels-few}
-use Rattle.canonical.proofs.Keeping.{labels-few, house-keeps}
-use Rattle.canonical.proofs.Listed.{listed-section}
-use Rattle.canonical.proofs.Short.{length-text}
+use Rattle.canonical.proofs.Keeping.{house-keeps}
 use Rattle.canonical.proofs.Back.{uppers-back, agrees_back}
 use Rattle.canonical.proofs.Likeness.{text_same}
 
@@ -36,8 +33,7 @@ text-is : (sheet : List ℕ) (Γ : Network) → house_text sheet Γ ≡ text_of 
 unfolding house_text
 text-is sheet Γ = refl
 
-module _ (sheet : List ℕ) (a : Accepts sheet)
-    (few : length (remaining_of (network_of sheet)) ≤ L.rules) where
+module _ (sheet : List ℕ) (a : Accepts sheet) where
   abbrev Γ : Network
   Γ = network_of sheet
 
@@ -49,15 +45,12 @@ module _ (sheet : List ℕ) (a : Accepts sheet)
 
   -- at most 3,021 bytes
   pub form-short : length form ≤ most_form
-  form-short =
-      let t = faithful sheet a in
-      rw (text-is sheet Γ) (length-text (house_of sheet Γ) (house-keeps t few) (labels-few t)
-      (rw (listed-section (cases t)) (case_labels-few t)))
+  form-short = rw (text-is sheet Γ) (length-text (house_of sheet Γ) (house-keeps (faithful sheet a)))
 
   abbrev form_layout : Layout form
   form_layout = record {
     contents = house_of sheet Γ;
-    keeps = house-keeps (faithful sheet a) few;
+    keeps = house-keeps (faithful sheet a);
     written = text-is sheet Γ;
     short = omega (arith, form-short);
   }
@@ -90,9 +83,6 @@ module _ (sheet : List ℕ) (a : Accepts sheet)
 
   pub form-again : house_text form Δ ≡ form
   form-again = text_same form-same (faithful form form-accepted)
-
-  pub form-few : length (remaining_of Δ) ≤ L.rules
-  form-few = rw form-remaining few
 
   pub form-tables : (σ : List ℕ) → Solution Γ σ ↔ Solution Δ σ
   form-tables =

@@ -24,9 +24,9 @@ use Rattle.line.specs.Labelling.{is_none_lem}
 use Rattle.line.proofs.Labelling.{is_none_iff}
 use Rattle.layout.specs.Contents.{Case, no_signal, no_rule, no_case, signal_letters, case_events}
 use Rattle.layout.specs.Contains.{Bears, Means, Contains}
-use Rattle.tighten.specs.Upper.{uppers_of}
+use Rattle.tighten.specs.Upper.{upper_of, uppers_of}
 use Rattle.tighten.specs.Tightest.{remaining_of}
-use Rattle.tighten.proofs.Rules.{uppers_below-max}
+use Rattle.tighten.proofs.Rules.{upper_of-max}
 use Rattle.tighten.proofs.Agree.{Agree}
 use Rattle.canonical.specs.Listed.{labelled_of}
 use Rattle.canonical.specs.House.{literals_of, names_of, signal_at, signals_of, as_rule, as_case, house_of}
@@ -79,10 +79,9 @@ module _ {sheet : List ℕ} {Γ : Network} (t : Faithful sheet Γ) where
     pub uppers-back : uppers_of Δ ≡ remaining_of Γ
     uppers-back =
         let count : Δ.rules ≡ length (remaining_of Γ) = h.rules ∙ length-map (remaining_of Γ) (as_rule sheet Γ) in
-        uppers_below-max Δ Δ.rules (λ i l.
-        let inside : i < length (remaining_of Γ) = omega arith in
-        ap (λ (c : Constraint). c.kind) (upper-back i inside) ∙ ((each_remains t).each i inside).kind)
-        ∙ tabulate-is (constraint Δ) no_constraint Δ.rules (remaining_of Γ) count upper-back
+        tabulate-is (λ i. upper_of (constraint Δ i)) no_constraint Δ.rules (remaining_of Γ) count (λ i l.
+        let back = upper-back i l in
+        upper_of-max (constraint Δ i) (ap (λ (c : Constraint). c.kind) back ∙ ((each_remains t).each i l).kind) ∙ back)
 
     -- an event that is listed has its label again
     listed_back : (u : ℕ) → u < Γ.events → is_none_lem (event_label Γ u) ≡ false → event_label Δ u ≡ event_label Γ u

@@ -19,7 +19,7 @@ use Rattle.line.specs.Labelling.{is_none_lem}
 use Rattle.layout.specs.Layout.{section, case_line, cases_text}
 use Rattle.canonical.specs.Listed.{labelled_at, labelled_of, section_of}
 use Rattle.canonical.specs.House.{as_case}
-use Rattle.canonical.specs.Most.{most_count, most_cases}
+use Rattle.layout.specs.Most.{most_count, most_cases}
 use Rattle.canonical.proofs.Gathered.{line_by, counted_gathered, gathered_pushed}
 use Rattle.canonical.proofs.Listed.{section-some}
 

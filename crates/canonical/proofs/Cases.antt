@@ -2,16 +2,14 @@
 -- each once; no event is listed twice, and the start has no label. Assumes nothing.
 use mathlib.Core.Path.{◌≡◌, sym, ◌∙◌, ap}
 use mathlib.Core.List.{List, [], map}
-use Prim.Native.Nat.{ℕ, ◌≤◌, ◌<◌}
+use Prim.Native.Nat.{ℕ, ◌<◌}
 use native.Mathlib.Omega.{arith}
 use lib.ListN.{length, get_or, length-map}
 use Rattle.prelude.specs.Lists.{In, Distinct, Each}
 use Rattle.prelude.proofs.Bounded.{length-tabulate, get_d_tabulate}
-use Rattle.prelude.proofs.Gather.{length-gather}
 use Rattle.prelude.proofs.Lists.{each_mono}
 use Rattle.prelude.proofs.Mapped.{get_d_map, each_map}
 use Rattle.prelude.proofs.Tests.{clash}
-use Rattle.network.specs.Limits as L
 use Rattle.network.specs.Build.{name_of_lem, event_label}
 use Rattle.network.specs.declared.Label.{Label}
 use Rattle.network.specs.declared.Network.{Network}
@@ -20,7 +18,7 @@ use Rattle.line.proofs.Labelling.{is_none_iff}
 use Rattle.layout.specs.Contents.{Case, no_case, signal_letters, case_events}
 use Rattle.layout.specs.Keeps.{KeepsLabel, KeepsCase}
 use Rattle.canonical.specs.Listed.{labelled_of}
-use Rattle.canonical.specs.House.{literal_at, literals_of, names_of, signals_of, as_case}
+use Rattle.canonical.specs.House.{literals_of, names_of, signals_of, as_case}
 use Rattle.canonical.proofs.Signs.{letters-known, letters_once}
 use Rattle.canonical.proofs.Labelled.{IsLabelled, each-labelled, labelled-once}
 use Rattle.canonical.proofs.Faithful.{Faithful, letters-held, event-tells}
@@ -44,19 +42,12 @@ module _ {sheet : List ℕ} {Γ : Network} (t : Faithful sheet Γ) where
         once = letters_once Γ ℓ k letters (letters-held t);
       }
 
-  -- a label has no more letters than there are signals
-  pub label-few : (ℓ : Label) → length (literals_of Γ ℓ) ≤ L.signals
-  label-few ℓ = omega (arith, length-gather (literal_at Γ ℓ) 0 Γ.signals, t.formed.signals)
-
   -- the lines of events with a label
   abbrev pub cases : List Case
   cases = map (as_case sheet Γ) (labelled_of Γ)
 
   pub each_case : (P : Case → Type 0) → ((u : ℕ) → IsLabelled Γ u → P (as_case sheet Γ u)) → Each P cases no_case
   each_case P f = each_map (as_case sheet Γ) P 0 no_case (labelled_of Γ) (each_mono f (each-labelled Γ))
-
-  pub case_labels-few : Each (λ k. length k.label ≤ L.signals) cases no_case
-  case_labels-few = each_case (λ k. length k.label ≤ L.signals) (λ u w. label-few (event_label Γ u))
 
   pub cases-keep : Each (KeepsCase (names_of sheet Γ) letters) cases no_case
   cases-keep =

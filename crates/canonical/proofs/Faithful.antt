@@ -32,7 +32,7 @@ use Rattle.layout.proofs.Finds.{letter_is, mask_is}
 use Rattle.layout.proofs.KindWords.{defined-passes}
 use Rattle.layout.proofs.Accepted.{accepted_iff, network-contains}
 use Rattle.tighten.specs.Upper.{uppers_of}
-use Rattle.tighten.proofs.Rules.{uppers_below-each, uppers-each}
+use Rattle.tighten.proofs.Rules.{upper_of_either, uppers_of-each}
 use Rattle.canonical.specs.House.{names_of, signal_at, signals_of}
 use Rattle.canonical.proofs.Keyed.{LettersAre}
 
@@ -117,9 +117,8 @@ module _ {sheet : List ℕ} {Γ : Network} (t : Faithful sheet Γ) where
 
   pub uppers-apart : Each (λ r. Apart r.label) (uppers_of Γ) no_constraint
   uppers-apart =
-      uppers_below-each (λ r. Apart r.label) Γ Γ.rules (λ i h.
-      let c = constraint Γ i in
-      uppers-each (λ r. Apart r.label) c.kind c (label-apart i h) (label-apart i h))
+      uppers_of-each Γ (λ r. Apart r.label) (λ i h.
+      upper_of_either (λ r. Apart r.label) (constraint Γ i) (label-apart i h) (label-apart i h))
 
   -- what is said of a line holds of the label of an event that has it; where there is none, the label is `-`
   abbrev Lined : ℕ → Type 0

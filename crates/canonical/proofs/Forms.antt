@@ -5,10 +5,8 @@
 use mathlib.Core.Path.{◌≡◌, sym, ◌∙◌, ap}
 use mathlib.Core.Logic.{◌↔◌}
 use mathlib.Core.List.{List}
-use Prim.Native.Nat.{ℕ, ◌≤◌, ◌<◌}
+use Prim.Native.Nat.{ℕ, ◌<◌}
 use native.Mathlib.Omega.{arith}
-use lib.ListN.{length}
-use Rattle.network.specs.Limits as L
 use Rattle.network.specs.Build.{event_label}
 use Rattle.network.specs.Strategy.{reaction}
 use Rattle.network.specs.declared.Network.{Network}
@@ -24,10 +22,7 @@ use Rattle.canonical.proofs.Again.{form_agrees, form-same}
 abbrev from : List ℕ → Network
 from form = network_of form
 
-module _ (sheet : List ℕ) (a : Accepts sheet)
-    (few : length (remaining_of (network_of sheet)) ≤ L.rules)
-    (other : List ℕ) (b : Accepts other)
-    (fits : length (remaining_of (network_of other)) ≤ L.rules) where
+module _ (sheet : List ℕ) (a : Accepts sheet) (other : List ℕ) (b : Accepts other) where
   abbrev Γ : Network
   Γ = network_of sheet
 
@@ -36,9 +31,9 @@ module _ (sheet : List ℕ) (a : Accepts sheet)
 
   pub same_of_equal : house_text sheet Γ ≡ house_text other Δ → Same sheet Γ other Δ
   same_of_equal e =
-      let one = form-same sheet a few in
-      let two = form-same other b fits in
-      let back = form_agrees sheet a few in
+      let one = form-same sheet a in
+      let two = form-same other b in
+      let back = form_agrees sheet a in
       let inside : (p : ℕ) → p < Γ.signals → p < (from (house_text sheet Γ)).signals =
       λ p l. omega (arith, back.signals) in
       let event : (u : ℕ) → u < Γ.events → u < (from (house_text sheet Γ)).events =

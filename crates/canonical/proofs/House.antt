@@ -13,8 +13,8 @@ use Rattle.layout.specs.Layout.{section, signal_line, rule_line, reactions_text,
 use Rattle.tighten.specs.Tightest.{remaining_of}
 use Rattle.canonical.specs.Listed.{slow_of, labelled_of, section_of, before_labels}
 use Rattle.canonical.specs.House.{names_of, signals_of, as_rule, as_case, house_text}
-use Rattle.canonical.specs.Most.{most_count, most_events, most_signals, most_rules, most_reactions, most_cases}
-use Rattle.canonical.specs.Most.{most_form}
+use Rattle.layout.specs.Most.{most_count, most_events, most_signals, most_rules, most_reactions, most_cases}
+use Rattle.layout.specs.Most.{most_form}
 
 pub form_pushed : (sheet : List ℕ) (Γ : Network) {b₀ b₁ b₂ b₃ b₄ b₅ b₆ : List ℕ}
     → Pushed (most_count 7) b₀ (line (ascii "horizon") (decimal Γ.horizon ∷ [])) b₁

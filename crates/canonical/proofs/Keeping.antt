@@ -1,17 +1,16 @@
--- What the form contains keeps the layout's rules, where no more upper bounds remain than a sheet may have: the
--- events and signals are those of a sheet, and each one that remains has events of it for its ends, a limit in range,
--- and letters of it, each once, for its label; the reactions are those of signals, and the labels those of events
--- (`Cases`), which lack nothing (`Whole`). Assumes nothing.
+-- What the form contains keeps the layout's rules: the events and signals are those of a sheet; no more upper bounds
+-- remain than it has rules, and each has events of it for its ends, a limit in range, and letters of it, each once, for
+-- its label; the reactions are those of signals, and the labels those of events (`Cases`), which lack nothing
+-- (`Whole`). Assumes nothing.
 use mathlib.Core.Path.{◌≡◌}
-use mathlib.Core.List.{List, [], map}
-use Prim.Native.Nat.{ℕ, ◌≤◌}
+use mathlib.Core.List.{List, []}
+use Prim.Native.Nat.{ℕ}
 use native.Mathlib.Omega.{arith}
 use lib.ListN.{length, get_or, length-map}
 use Rattle.prelude.specs.Lists.{Each}
 use Rattle.prelude.proofs.Bounded.{length-tabulate}
 use Rattle.prelude.proofs.Lists.{each_mono}
 use Rattle.prelude.proofs.Mapped.{each_map}
-use Rattle.network.specs.Limits as L
 use Rattle.network.specs.Build.{name_of_lem, event_label, constraint, no_constraint}
 use Rattle.network.specs.Complete as N
 use Rattle.network.specs.WellFormed.{Proper}
@@ -25,8 +24,9 @@ use Rattle.layout.specs.Keeps.{KeepsRule, Keeps}
 use Rattle.tighten.specs.Upper.{uppers_of}
 use Rattle.tighten.specs.Tightest.{remaining_of}
 use Rattle.tighten.proofs.Regular.{uppers_regular}
-use Rattle.tighten.proofs.Rules.{uppers_below-each, uppers-each}
+use Rattle.tighten.proofs.Rules.{upper_of_either, uppers_of-each}
 use Rattle.tighten.proofs.Remains.{remaining-each, remaining_regular, remaining-proper}
+use Rattle.tighten.proofs.Few.{remaining_of-few}
 use Rattle.canonical.specs.Listed.{slow_of, labelled_of}
 use Rattle.canonical.specs.House.{names_of, as_rule, as_case, house_of}
 use Rattle.canonical.proofs.Listed.{listed-section, listed-before, labels-follow}
@@ -34,7 +34,7 @@ use Rattle.canonical.proofs.Slow.{slow_few, slow_keep, slow_once}
 use Rattle.canonical.proofs.Labelled.{labelled-few}
 use Rattle.canonical.proofs.Faithful.{Faithful, names-held, signals-held, letters-held}
 use Rattle.canonical.proofs.Faithful.{uppers-apart, event-apart}
-use Rattle.canonical.proofs.Cases.{letters, cases, name_in, label-keeps, label-few, each_case, cases-keep}
+use Rattle.canonical.proofs.Cases.{letters, cases, name_in, label-keeps, each_case, cases-keep}
 use Rattle.canonical.proofs.Cases.{cases_once, start_plain}
 use Rattle.canonical.proofs.Whole.{label-complete}
 
@@ -48,10 +48,9 @@ pub record Remains (Γ : Network) (r : Constraint) : Type 0 where
 module _ {sheet : List ℕ} {Γ : Network} (t : Faithful sheet Γ) where
   uppers-complete : Each (λ r. N.Complete Γ r.label) (uppers_of Γ) no_constraint
   uppers-complete =
-      uppers_below-each (λ r. N.Complete Γ r.label) Γ Γ.rules (λ i h.
-      let c = constraint Γ i in
+      uppers_of-each Γ (λ r. N.Complete Γ r.label) (λ i h.
       let whole = t.formed.labels.complete.rule i h in
-      uppers-each (λ r. N.Complete Γ r.label) c.kind c whole whole)
+      upper_of_either (λ r. N.Complete Γ r.label) (constraint Γ i) whole whole)
 
   pub each_remains : Each (Remains Γ) (remaining_of Γ) no_constraint
   each_remains =
@@ -73,11 +72,6 @@ module _ {sheet : List ℕ} {Γ : Network} (t : Faithful sheet Γ) where
     label = label-keeps t r.label;
   }
 
-  pub labels-few : Each (λ x. length x.label ≤ L.signals) (map (as_rule sheet Γ) (remaining_of Γ)) no_rule
-  labels-few =
-      each_map (as_rule sheet Γ) (λ x. length x.label ≤ L.signals) no_constraint no_rule (remaining_of Γ)
-      (each_mono (λ r w. label-few t r.label) each_remains)
-
   -- no 20 and no 21
   labels-whole : Labelled (house_of sheet Γ)
   labels-whole = record {
@@ -91,8 +85,8 @@ module _ {sheet : List ℕ} {Γ : Network} (t : Faithful sheet Γ) where
         (each_mono (λ r w. label-complete t r.label w.apart w.complete) each_remains);
   }
 
-  pub house-keeps : length (remaining_of Γ) ≤ L.rules → Keeps (house_of sheet Γ)
-  house-keeps few =
+  pub house-keeps : Keeps (house_of sheet Γ)
+  house-keeps =
       let k = t.keeps in
       let names = names-held t.held in
       let signals = signals-held t.held in
@@ -109,7 +103,7 @@ module _ {sheet : List ℕ} {Γ : Network} (t : Faithful sheet Γ) where
         signals = rw (names, signals) k.signals;
         letters_once = rw signals k.letters_once;
         events_once = rw signals k.events_once;
-        few_rules = omega (arith, length-map (remaining_of Γ) (as_rule sheet Γ));
+        few_rules = omega (arith, length-map (remaining_of Γ) (as_rule sheet Γ), remaining_of-few Γ t.formed);
         rules =
             each_map (as_rule sheet Γ) (KeepsRule (names_of sheet Γ) (letters t))
             no_constraint no_rule (remaining_of Γ) (each_mono rule-keeps each_remains);

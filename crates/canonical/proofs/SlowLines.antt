@@ -21,7 +21,7 @@ use Rattle.network.specs.Strategy.{reaction, reaction_of_lem}
 use Rattle.network.specs.declared.Network.{Network}
 use Rattle.layout.specs.Layout.{reaction_line, reactions_text}
 use Rattle.canonical.specs.Listed.{slow_by, slow_at, slow_of, before_labels}
-use Rattle.canonical.specs.Most.{most_count, most_reactions}
+use Rattle.layout.specs.Most.{most_count, most_reactions}
 use Rattle.canonical.proofs.Gathered.{line_by, counted_gathered, gathered_pushed}
 use Rattle.canonical.proofs.Listed.{before-some}
 

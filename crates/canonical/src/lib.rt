@@ -2,7 +2,7 @@
 // one is written while the other is read.
 #![tactic(auto)]
 
-ghost use Rattle.std.specs.Prelude.{◌≡◌, [], ◌∷◌, map, ◌+◌, ◌≤◌, ◌<◌, length, Some};
+ghost use Rattle.std.specs.Prelude.{◌≡◌, [], ◌∷◌, map, ◌+◌, ◌≤◌, ◌<◌, length};
 ghost use Rattle.prelude.specs.Gather.{ahead};
 ghost use Rattle.text.specs.Lines.{comma, line};
 ghost use Rattle.text.specs.Decimal.{decimal};
@@ -12,13 +12,12 @@ ghost use Rattle.network.specs.Limits as L;
 ghost use Rattle.network.specs.WellFormed.{InLimits, Proper};
 ghost use Rattle.layout.specs.Layout.{lines, section, signal_line, rule_line, signed_text};
 ghost use Rattle.layout.specs.Layout.{label_text, reaction_line, reactions_text, case_line, cases_text};
+ghost use Rattle.layout.specs.Most.{most_count, most_events, most_signals, most_label, most_rule, most_rules};
+ghost use Rattle.layout.specs.Most.{most_reaction, most_reactions, most_case, most_cases, most_form};
 ghost use Rattle.tighten.specs.Tightest.{remaining_of};
-ghost use Rattle.tighten.specs.Fitting.{fitting};
 ghost use Rattle.canonical.specs.Listed.{slow_by, slow_of, labelled_at, labelled_of, section_of, before_labels};
 ghost use Rattle.canonical.specs.Asked.{asked, asked_text};
 ghost use Rattle.canonical.specs.House.{literals_of, names_of, signals_of, as_rule, as_case, house_text};
-ghost use Rattle.canonical.specs.Most.{most_count, most_events, most_signals, most_label, most_rule, most_rules};
-ghost use Rattle.canonical.specs.Most.{most_reaction, most_reactions, most_case, most_cases, most_form};
 
 use network::accepted::Accepted;
 use network::formed::Formed;
@@ -144,7 +143,7 @@ fn push_rule(page: &mut Page<LONGEST>, accepted: &Accepted, upper: &Constraint)
 
 // The upper bounds that remain.
 fn push_rules(page: &mut Page<LONGEST>, accepted: &Accepted, remaining: &UpperBounds)
-    requires { (Some remaining.now ≡ fitting (remaining_of accepted.now.formed.network))
+    requires { (remaining.now ≡ remaining_of accepted.now.formed.network)
         × (length page.old + most_rules ≤ most_form) }
     ensures { Pushed most_rules page.old (section "rules" (map rule_line
         (map (as_rule accepted.now.sheet.now accepted.now.formed.network) (remaining_of accepted.now.formed.network))))
@@ -251,15 +250,14 @@ fn push_cases(page: &mut Page<LONGEST>, accepted: &Accepted)
 }
 
 // The form into out: how many bytes were written, or None where out is too short for them.
-pub fn write(accepted: &Accepted, remaining: &UpperBounds, out: &mut [u8]) -> Option<usize>
-    requires { Some remaining.now ≡ fitting (remaining_of accepted.now.formed.network) }
+pub fn write(accepted: &Accepted, out: &mut [u8]) -> Option<usize>
     ensures { HandedOut (house_text accepted.now.sheet.now accepted.now.formed.network) out.old out.new result }
 {
     let mut page = Page::<LONGEST>::new();
     push_count(&mut page, b"horizon", accepted.formed.network.horizon);
     push_events(&mut page, accepted);
     push_signals(&mut page, accepted);
-    push_rules(&mut page, accepted, remaining);
+    push_rules(&mut page, accepted, &tighten::remaining(&accepted.formed));
     push_reactions(&mut page, &accepted.formed);
     push_cases(&mut page, accepted);
     page.hand_out(out)

@@ -1,20 +1,19 @@
 -- The difference of two times as a signed number, and the bounds on it. Times are below 2^16, so it fits 32 bits with
 -- its sign. Assumes nothing.
-use mathlib.Core.Path.{◌≡◌, sym, ◌∙◌, ap, ap₂}
+use mathlib.Core.Path.{◌≡◌, sym, ◌∙◌, ap₂}
 use mathlib.Core.Logic.{inl, inr}
-use mathlib.Core.Bool.{true, ◌&&◌}
 use Prim.Native.Nat.{ℕ, zero, suc, ◌+◌, ◌-◌, ◌≤◌, ◌<◌}
 use native.Mathlib.Omega.{arith}
-use borrow.Author.Tests.{leb-true, le-leb, lt-leb, eqb-true, eq-eqb, ltb-true, ltb-false}
+use borrow.Author.Tests.{leb-true, le-leb, lt-leb, ltb-true, ltb-false}
 use mir.Syntax.{w32}
 use mir.Val.{SFits, to_z, of_z}
 use mir.Facts.{to_z_pos, to_z-of_z}
-use lib.Dec.{eqb, leb, ltb}
+use lib.Dec.{leb, ltb}
 use lib.IntN.{ℤ, pos, negsuc, ◌-ℤ◌}
 use lib.Signed.{le_z}
-use Rattle.prelude.proofs.Tests.{either, clash, and-true, and_both, by_cond, false_of_not-true}
+use Rattle.prelude.proofs.Tests.{either, clash, by_cond, false_of_not-true}
 use Rattle.network.specs.Constraint.{at_most, at_least, admits}
-use Rattle.network.specs.declared.Kind.TheVariants.{Max, Min, Fix}
+use Rattle.network.specs.declared.Kind.TheVariants.{Max, Min}
 
 -- b - a
 data Difference (a b : ℕ) : ℤ → Type 0 where
@@ -48,30 +47,6 @@ least a b (pos k) (negsuc w) (over _ e) = sym (le-leb a (b + suc w) (omega arith
 least a b (negsuc k) (pos w) (under _ e) = sym (lt-leb (a + w) b (omega arith))
 least a b (negsuc k) (negsuc w) (under _ e) = leb_iff k w a (b + suc w) (λ h. omega arith) (λ h. omega arith)
 
-le_z_refl : (z : ℤ) → le_z z z ≡ true
-le_z_refl (pos n) = le-leb n n (omega arith)
-le_z_refl (negsuc n) = le-leb n n (omega arith)
-
-le_z_antisym : (z w : ℤ) → le_z z w ≡ true → le_z w z ≡ true → z ≡ w
-le_z_antisym (pos a) (pos b) p q = ap pos (omega (arith, leb-true a b p, leb-true b a q))
-le_z_antisym (pos a) (negsuc b) p q = cc
-le_z_antisym (negsuc a) (pos b) p q = cc
-le_z_antisym (negsuc a) (negsuc b) p q = ap negsuc (omega (arith, leb-true b a p, leb-true a b q))
-
--- equality, as the machine compares the bits
-equal : (z w : ℤ) → SFits w32 z → SFits w32 w → eqb (of_z w32 z) (of_z w32 w) ≡ le_z z w && le_z w z
-equal z w hz hw =
-    elim (either (eqb (of_z w32 z) (of_z w32 w))) [
-      | inl e ↦
-          let same : z ≡ w = sym (to_z-of_z hz) ∙ ap (to_z w32) (eqb-true (of_z w32 z) (of_z w32 w) e) ∙ to_z-of_z hw in
-          e ∙ sym (rw same (and_both (le_z w w) (le_z w w) (le_z_refl w) (le_z_refl w)))
-      | inr e ↦
-          e ∙ sym (false_of_not-true (le_z z w && le_z w z) λ t.
-          let p = and-true (le_z z w) (le_z w z) t in
-          clash (eqb (of_z w32 z) (of_z w32 w))
-          (eq-eqb (of_z w32 z) (of_z w32 w) (ap (of_z w32) (le_z_antisym z w p.0 p.1))) e)
-    ]
-
 -- the times a and b, of 16 bits
 module _ (a b : ℕ) (ha : a < 65536) (hb : b < 65536) where
   fits_of : (z : ℤ) → Difference a b z → SFits w32 z
@@ -91,13 +66,10 @@ module _ (a b : ℕ) (ha : a < 65536) (hb : b < 65536) where
   pub held_fits : SFits w32 held
   held_fits = fits_of held is_difference
 
-  -- what the three comparisons with the bound w say
+  -- what the two comparisons with the bound w say
   module _ (w : ℤ) (hw : SFits w32 w) where
     pub max-kept : le_z (to_z w32 (of_z w32 held)) (to_z w32 (of_z w32 w)) ≡ admits Max a b w
     max-kept = rw (to_z-of_z held_fits, to_z-of_z hw) (most a b held w is_difference)
 
     pub min-kept : le_z (to_z w32 (of_z w32 w)) (to_z w32 (of_z w32 held)) ≡ admits Min a b w
     min-kept = rw (to_z-of_z held_fits, to_z-of_z hw) (least a b held w is_difference)
-
-    pub fix_kept : eqb (of_z w32 held) (of_z w32 w) ≡ admits Fix a b w
-    fix_kept = equal held w held_fits hw ∙ ap₂ ◌&&◌ (most a b held w is_difference) (least a b held w is_difference)

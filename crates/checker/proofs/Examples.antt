@@ -9,7 +9,7 @@ use Rattle.network.specs.Happens.{happens}
 use Rattle.network.specs.Constraint.{covers}
 use Rattle.network.specs.Strategy.{reaction_of_lem}
 use Rattle.network.specs.declared.Kind.{Kind}
-use Rattle.network.specs.declared.Kind.TheVariants.{Max, Min, Fix}
+use Rattle.network.specs.declared.Kind.TheVariants.{Max, Min}
 use Rattle.network.specs.declared.Label.{Label}
 use Rattle.network.specs.declared.Constraint.{Constraint}
 use Rattle.network.specs.declared.Network.{Network}
@@ -84,12 +84,18 @@ examples =
     -- a constraint that only scenario 1 satisfies and breaks, after one that only scenario 0 does
     ∷ example (network 60 2 (0 ∷ []) (rule Max 0 1 (pos 9) not_p ∷ rule Max 0 1 (pos 5) p ∷ [])) (0 ∷ 9 ∷ 0 ∷ 6 ∷ [])
     (Breached (Rule 1 1))
-    -- negative limits, which Max and Min take as they stand, and Fix from both sides
+    -- negative limits, which Max and Min take as they stand, and one limit from both sides
     ∷ example (network 60 2 [] (rule Max 1 0 (negsuc 4) always ∷ rule Min 1 0 (negsuc 5) always ∷ [])) (0 ∷ 5 ∷ []) Pass
     ∷ example (network 60 2 [] (rule Max 1 0 (negsuc 4) always ∷ [])) (0 ∷ 4 ∷ []) (Breached (Rule 0 0))
     ∷ example (network 60 2 [] (rule Min 1 0 (negsuc 4) always ∷ [])) (0 ∷ 6 ∷ []) (Breached (Rule 0 0))
-    ∷ example (network 60 2 [] (rule Fix 0 1 (pos 5) always ∷ rule Fix 0 1 (pos 6) always ∷ [])) (0 ∷ 5 ∷ [])
-    (Breached (Rule 0 1))
+    ∷ example
+    (network 60 2 []
+    (rule Max 0 1 (pos 5) always
+    ∷ rule Min 0 1 (pos 5) always
+    ∷ rule Max 0 1 (pos 6) always
+    ∷ rule Min 0 1 (pos 6) always
+    ∷ []))
+    (0 ∷ 5 ∷ []) (Breached (Rule 0 3))
     -- "The first breach may stand between two cases that differ in two": no signal is known at 3, and scenario 3
     -- alone has 4
     ∷ example (network 60 4 (2 ∷ 3 ∷ []) [])

@@ -114,6 +114,5 @@ fn admits(kind: Kind, a: u16, b: u16, bound: i32) -> bool
     match kind {
         Kind::Max => difference <= bound,
         Kind::Min => bound <= difference,
-        Kind::Fix => difference == bound,
     }
 }

@@ -1,14 +1,17 @@
 -- Entries by their keys: what each entry says holds at the places that have its key, and a place whose key no entry has
--- is blank. Here is one entry more, for a place whose key had none, as each line of a reaction and of a label is.
--- Assumes nothing.
+-- is blank. Here is one entry more, for a place whose key had none, as each line of a reaction and of a label is; and a
+-- key is found or is no entry's. Assumes nothing.
 use mathlib.Core.Path.{◌≡◌, sym, ◌∙◌}
+use mathlib.Core.Logic.{◌⊎◌, inl, inr}
+use mathlib.Core.Bool.{Bool, true}
 use mathlib.Core.List.{List, [], ◌∷◌, ◌++◌, map, map-append}
-use Prim.Native.Nat.{ℕ, ◌<◌}
+use Prim.Native.Nat.{ℕ, suc, ◌<◌}
 use native.Mathlib.Omega.{arith}
 use lib.ListN.{length, get_or, length-map, get_or-map}
 use Rattle.prelude.specs.Lists.{In}
 use Rattle.prelude.proofs.Lists.{by_place}
-use Rattle.prelude.proofs.Parts.{in_before, in_last}
+use Rattle.prelude.proofs.Parts.{in_cons, in_before, in_last}
+use Rattle.prelude.proofs.Tests.{either, clash}
 
 -- of the entries ys, read as z behind their end, y is the one more; it is for place p
 module _ {K V Y : Type 0} (key : Y → K) (val : Y → V) (z : Y) (ys : List Y) (y : Y) (p : ℕ)
@@ -40,3 +43,25 @@ module _ {K V Y : Type 0} (key : Y → K) (val : Y → V) (z : Y) (ys : List Y) 
         let out : In f (keys ys ++ key y ∷ []) (key z) → ⊥ = λ i. n (rw map-append i) in
         other (λ s. out (rw (its s) (in_last (key z) (keys ys) (key y))))
         ∙ before (λ i. out (in_before (key z) (keys ys) (key y ∷ []) i))
+
+-- one of the entries has the key k, or none has
+module _ {K Y : Type 0} (test : K → K → Bool) (sound : (a b : K) → test a b ≡ true → a ≡ b)
+    (complete : (a b : K) → a ≡ b → test a b ≡ true) (key : Y → K) (z : Y) (e k : K) where
+  pub record HasKey (ys : List Y) : Type 0 where
+    pub place : ℕ
+    pub place_lt : place < length ys
+    pub is : k ≡ key (get_or ys place z)
+
+  pub keyed_or_not : (ys : List Y) → HasKey ys ⊎ (In k (map key ys) e → ⊥)
+  keyed_or_not [] = inr (λ i. omega (arith, i.place_lt))
+  keyed_or_not (y ∷ ys) =
+      elim (either (test k (key y))) [
+        | inl p ↦ inl (record { place = 0; place_lt = omega arith; is = sound k (key y) p })
+        | inr n ↦ elim (keyed_or_not ys) [
+          | inl w ↦ inl (record { place = suc w.place; place_lt = omega (arith, w.place_lt); is = w.is })
+          | inr none ↦ inr (λ i. elim (in_cons i) [
+            | inl q ↦ clash (test k (key y)) (complete k (key y) (sym q)) n
+            | inr later ↦ none later
+          ])
+        ]
+      ]

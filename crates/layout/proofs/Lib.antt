@@ -1,4 +1,5 @@
--- The reading accepts exactly the layout: start at Accepted, which is the last and the theorem.
+-- The reading accepts exactly the layout: start at Accepted, which is the theorem. Behind it stands what networks of
+-- like contents share, and how long a text is at most.
 pub mod Plain
 pub mod Numbers
 pub mod Labels
@@ -34,3 +35,7 @@ pub mod Text
 pub mod Written
 pub mod Read
 pub mod Accepted
+pub mod Framed
+pub mod Fewer
+pub mod Lengths
+pub mod Short

@@ -41,16 +41,16 @@ use Rattle.layout.proofs.Text.{
 
 module _ (sheet : List ℕ) (h : ℕ) (ns : List (List ℕ)) (xs : List Signal) (rs : List Rule) where
   -- how far the reading comes with each section, and what stands behind it
-  abbrev AtEvents : Progress → List (List ℕ) → List ℕ → Type 0
+  abbrev pub AtEvents : Progress → List (List ℕ) → List ℕ → Type 0
   AtEvents p ms rest = Reads sheet (λ Γ ms. Stands sheet Γ (contents h ms [] [])) p ms rest
 
-  abbrev AtSignals : Progress → List Signal → List ℕ → Type 0
+  abbrev pub AtSignals : Progress → List Signal → List ℕ → Type 0
   AtSignals p ys rest = Reads sheet (λ Γ ys. Stands sheet Γ (contents h ns ys [])) p ys rest
 
   abbrev AtRules : Progress → List Rule → List ℕ → Type 0
   AtRules p ys rest = Reads sheet (λ Γ ys. Stands sheet Γ (contents h ns xs ys)) p ys rest
 
-  horizon-reads : (rest : List ℕ) → h ≤ L.horizon → drop 0 sheet ≡ horizon_text h ++ rest
+  pub horizon-reads : (rest : List ℕ) → h ≤ L.horizon → drop 0 sheet ≡ horizon_text h ++ rest
       → AtEvents (read_horizon_lem sheet) [] rest
   horizon-reads rest high t =
       let r = count-line-reads sheet horizon_heading 0 1 (λ fs. Go (empty (second_number fs)) (after_line sheet 0) 2)
@@ -65,14 +65,14 @@ module _ (sheet : List ℕ) (h : ℕ) (ns : List (List ℕ)) (xs : List Signal) 
         behind = r.0;
       }
 
-  events-read : (rest : List ℕ) → KeptNames ns → 1 ≤ length ns → length ns ≤ L.events
+  pub events-read : (rest : List ℕ) → KeptNames ns → 1 ≤ length ns → length ns ≤ L.events
       → AtEvents (read_horizon_lem sheet) [] (events_text ns ++ rest) → AtEvents (to_events sheet) ns rest
   events-read rest kept least few r =
       and_then_reads sheet (read_horizon_lem sheet) (read_section_lem sheet Events) r
       (section-reads (events-understood sheet h) r.network r.at r.number (λ _. r.held)
       refl ns rest kept least few r.behind)
 
-  signals-read : (rest : List ℕ) → KeptSignals ns xs → length xs ≤ L.signals
+  pub signals-read : (rest : List ℕ) → KeptSignals ns xs → length xs ≤ L.signals
       → AtEvents (to_events sheet) ns (signals_text xs ++ rest) → AtSignals (to_signals sheet) xs rest
   signals-read rest kept few r =
       and_then_reads sheet (to_events sheet) (read_section_lem sheet Signals) r

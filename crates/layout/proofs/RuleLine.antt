@@ -1,6 +1,6 @@
 -- The line of a rule that keeps the layout's rules: the constraint that it adds says what the rule says, and the line
 -- is passed. Assumes nothing.
-use mathlib.Core.Path.{◌≡◌}
+use mathlib.Core.Path.{◌≡◌, refl, ◌∙◌}
 use mathlib.Core.Bool.{true, ◌&&◌}
 use mathlib.Core.Option.{none, get_or}
 use mathlib.Core.List.{List, [], ◌∷◌}
@@ -18,8 +18,9 @@ use Rattle.network.specs.Limits as L
 use Rattle.network.specs.declared.Network.{Network}
 use Rattle.names.specs.Names.{is_name_lem, is_label_lem, label_of, letters_of}
 use Rattle.names.specs.Defined.{all_defined_lem}
-use Rattle.line.specs.Tests.{event_of, ends_tests, rule_tests}
+use Rattle.line.specs.Tests.{event_of, limit_tests, ends_tests, rule_tests}
 use Rattle.line.specs.Sections.{rule_of}
+use Rattle.line.proofs.RuleRefusals.{rule-ends}
 use Rattle.layout.specs.Contents.{Rule, Contents, signal_letters}
 use Rattle.layout.specs.Keeps.{KeepsRule}
 use Rattle.layout.specs.Layout.{kind_text, signed_text, label_text, rule_fields}
@@ -53,7 +54,7 @@ module _ {sheet : List ℕ} {Γ : Network} {c : Contents} (s : Stands sheet Γ c
   to_is = each_in (λ n. is_name_lem n ≡ true) s.names.each m.to
 
   pub rule-passes : first_failing_lem (rule_tests sheet Γ (kind_text x.kind ∷ rule_fields x)) ≡ none
-  unfolding ends_tests rule_tests
+  unfolding ends_tests
   rule-passes =
       let from = x.from in
       let to = x.to in
@@ -64,11 +65,12 @@ module _ {sheet : List ℕ} {Γ : Network} {c : Contents} (s : Stands sheet Γ c
       let isTo = answers (event_of sheet Γ to) in
       let letters = label-letters s x.label m.label in
       let defined = label-defined s x.label m.label in
-      none_fails (rule_tests sheet Γ (kind_text x.kind ∷ rule_fields x))
-      (kind-passes x.kind
-      & N.is_number_signed_text x.limit
-      & le-leb (magnitude (signed_text x.limit)) L.horizon (N.magnitude-signed_text x.limit m.limit)
-      & and_both (is_name_lem from) (is_name_lem to && is_label_lem label) from_is
+      let number = N.is_number_signed_text x.limit in
+      let within = le-leb (magnitude (signed_text x.limit)) L.horizon (N.magnitude-signed_text x.limit m.limit) in
+      rule-ends sheet Γ (kind_text x.kind ∷ rule_fields x) refl (kind-passes x.kind)
+      (none_fails (limit_tests (signed_text x.limit)) (number & within & tt))
+      ∙ none_fails (ends_tests sheet Γ from to label)
+      (and_both (is_name_lem from) (is_name_lem to && is_label_lem label) from_is
       (and_both (is_name_lem to) (is_label_lem label) to_is (is_label-label_text x.label letters))
       & and_both isFrom (isTo && areDefined bs) (event-answers s.holds from m.from)
       (and_both isTo (areDefined bs) (event-answers s.holds to m.to) defined)

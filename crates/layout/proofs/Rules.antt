@@ -6,11 +6,9 @@ use mathlib.Core.Option.{none}
 use mathlib.Core.List.{List, [], ◌∷◌}
 use Prim.Native.Nat.{ℕ}
 use borrow.Author.Tests.{eqb-true, leb-true}
-use lib.Dec.{eqb}
 use lib.ListN.{length}
 use Rattle.prelude.specs.Search.{answers}
 use Rattle.prelude.specs.Checks.{first_failing_lem}
-use Rattle.prelude.proofs.Checks.{hold}
 use Rattle.prelude.proofs.Lists.{all_of, each_at}
 use Rattle.prelude.proofs.Tests.{and-true}
 use Rattle.text.specs.Lines.{field}
@@ -19,9 +17,10 @@ use Rattle.network.specs.Limits as L
 use Rattle.network.specs.declared.Network.{Network}
 use Rattle.names.specs.Names.{is_name_lem, is_label_lem, label_of, letters_of}
 use Rattle.names.specs.Defined.{all_defined_lem}
-use Rattle.line.specs.Tests.{event_of, kind_of, ends_tests, rule_tests}
+use Rattle.line.specs.Tests.{event_of, kind_tests, ends_tests, rule_tests}
 use Rattle.line.specs.Sections.{rule_of}
 use Rattle.line.specs.declared.Section.TheVariants.{Rules}
+use Rattle.line.proofs.Checks.{all_hold}
 use Rattle.layout.specs.Contents.{Signal, Rule, Contents, no_rule, signal_letters}
 use Rattle.layout.specs.Keeps.{KeepsRule}
 use Rattle.layout.specs.Layout.{kind_text, signed_text, label_text, rule_fields}
@@ -44,9 +43,9 @@ five_are a a' b c d d' e e' p q r = rw (p, ← q, ← r)
 rule-read : {sheet : List ℕ} {Γ : Network} {c : Contents} → Stands sheet Γ c → (fs : List (List ℕ))
     → first_failing_lem (rule_tests sheet Γ fs) ≡ none
     → (x : Rule) × (fs ≡ kind_text x.kind ∷ rule_fields x) × KeepsRule c.names (signal_letters c.signals) x
-unfolding ends_tests rule_tests
+unfolding kind_tests ends_tests rule_tests
 rule-read {sheet} {Γ} s fs e =
-    let t = hold (rule_tests sheet Γ fs) e in
+    let holds = all_hold (rule_tests sheet Γ fs) e in
     let from = field 1 fs in
     let to = field 2 fs in
     let limit = field 3 fs in
@@ -55,21 +54,20 @@ rule-read {sheet} {Γ} s fs e =
     let areDefined = all_defined_lem Γ.signals Γ.letters bs in
     let isFrom = answers (event_of sheet Γ from) in
     let isTo = answers (event_of sheet Γ to) in
-    let p = and-true (eqb (length fs) 5) (answers (kind_of (field 0 fs))) t.0 in
-    let k = kind-read (field 0 fs) p.1 in
-    let q = and-true (is_name_lem from) (is_name_lem to && is_label_lem label) t.1.1.1.0 in
+    let k = kind-read (field 0 fs) (holds 1) (holds 2) in
+    let q = and-true (is_name_lem from) (is_name_lem to && is_label_lem label) (holds 5) in
     let l = is-label label (and-true (is_name_lem to) (is_label_lem label) q.1).1 in
-    let u = and-true isFrom (isTo && areDefined) t.1.1.1.1.0 in
+    let u = and-true isFrom (isTo && areDefined) (holds 6) in
     let v = and-true isTo areDefined u.1 in (
       record { kind = k.0; from = from; to = to; limit = value_of limit; label = label_of label },
-      all_of [] 5 fs (eqb-true (length fs) 5 p.0)
+      all_of [] 5 fs (eqb-true (length fs) 5 (holds 0))
           ∙ five_are (field 0 fs) (kind_text k.0) from to limit (signed_text (value_of limit)) label
-          (label_text (label_of label)) k.1 (N.signed_text_value_of limit t.1.0) l.text,
+          (label_text (label_of label)) k.1 (N.signed_text_value_of limit (holds 3)) l.text,
       record {
         from = event_in s.holds from u.0;
         to = event_in s.holds to v.0;
-        limit = N.value_of_limits limit (leb-true (magnitude limit) L.horizon t.1.1.0);
-        label = label-keeps s (label_of label) v.1 t.1.1.1.1.1.0;
+        limit = N.value_of_limits limit (leb-true (magnitude limit) L.horizon (holds 4));
+        label = label-keeps s (label_of label) v.1 (holds 7);
       },
     )
 

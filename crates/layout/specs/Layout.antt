@@ -8,7 +8,7 @@ use Rattle.prelude.specs.Bytes.{ascii}
 use Rattle.text.specs.Lines.{line}
 use Rattle.text.specs.Decimal.{decimal}
 use Rattle.network.specs.declared.Kind.{Kind}
-use Rattle.network.specs.declared.Kind.TheVariants.{Max, Min, Fix}
+use Rattle.network.specs.declared.Kind.TheVariants.{Max, Min}
 use Rattle.names.specs.Names.{Literal}
 use Rattle.sheet.specs.Reading.{longest}
 use Rattle.layout.specs.Contents.{Signal, Rule, Reaction, Case, Contents}
@@ -34,7 +34,6 @@ label_text (l ∷ ls) = literals_text (l ∷ ls)
 abbrev pub kind_text : Kind → List ℕ
 kind_text Max = ascii "max"
 kind_text Min = ascii "min"
-kind_text Fix = ascii "fix"
 
 -- lines one behind the other
 abbrev pub lines : List (List ℕ) → List ℕ

@@ -1,5 +1,5 @@
--- Lines and why they are refused, by their fields: refusals 3 to 9, and lines that pass. One table, which one theorem
--- covers by computation. Assumes nothing.
+-- Lines and why they are refused, by their fields: refusals 3 to 9, and 22, and lines that pass. One table, which one
+-- theorem covers by computation. Assumes nothing.
 use mathlib.Core.Path.{◌≡◌, refl}
 use mathlib.Core.Bool.{Bool, true, false, ◌&&◌}
 use mathlib.Core.Option.{Option, none, some}
@@ -14,8 +14,8 @@ use Rattle.text.specs.Number.{is_number, in_range}
 use Rattle.refusal.specs.Refusal.{number_of}
 use Rattle.refusal.specs.declared.Cause.{Cause}
 use Rattle.network.specs.declared.Network.{Network}
-use Rattle.line.specs.Tests.{section_tests, event_tests, signal_tests, ends_tests, rule_tests, letter_tests}
-use Rattle.line.specs.Tests.{reaction_tests, placed_tests, label_tests}
+use Rattle.line.specs.Tests.{section_tests, event_tests, signal_tests, kind_tests, ends_tests, rule_tests}
+use Rattle.line.specs.Tests.{letter_tests, reaction_tests, placed_tests, label_tests}
 use Rattle.line.specs.Sections.{heading_of_lem, heading_tests}
 use Rattle.line.specs.declared.Section.TheVariants.{Events, Cases}
 
@@ -102,8 +102,14 @@ examples =
     ∷ signal 8 "q,lock"
     ∷ signal 7 "p,lock"
     ∷ signal 0 "q,start"
-    -- a rule; two faults: the lowest number
+    -- a rule; two faults: the lowest number, but 22 directly after 3
     ∷ rule 3 "most,start,door,5,-"
+    ∷ rule 3 "fox,start,door,5,-"
+    ∷ rule 3 "fix,start,door,5"
+    ∷ rule 3 "fix,start,door,5,-,-"
+    ∷ rule 22 "fix,start,door,5,-"
+    ∷ rule 22 "fix,start,door,-0,-"
+    ∷ rule 22 "fix,start,door,10081,-"
     ∷ rule 4 "max,start,door,-0,-"
     ∷ rule 5 "max,start,door,10081,-"
     ∷ rule 6 "max,start,door,5,p!"
@@ -159,6 +165,6 @@ all_are [] = true
 all_are (x ∷ xs) = eqb (number x.1) x.0 && all_are xs
 
 pub examples_are : all_are examples ≡ true
-unfolding is_number in_range section_tests event_tests signal_tests ends_tests rule_tests letter_tests reaction_tests
-    placed_tests label_tests
+unfolding is_number in_range section_tests event_tests signal_tests kind_tests ends_tests rule_tests letter_tests
+    reaction_tests placed_tests label_tests
 examples_are = refl

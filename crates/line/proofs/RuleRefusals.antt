@@ -1,9 +1,10 @@
 -- Laws of a rule's refusal, test by test, as its reader tries them: its kind and its limit, then its ends and its
 -- label. Assumes nothing.
-use mathlib.Core.Path.{◌≡◌, ap}
-use mathlib.Core.Bool.{Bool, true, false, ◌&&◌, and-false}
-use mathlib.Core.Option.{Option, none, some}
-use mathlib.Core.List.{List}
+use mathlib.Core.Path.{◌≡◌, ◌∙◌, ap}
+use mathlib.Core.Bool.{true, false, ◌&&◌}
+use mathlib.Core.Option.{none, some}
+use Rattle.std.proofs.Math.Option
+use mathlib.Core.List.{List, ◌++◌}
 use Prim.Native.Nat.{ℕ}
 use borrow.Author.Tests.{eq-eqb, ne_eqb, leb-true}
 use mir.Syntax.{w32}
@@ -11,7 +12,6 @@ use mir.Val.{to_z, of_z}
 use mir.ValLaws.{to_z-of_z}
 use lib.IntN.{ℤ}
 use lib.ListN.{length}
-use Rattle.prelude.specs.Search.{when}
 use Rattle.prelude.specs.Bytes.{ascii, same}
 use Rattle.prelude.specs.Checks.{first_failing_lem}
 use Rattle.prelude.proofs.Bytes.{same_true}
@@ -22,30 +22,30 @@ use Rattle.refusal.specs.declared.Cause.{Cause}
 use Rattle.refusal.specs.declared.Cause.TheVariants as C
 use Rattle.network.specs.Limits as L
 use Rattle.network.specs.declared.Kind.{Kind}
-use Rattle.network.specs.declared.Kind.TheVariants.{Max, Min, Fix}
+use Rattle.network.specs.declared.Kind.TheVariants.{Max}
 use Rattle.network.specs.declared.Network.{Network}
 use Rattle.names.specs.Names.{is_name_lem, is_label_lem, label_of}
 use Rattle.names.specs.Defined.{mask_of}
-use Rattle.line.specs.Tests.{Tests, kind_of, event_of, limit_tests, letters_tests, ends_tests, rule_tests}
+use Rattle.line.specs.Tests.{Tests, kind_of, is_retired, kind_tests, event_of, limit_tests, letters_tests, ends_tests}
+use Rattle.line.specs.Tests.{rule_tests}
 use Rattle.line.specs.Sections.{rule_of}
 use Rattle.line.proofs.Checks.{all_hold, fails_before, fails_behind}
 use Rattle.line.proofs.Numbers.{value-fits}
 
--- a kind has three letters
+-- a kind has three letters, also the one that is retired
 other-length : (f g : List ℕ) → (length f ≡ length g → ⊥) → same f g ≡ false
 other-length f g n = false_of_not-true (same f g) (λ e. n (ap length (same_true f g e)))
 
-by_words : (a b c : Bool) → a ≡ false → b ≡ false → c ≡ false
-    → let k : Option Kind = elim a [
-      | true ↦ some Max
-      | false ↦ elim b [ true ↦ some Min | false ↦ when c Fix ]
-    ] in k ≡ none
-by_words a b c p q r = rw (p, q, r)
-
-pub no_kind : (f : List ℕ) → (length f ≡ 3 → ⊥) → kind_of f ≡ none
+pub no_kind : (f : List ℕ) → (length f ≡ 3 → ⊥) → first_failing_lem (kind_tests f) ≡ some C.WrongFields
+unfolding kind_tests
 no_kind f n =
-    by_words (same f (ascii "max")) (same f (ascii "min")) (same f (ascii "fix")) (other-length f (ascii "max") n)
-    (other-length f (ascii "min") n) (other-length f (ascii "fix") n)
+    rw (
+      kind_of,
+      is_retired,
+      other-length f (ascii "max") n,
+      other-length f (ascii "min") n,
+      other-length f (ascii "fix") n,
+    )
 
 -- a limit that passed fits an i32
 pub limit-fits : (f : List ℕ) (z : ℤ) → first_failing_lem (limit_tests f) ≡ none → value_of f ≡ z
@@ -59,35 +59,42 @@ module _ (sheet : List ℕ) (Γ : Network) (fs : List (List ℕ)) where
   unfolding rule_tests
   rule-count n = rw (ne_eqb (length fs) 5 n)
 
-  pub rule-other : kind_of (field 0 fs) ≡ none → first_failing_lem (rule_tests sheet Γ fs) ≡ some C.WrongFields
-  unfolding rule_tests
-  rule-other e = rw (e, and-false)
+  abbrev kind : Tests
+  kind = kind_tests (field 0 fs)
 
-  module _ (k : Kind) (n : length fs ≡ 5) (e : kind_of (field 0 fs) ≡ some k) where
-    abbrev limit : Tests
-    limit = limit_tests (field 3 fs)
+  abbrev limit : Tests
+  limit = limit_tests (field 3 fs)
 
-    abbrev ends : Tests
-    ends = ends_tests sheet Γ (field 1 fs) (field 2 fs) (field 4 fs)
+  abbrev ends : Tests
+  ends = ends_tests sheet Γ (field 1 fs) (field 2 fs) (field 4 fs)
 
-    pub rule-limit : (c : Cause) → first_failing_lem limit ≡ some c → first_failing_lem (rule_tests sheet Γ fs) ≡ some c
+  module _ (n : length fs ≡ 5) where
+    pub rule-kind : (c : Cause) → first_failing_lem kind ≡ some c → first_failing_lem (rule_tests sheet Γ fs) ≡ some c
     unfolding rule_tests
-    rule-limit c h = rw (eq-eqb (length fs) 5 n, e) (fails_before limit ends c h)
+    rule-kind c h = rw (eq-eqb (length fs) 5 n) (fails_before kind (limit ++ ends) c h)
 
-    pub rule-ends : first_failing_lem limit ≡ none → first_failing_lem (rule_tests sheet Γ fs) ≡ first_failing_lem ends
-    unfolding rule_tests
-    rule-ends h = rw (eq-eqb (length fs) 5 n, e) (fails_behind limit ends h)
+    module _ (e : first_failing_lem kind ≡ none) where
+      pub rule-limit : (c : Cause) → first_failing_lem limit ≡ some c
+          → first_failing_lem (rule_tests sheet Γ fs) ≡ some c
+      unfolding rule_tests
+      rule-limit c h = rw (eq-eqb (length fs) 5 n) (fails_behind kind (limit ++ ends) e ∙ fails_before limit ends c h)
 
-    -- what it holds
-    pub rule-is : (a b : ℕ) (z : ℤ) → event_of sheet Γ (field 1 fs) ≡ some a → event_of sheet Γ (field 2 fs) ≡ some b
-        → value_of (field 3 fs) ≡ z → rule_of sheet Γ fs ≡ record {
-          kind = k;
-          from = a;
-          to = b;
-          bound = z;
-          label = mask_of Γ.signals Γ.letters (label_of (field 4 fs));
-        }
-    rule-is a b z p q v = rw (e, p, q, v)
+      pub rule-ends : first_failing_lem limit ≡ none
+          → first_failing_lem (rule_tests sheet Γ fs) ≡ first_failing_lem ends
+      unfolding rule_tests
+      rule-ends h = rw (eq-eqb (length fs) 5 n) (fails_behind kind (limit ++ ends) e ∙ fails_behind limit ends h)
+
+  -- what it holds
+  pub rule-is : (k : Kind) (a b : ℕ) (z : ℤ) → Option.get_or (kind_of (field 0 fs)) Max ≡ k
+      → event_of sheet Γ (field 1 fs) ≡ some a → event_of sheet Γ (field 2 fs) ≡ some b → value_of (field 3 fs) ≡ z
+      → rule_of sheet Γ fs ≡ record {
+        kind = k;
+        from = a;
+        to = b;
+        bound = z;
+        label = mask_of Γ.signals Γ.letters (label_of (field 4 fs));
+      }
+  rule-is k a b z e p q v = rw (e, p, q, v)
 
 -- the ends and the label of a rule
 module _ (sheet : List ℕ) (Γ : Network) (from to label : List ℕ) where

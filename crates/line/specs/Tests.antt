@@ -11,7 +11,7 @@ use Rattle.refusal.specs.declared.Cause.TheVariants as C
 use Rattle.network.specs.Limits as L
 use Rattle.network.specs.Build.{reaction_stated, is_labelled}
 use Rattle.network.specs.declared.Kind.{Kind}
-use Rattle.network.specs.declared.Kind.TheVariants.{Max, Min, Fix}
+use Rattle.network.specs.declared.Kind.TheVariants.{Max, Min}
 use Rattle.network.specs.declared.Network.{Network}
 use Rattle.names.specs.Names.{is_name_lem, is_one_letter_lem, is_label_lem, label_of, letters_of}
 use Rattle.names.specs.Defined.{event_named, place_of, all_defined_lem, gives_signal_lem}
@@ -45,11 +45,16 @@ abbrev pub kind_of : List ℕ → Option Kind
 kind_of f =
     elim (same f (ascii "max")) [
       | true ↦ some Max
-      | false ↦ elim (same f (ascii "min")) [
-        | true ↦ some Min
-        | false ↦ when (same f (ascii "fix")) Fix
-      ]
+      | false ↦ when (same f (ascii "min")) Min
     ]
+
+-- the kind that is retired (02, point 7)
+abbrev pub is_retired : List ℕ → Bool
+is_retired f = same f (ascii "fix")
+
+-- the kind of a rule; "22, the row is a `fix`, with its line, tried directly after 3" (02, point 7)
+unfoldable pub kind_tests : List ℕ → Tests
+kind_tests f = (answers (kind_of f) || is_retired f, C.WrongFields) ∷ (not (is_retired f), C.RetiredKind) ∷ []
 
 -- "the event already gives a signal", where it is defined
 abbrev pub is_observation : Network → Option ℕ → Bool
@@ -126,8 +131,8 @@ module _ (sheet : List ℕ) (Γ : Network) where
   -- `kind,from,to,limit,label`
   unfoldable pub rule_tests : List (List ℕ) → Tests
   rule_tests fs =
-      (eqb (length fs) 5 && answers (kind_of (field 0 fs)), C.WrongFields)
-      ∷ (limit_tests (field 3 fs) ++ ends_tests (field 1 fs) (field 2 fs) (field 4 fs))
+      (eqb (length fs) 5, C.WrongFields)
+      ∷ (kind_tests (field 0 fs) ++ (limit_tests (field 3 fs) ++ ends_tests (field 1 fs) (field 2 fs) (field 4 fs)))
 
 module _ (Γ : Network) where
   -- the letters of a label

@@ -96,7 +96,7 @@ fn rule_fields(line: &[u8], defined: &Defined) -> Result<Entry, Cause>
     ensures { result ≡ entry_by line.now Rules defined.now.sheet.now defined.now.network.now }
 {
     let fields = Fields::<5>::of(line).ok_or(Cause::WrongFields)?;
-    let kind = field::kind_of(fields.at(0)).ok_or(Cause::WrongFields)?;
+    let kind = field::kind_of(fields.at(0))?;
     let bound = field::limit_of(fields.at(3))?;
     let first = fields.at(1);
     let second = fields.at(2);

@@ -1,11 +1,12 @@
 // A line and its fields: numbers and kinds.
 ghost use Rattle.std.specs.Prelude.{◌≡◌, true, false, MatchResult};
-ghost use Rattle.prelude.specs.Options.{option_of};
+ghost use Rattle.std.proofs.Math.Option;
 ghost use Rattle.prelude.specs.Bytes.{is_in};
 ghost use Rattle.text.specs.Lines.{line_feed, up_to};
 ghost use Rattle.text.specs.Number.{magnitude, value_of};
 ghost use Rattle.refusal.specs.declared.Cause.TheVariants.{MissingLine};
-ghost use Rattle.line.specs.Tests.{count_tests, limit_tests, kind_of};
+ghost use Rattle.network.specs.declared.Kind.TheVariants.{Max};
+ghost use Rattle.line.specs.Tests.{count_tests, limit_tests, kind_tests, kind_of};
 ghost use Rattle.line.specs.Answers.{passing};
 
 use network::{Kind, Network};
@@ -23,14 +24,15 @@ pub(crate) fn line_of(rest: &[u8]) -> Result<&[u8], Cause>
 }
 
 // The kind of a rule.
-pub(crate) fn kind_of(f: &[u8]) -> Option<Kind>
-    ensures { result ≡ option_of (kind_of f.now) }
+#[tactic(auto, unfolding(crate::specs::Tests::kind_tests))]
+pub(crate) fn kind_of(f: &[u8]) -> Result<Kind, Cause>
+    ensures { result ≡ passing (kind_tests f.now) (Option.get_or (kind_of f.now) Max) }
 {
     match f {
-        b"max" => Some(Kind::Max),
-        b"min" => Some(Kind::Min),
-        b"fix" => Some(Kind::Fix),
-        _ => None,
+        b"max" => Ok(Kind::Max),
+        b"min" => Ok(Kind::Min),
+        b"fix" => Err(Cause::RetiredKind),
+        _ => Err(Cause::WrongFields),
     }
 }
 

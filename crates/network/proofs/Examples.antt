@@ -12,7 +12,7 @@ use Rattle.network.specs.Happens.{happens, given, tells}
 use Rattle.network.specs.Constraint.{admits, covers}
 use Rattle.network.specs.Strategy.{reaction_of_lem, known_from, known}
 use Rattle.network.specs.declared.Kind.{Kind}
-use Rattle.network.specs.declared.Kind.TheVariants.{Max, Min, Fix}
+use Rattle.network.specs.declared.Kind.TheVariants.{Max, Min}
 use Rattle.network.specs.declared.Label.{Label}
 use Rattle.network.specs.declared.Constraint.{Constraint}
 use Rattle.network.specs.declared.Network.{Network}
@@ -43,9 +43,6 @@ rows =
     ∷ row Min (pos 5) 3 7 false true true
     ∷ row Min (pos 0) 3 2 false true true
     ∷ row Min (negsuc 4) 8 2 false true true
-    ∷ row Fix (pos 5) 3 7 false true false
-    ∷ row Fix (pos 0) 3 2 false true false
-    ∷ row Fix (negsuc 4) 8 2 false true false
     ∷ row Max (pos 10080) 0 10079 true true false
     ∷ row Min (negsuc 10079) 10081 0 false true true
     ∷ []

@@ -43,7 +43,7 @@ same-events-back h =
     record { events = sym h.events; signals = sym h.signals; happen = λ s u. sym (h.happen s u) }
 
 module _ {Γ Δ : Network} (same : SameEvents Γ Δ) where
-  no_later_of_same : (σ τ : List ℕ) → NoLater Γ σ τ → NoLater Δ σ τ
+  pub no_later_of_same : (σ τ : List ℕ) → NoLater Γ σ τ → NoLater Δ σ τ
   no_later_of_same σ τ h = record {
     at_most = λ s u hs hu e.
         rw same.events at

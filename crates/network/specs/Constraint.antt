@@ -3,7 +3,7 @@ use Rattle.std.specs.Prelude.{Bool, ◌&&◌, ℕ, suc, ◌+◌, ℤ, pos, negsu
 use Rattle.network.specs.Scenario.{satisfies}
 use Rattle.network.specs.Happens.{happens}
 use Rattle.network.specs.declared.Kind.{Kind}
-use Rattle.network.specs.declared.Kind.TheVariants.{Max, Min, Fix}
+use Rattle.network.specs.declared.Kind.TheVariants.{Max, Min}
 use Rattle.network.specs.declared.Constraint.{Constraint}
 use Rattle.network.specs.declared.Network.{Network}
 
@@ -21,7 +21,6 @@ at_least a b (negsuc w) = leb a (b + suc w)
 abbrev pub admits : Kind → ℕ → ℕ → ℤ → Bool
 admits Max a b w = at_most a b w
 admits Min a b w = at_least a b w
-admits Fix a b w = at_most a b w && at_least a b w
 
 -- the constraint counts in scenario s: its label holds there, and "A rule covers a case only if both its events happen
 -- there" (02, point 6)

@@ -26,16 +26,13 @@ fastest = 1
 abbrev pub slowest : ℕ
 slowest = 60
 
--- a rule sets at most two bounds between the times of its events: a `fix` two, the others one
-abbrev pub bounds : ℕ
-bounds = 2 * rules
-
--- and an event waits for as many signals as its label has letters: so many bounds may a case list, besides
+-- an event waits for as many signals as its label has letters
 abbrev pub waits : ℕ
 waits = events * signals
 
+-- a rule sets one bound between the times of its events, and a wait another: so many may a case list
 abbrev pub listed : ℕ
-listed = bounds + waits
+listed = rules + waits
 
 -- "There are 2^k cases", and a table has "n × 2^k in all"
 abbrev pub cases : ℕ

@@ -22,8 +22,6 @@ pub enum Kind {
     Max,
     // At least the limit.
     Min,
-    // Equal to the limit.
-    Fix,
 }
 
 // A label: the sum of the weights of its true letters, and that of its false ones.
@@ -118,10 +116,8 @@ impl Network {
 
     pub const RULES: usize = 64;
 
-    // As many bounds between two times as the rules set at most; and as the rules and the waits for signals do.
-    pub const BOUNDS: usize = 2 * Self::RULES;
-
-    pub const LISTED: usize = Self::BOUNDS + Self::EVENTS * Self::SIGNALS;
+    // As many bounds between two times as the rules and the waits for signals set at most.
+    pub const LISTED: usize = Self::RULES + Self::EVENTS * Self::SIGNALS;
 
     // How many minutes after its event a signal is known, at least and at most.
     pub const FASTEST: u16 = 1;

@@ -7,22 +7,21 @@ use mathlib.Core.List.{List, [], ◌∷◌}
 use Prim.Native.Nat.{ℕ}
 use lib.ListN.{length}
 use Rattle.std.specs.Prelude.{Option, Some, None, Result, Ok, Err, ok_or, MatchResult, IsErrAnd}
-use Rattle.prelude.proofs.Tests.{either, zero-is-one}
+use Rattle.prelude.specs.Checks.{Hold, FirstFails}
 use Rattle.page.specs.HandedOut.{is_room, count_of, memory_after, HandedOut}
 use Rattle.refusal.specs.declared.Cause.TheVariants.{BufferTooShort, TooManyRows}
 use Rattle.refusal.specs.declared.Refusal.{Refusal}
-use Rattle.network.specs.declared.Constraint.{Constraint}
 use Rattle.network.specs.declared.Network.{Network}
 use Rattle.sheet.specs.Reading.{read}
 use Rattle.listing.specs.Listing.{listing}
-use Rattle.tighten.specs.Tightest.{remaining_of}
-use Rattle.tighten.specs.Fitting.{fitting}
 use Rattle.canonical.specs.House.{house_text}
+use Rattle.conversion.specs.FormerRules.{read_as_max_lem}
+use Rattle.conversion.specs.Converted.{resulting, converted}
 use Rattle.calls.specs.Values.{OrRefusal}
-use Rattle.calls.specs.Call.{without_line_lem, Left, Leaves, Tests}
+use Rattle.calls.specs.Call.{without_line_lem, call, Left, Leaves, Tests}
 use Rattle.calls.specs.Lent.{in_place_lem}
 use Rattle.calls.specs.Calls.{enough, writing, refusing, listed, fit}
-use Rattle.calls.specs.Calls.{house_tests, housed}
+use Rattle.calls.specs.Calls.{house_tests, housed, convert_tests, converting}
 use Rattle.calls.specs.Bench.{packed_left}
 use Rattle.calls.proofs.Call.{call-refused, call_fails, call_works}
 use Rattle.opening.specs.Prologue.{handed_in_lem}
@@ -95,44 +94,56 @@ module _ (sheet t m : List ℕ) where
       handed_fails sheet t (refusing (in_place_lem m)) rest (λ Δ. writing (in_place_lem m) (text Δ)) Γ q _
       (inl (short, refl)))
 
--- whether the rows that remain fit
-fits : (rows : List Constraint) → (fitting rows ≡ None → fit rows ≡ false)
-    × ((rs : List Constraint) → Some rs ≡ fitting rows → fit rows ≡ true)
-fits rows =
-    elim (either (fit rows)) [
-      | inl h ↦ (
-        λ e. zero-is-one (let z : ◌≡◌ {A = Option (List Constraint)} (Some rows) None = rw h at e in cc),
-        λ rs e. h,
-      )
-      | inr h ↦ (
-        λ e. h,
-        λ rs e. zero-is-one (let z : ◌≡◌ {A = Option (List Constraint)} (Some rs) None = rw h at e in cc),
-      )
-    ]
+-- a text of what the sheet is read into: a house form, or a converted sheet
+module _ (sheet m : List ℕ) (tests : Network → Tests) (text : Network → List ℕ) where
+  abbrev left : Left (OrRefusal ℕ)
+  left = call (refusing (in_place_lem m)) sheet tests (λ Γ. writing (in_place_lem m) (text Γ))
+
+  pub text-refused : (r : Refusal) → read sheet ≡ Err r → Leaves left (Err r) m
+  text-refused r p =
+      kept m r (call-refused (refusing (in_place_lem m)) sheet tests (λ Γ. writing (in_place_lem m) (text Γ)) r p)
+
+  module _ (Γ : Network) (a : read sheet ≡ Ok Γ) where
+    pub text_fails : (r : Refusal) → FirstFails (tests Γ) r → Leaves left (Err r) m
+    text_fails r f =
+        kept m r
+        (call_fails (refusing (in_place_lem m)) sheet tests (λ Δ. writing (in_place_lem m) (text Δ)) Γ a r f)
+
+    pub text-written : (x : List ℕ) (w : Option ℕ) → HandedOut (text Γ) m x w
+        → (is_room (text Γ) m ≡ true → Hold (tests Γ))
+        → (is_room (text Γ) m ≡ false → FirstFails (tests Γ) (without_line_lem BufferTooShort))
+        → Leaves left (or_short w) x
+    text-written x w is room short =
+        written-by (text Γ) m x w is
+        (λ r. call_works (refusing (in_place_lem m)) sheet tests (λ Δ. writing (in_place_lem m) (text Δ)) Γ a (room r))
+        (λ s.
+        call_fails (refusing (in_place_lem m)) sheet tests (λ Δ. writing (in_place_lem m) (text Δ)) Γ a _ (short s))
 
 -- the house form
 module _ (sheet m : List ℕ) where
-  abbrev form : Network → Left (OrRefusal ℕ)
-  form Γ = writing (in_place_lem m) (house_text sheet Γ)
-
   pub house_refused : (r : Refusal) → read sheet ≡ Err r → Leaves (housed sheet m) (Err r) m
-  house_refused r p =
-      kept m r (call-refused (refusing (in_place_lem m)) sheet (house_tests sheet (in_place_lem m)) form r p)
+  house_refused = text-refused sheet m (house_tests sheet (in_place_lem m)) (house_text sheet)
 
-  module _ (Γ : Network) (a : read sheet ≡ Ok Γ) where
-    pub house-many : fitting (remaining_of Γ) ≡ None → Leaves (housed sheet m) (Err (without_line_lem TooManyRows)) m
-    house-many h =
-        kept m _
-        (call_fails (refusing (in_place_lem m)) sheet (house_tests sheet (in_place_lem m)) form Γ a _
-        (inl ((fits (remaining_of Γ)).0 h, refl)))
+  pub house-written : (Γ : Network) → read sheet ≡ Ok Γ → (x : List ℕ) (w : Option ℕ)
+      → HandedOut (house_text sheet Γ) m x w → Leaves (housed sheet m) (or_short w) x
+  house-written Γ a x w is =
+      text-written sheet m (house_tests sheet (in_place_lem m)) (house_text sheet) Γ a x w is
+      (λ room. (room, tt)) (λ short. inl (short, refl))
 
-    pub house-written : (rs : List Constraint) → Some rs ≡ fitting (remaining_of Γ) → (x : List ℕ) (w : Option ℕ)
-        → HandedOut (house_text sheet Γ) m x w → Leaves (housed sheet m) (or_short w) x
-    house-written rs h x w is =
-        let few = (fits (remaining_of Γ)).1 rs h in
-        written-by (house_text sheet Γ) m x w is
-        (λ room. call_works (refusing (in_place_lem m)) sheet (house_tests sheet (in_place_lem m)) form Γ a
-        (few, (room, tt)))
-        (λ short.
-        call_fails (refusing (in_place_lem m)) sheet (house_tests sheet (in_place_lem m)) form Γ a _
-        (inr (few, inl (short, refl))))
+-- the converted sheet
+module _ (sheet m : List ℕ) where
+  pub convert_refused : (r : Refusal) → read (read_as_max_lem sheet) ≡ Err r → Leaves (converting sheet m) (Err r) m
+  convert_refused = text-refused (read_as_max_lem sheet) m (convert_tests sheet (in_place_lem m)) (converted sheet)
+
+  module _ (Γ : Network) (a : read (read_as_max_lem sheet) ≡ Ok Γ) where
+    pub convert-many : fit (resulting sheet Γ) ≡ false
+        → Leaves (converting sheet m) (Err (without_line_lem TooManyRows)) m
+    convert-many h =
+        text_fails (read_as_max_lem sheet) m (convert_tests sheet (in_place_lem m)) (converted sheet) Γ a _
+        (inl (h, refl))
+
+    pub convert-written : fit (resulting sheet Γ) ≡ true → (x : List ℕ) (w : Option ℕ)
+        → HandedOut (converted sheet Γ) m x w → Leaves (converting sheet m) (or_short w) x
+    convert-written few x w is =
+        text-written (read_as_max_lem sheet) m (convert_tests sheet (in_place_lem m)) (converted sheet) Γ a x w is
+        (λ room. (few, (room, tt))) (λ short. inr (few, inl (short, refl)))

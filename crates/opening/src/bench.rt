@@ -5,7 +5,7 @@ ghost use Rattle.std.specs.Prelude.{◌≡◌, ◌/◌, ◌<◌, min};
 ghost use Rattle.network.specs.Limits as L;
 ghost use Rattle.calls.specs.Values.{done, number_values};
 ghost use Rattle.calls.specs.Call.{Leaves};
-ghost use Rattle.calls.specs.Calls.{housed};
+ghost use Rattle.calls.specs.Calls.{housed, converting};
 ghost use Rattle.calls.specs.Bench as B;
 ghost use Rattle.opening.specs.Taken.{Taken};
 ghost use Rattle.opening.specs.Packed.{HasRoom, packed_table_lem};
@@ -139,6 +139,13 @@ pub fn opening_house(sheet: &[u8], out: &mut [u8]) -> u64
     ensures { Leaves (B.packed_left (housed sheet.now out.old)) result out.new }
 {
     packed_written(crate::write_house(sheet, out))
+}
+
+// The converter for C.
+pub fn opening_convert(sheet: &[u8], out: &mut [u8]) -> u64
+    ensures { Leaves (B.packed_left (converting sheet.now out.old)) result out.new }
+{
+    packed_written(crate::convert_sheet(sheet, out))
 }
 
 // The player for C.

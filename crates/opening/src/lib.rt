@@ -4,7 +4,7 @@
 
 ghost use Rattle.std.specs.Prelude.{◌≡◌, Ok, Err, MatchResult};
 ghost use Rattle.calls.specs.Call.{Leaves};
-ghost use Rattle.calls.specs.Calls.{summary, judgement, solving, listed, housed};
+ghost use Rattle.calls.specs.Calls.{summary, judgement, solving, listed, housed, converting};
 ghost use Rattle.calls.specs.Play.{events_due_lem, events_due_on_lem};
 ghost use Rattle.calls.specs.Recover.{recovering};
 ghost use Rattle.opening.specs.Prologue.{handed_in_lem, of_unread, of_unanswered};
@@ -21,7 +21,7 @@ use refusal::{Cause, Refusal};
 pub mod bench;
 
 // Lent memory of these lengths is long enough for every sheet: a table's minutes, a listing's bytes as it is written,
-// and the bytes of a sheet, also in its house form. No listing that is longer than the last is read back.
+// and the bytes of a sheet, also in its house form or converted. No listing that is longer than the last is read back.
 pub const TABLE_MINUTES: usize = Network::CELLS;
 
 pub const LISTING_BYTES: usize = listing::LONGEST;
@@ -117,9 +117,20 @@ pub fn write_house(sheet: &[u8], out: &mut [u8]) -> Result<usize, Refusal>
     ensures { Leaves (housed sheet.now out.old) result out.new }
 {
     let accepted = sheet::read(sheet)?;
-    let too_many = Refusal::without_line(Cause::TooManyRows);
-    let remaining = tighten::remaining(&accepted.formed).ok_or(too_many)?;
-    canonical::write(&accepted, &remaining, out).ok_or(Refusal::without_line(Cause::BufferTooShort))
+    canonical::write(&accepted, out).ok_or(Refusal::without_line(Cause::BufferTooShort))
+}
+
+// A former sheet with a `max` and a `min` row in the place of each `fix`, into the first bytes of out.
+pub fn convert_sheet(sheet: &[u8], out: &mut [u8]) -> Result<usize, Refusal>
+    ensures { Leaves (converting sheet.now out.old) result out.new }
+{
+    let former = conversion::read(sheet)?;
+    if Network::RULES < former.rules {
+        return Err(Refusal::without_line(Cause::TooManyRows));
+    }
+    former
+        .write(out)
+        .ok_or(Refusal::without_line(Cause::BufferTooShort))
 }
 
 // Why a list that no case can have heard is refused.

@@ -5,7 +5,7 @@
 ghost use Rattle.std.specs.Prelude.{◌≡◌};
 ghost use Rattle.calls.specs.Values.{number_values};
 ghost use Rattle.calls.specs.Call.{Leaves};
-ghost use Rattle.calls.specs.Calls.{housed};
+ghost use Rattle.calls.specs.Calls.{housed, converting};
 ghost use Rattle.calls.specs.Bench as B;
 
 use opening::bench;
@@ -48,6 +48,14 @@ pub extern "C" fn opening_house(sheet: &[u8], out: &mut [u8]) -> u64
     ensures { Leaves (B.packed_left (housed sheet.now out.old)) result out.new }
 {
     bench::opening_house(sheet, out)
+}
+
+// The converter for C.
+#[unsafe(no_mangle)]
+pub extern "C" fn opening_convert(sheet: &[u8], out: &mut [u8]) -> u64
+    ensures { Leaves (B.packed_left (converting sheet.now out.old)) result out.new }
+{
+    bench::opening_convert(sheet, out)
 }
 
 // The player for C.

@@ -1,6 +1,6 @@
 -- The refusals' numbers, as document 01 lists them under "Refused sheets and calls, in checking order", and document
 -- 02 goes on.
-use Rattle.std.specs.Prelude.{ℕ}
+use Rattle.std.specs.Prelude.{cond, ℕ, ◌*◌, eqb}
 use Rattle.refusal.specs.declared.Cause.{Cause}
 use Rattle.refusal.specs.declared.Cause.TheVariants as C
 use Rattle.refusal.specs.declared.Refusal.{Refusal}
@@ -24,7 +24,7 @@ number_of C.Inconsistent = 13
 number_of C.TableFails = 14
 number_of C.MisnamedSignal = 15
 number_of C.NeverHeard = 16
--- "17, more than 64 rows would be left" (02, point 2)
+-- "17 if more than 64 rows would result" (02, point 7)
 number_of C.TooManyRows = 17
 -- "18, the listing is longer than 4,096 bytes (line 1), or its header, cases, fields or line ends are not this
 -- sheet's, a line missing or left over included; 19, a minute is ill-formed, negative or over 65,535" (02, point 4),
@@ -35,6 +35,13 @@ number_of C.NoMinute = 19
 -- whose signal it uses; both after 9" (02, point 6)
 number_of C.StartLabelled = 20
 number_of C.IncompleteLabel = 21
+-- "22, the row is a `fix`, with its line, tried directly after 3" (02, point 7)
+number_of C.RetiredKind = 22
+
+-- where a cause stands among the tests of one line: "on one line the lowest number does" (01, Refused sheets and
+-- calls), but 22 is "tried directly after 3" (02, point 7), which has the turn 6, and before 4, which has 8
+abbrev pub turn_of : Cause → ℕ
+turn_of c = cond (eqb (number_of c) 22) 7 (2 * number_of c)
 
 -- a refusal with its line
 abbrev pub refusal : Cause → ℕ → Refusal

@@ -40,7 +40,7 @@ pub enum Cause {
     MisnamedSignal = 15,
     // No case has heard exactly this list.
     NeverHeard = 16,
-    // More rows than a sheet may have would be left in its house form.
+    // More rules than a sheet may have would result where a former sheet is converted.
     TooManyRows = 17,
     // A listing is longer than 4,096 bytes, or its header, cases, fields or line ends are not the sheet's.
     OtherForm = 18,
@@ -50,6 +50,8 @@ pub enum Cause {
     StartLabelled = 20,
     // A label lacks part of the label of an event whose signal it uses.
     IncompleteLabel = 21,
+    // The row is a `fix`, which the converter alone reads.
+    RetiredKind = 22,
 }
 
 // A line is counted from 1; 0 where the refusal concerns no line, as the papers and include/opening.h have it.

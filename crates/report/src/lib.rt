@@ -31,7 +31,7 @@ fn count(rt: &impl Print, word: &str, written: Result<usize, Refusal>) -> io::Re
     }
 }
 
-// The four calls that write have one shape here, and none takes the call as a closure: each ties what it counts to the
+// The five calls that write have one shape here, and none takes the call as a closure: each ties what it counts to the
 // memory that it lent.
 
 // The least good table: its minutes. Where there is none, or the sheet is refused, that is printed behind the word.
@@ -72,6 +72,19 @@ pub fn house(
     ensures err { OnErr result (page.new ≡ page.old) }
 {
     count(rt, word, opening::write_house(sheet, page))
+}
+
+// The converted sheet, in the same way: its bytes.
+pub fn convert(
+    rt: &impl Print,
+    word: &str,
+    sheet: &[u8],
+    page: &mut [u8],
+) -> io::Result<Option<usize>>
+    ensures ok { IfOk result (λ counted. IfSome counted (λ n. IsPrefixLen n page.new)) }
+    ensures err { OnErr result (page.new ≡ page.old) }
+{
+    count(rt, word, opening::convert_sheet(sheet, page))
 }
 
 // The listing, in the same way: its bytes.

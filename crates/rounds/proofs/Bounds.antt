@@ -1,22 +1,21 @@
--- What the constraints ask agrees with point 2: a constraint holds in a scenario exactly when neither of its halves
--- asks more than the times that are there. Assumes nothing.
+-- What the constraints ask agrees with point 2: a constraint holds in a scenario exactly when it asks no more than the
+-- times that are there. Assumes nothing.
 use mathlib.Core.Path.{◌≡◌, refl}
-use mathlib.Core.Bool.{Bool, true, false, ◌&&◌, cond}
+use mathlib.Core.Bool.{Bool, true, false, cond}
 use mathlib.Core.List.{List}
 use lib.IntN.{ℤ, pos, negsuc}
 use Prim.Native.Nat.{ℕ, suc, ◌+◌, ◌≤◌}
 use native.Mathlib.Omega.{arith}
 use borrow.Author.Tests.{leb-true, le-leb, eqb-true, eq-eqb}
 use lib.Dec.{eqb}
-use Rattle.prelude.proofs.Tests.{and-true, and_both}
 use Rattle.network.specs.Constraint.{at_most, at_least, admits, covers}
 use Rattle.network.specs.Strategy.{time}
 use Rattle.network.specs.Solution.{Holds}
 use Rattle.network.specs.declared.Kind.{Kind}
-use Rattle.network.specs.declared.Kind.TheVariants.{Max, Min, Fix}
+use Rattle.network.specs.declared.Kind.TheVariants.{Max, Min}
 use Rattle.network.specs.declared.Constraint.{Constraint}
 use Rattle.network.specs.declared.Network.{Network}
-use Rattle.rounds.specs.Propagate.{least_from, least_to, is_upper, is_lower, upper_bound, lower_bound}
+use Rattle.rounds.specs.Propagate.{least_from, least_to, bound_by_kind, constraint_bound}
 
 -- b - a ≤ w exactly when `from` is no sooner than its least time, and w ≤ b - a when `to` is not
 pub from_at_most : (a b : ℕ) (w : ℤ) → at_most a b w ≡ true → least_from b w ≤ a
@@ -44,24 +43,6 @@ pub least_to-near : (e a c : ℕ) (w : ℤ) → a ≤ c + e → least_to a w ≤
 least_to-near e a c (pos w) h = omega arith
 least_to-near e a c (negsuc w) h = omega arith
 
--- a kind is its upper half, its lower half or both
-module _ (a b : ℕ) (w : ℤ) where
-  upper_half : (k : Kind) → admits k a b w ≡ true → is_upper k ≡ true → at_most a b w ≡ true
-  upper_half Max h e = h
-  upper_half Min h e = cc
-  upper_half Fix h e = (and-true (at_most a b w) (at_least a b w) h).0
-
-  lower_half : (k : Kind) → admits k a b w ≡ true → is_lower k ≡ true → at_least a b w ≡ true
-  lower_half Max h e = cc
-  lower_half Min h e = h
-  lower_half Fix h e = (and-true (at_most a b w) (at_least a b w) h).1
-
-  halves : (k : Kind) → (is_upper k ≡ true → at_most a b w ≡ true) → (is_lower k ≡ true → at_least a b w ≡ true)
-      → admits k a b w ≡ true
-  halves Max f g = f refl
-  halves Min f g = g refl
-  halves Fix f g = and_both (at_most a b w) (at_least a b w) (f refl) (g refl)
-
 -- what is asked where a test holds, and elsewhere, or nothing elsewhere
 pub either_near : (e : ℕ) (t : Bool) (x x' y y' : ℕ) → x ≤ y + e → x' ≤ y' + e → cond t x x' ≤ cond t y y' + e
 either_near e true x x' y y' h k = h
@@ -81,38 +62,30 @@ module _ (Γ : Network) (σ : List ℕ) (s : ℕ) (c : Constraint) where
   abbrev at : ℕ → ℕ
   at u = time Γ.events σ s u
 
-  abbrev upper_at : ℕ → Bool
-  upper_at u = covers Γ c s && (is_upper c.kind && eqb c.from u)
+  -- for each kind
+  asked_of_admits : (k : Kind) → admits k (at c.from) (at c.to) c.bound ≡ true → (u : ℕ)
+      → bound_by_kind Γ σ k s u c ≤ at u
+  asked_of_admits Max h u =
+      cond_le (eqb c.from u) _ (at u) λ e.
+      rw (← eqb-true c.from u e) (from_at_most (at c.from) (at c.to) c.bound h)
+  asked_of_admits Min h u =
+      cond_le (eqb c.to u) _ (at u) λ e.
+      rw (← eqb-true c.to u e) (to_at_least (at c.from) (at c.to) c.bound h)
 
-  abbrev lower_at : ℕ → Bool
-  lower_at u = covers Γ c s && (is_lower c.kind && eqb c.to u)
+  admits_of_asked : (k : Kind) → bound_by_kind Γ σ k s c.from c ≤ at c.from → bound_by_kind Γ σ k s c.to c ≤ at c.to
+      → admits k (at c.from) (at c.to) c.bound ≡ true
+  admits_of_asked Max f g =
+      at_most_from (at c.from) (at c.to) c.bound
+      (le_cond (eqb c.from c.from) _ _ (eq-eqb c.from c.from refl) f)
+  admits_of_asked Min f g =
+      at_least_to (at c.from) (at c.to) c.bound
+      (le_cond (eqb c.to c.to) _ _ (eq-eqb c.to c.to refl) g)
 
-  pub upper_of_holds : Holds Γ σ s c → (u : ℕ) → upper_bound Γ σ s u c ≤ at u
-  upper_of_holds h u = cond_le (upper_at u) (least_from (at c.to) c.bound) (at u) λ e.
-      let p = and-true (covers Γ c s) (is_upper c.kind && eqb c.from u) e in
-      let q = and-true (is_upper c.kind) (eqb c.from u) p.1 in
-      rw (← eqb-true c.from u q.1)
-      (from_at_most (at c.from) (at c.to) c.bound
-      (upper_half (at c.from) (at c.to) c.bound c.kind (h.holds p.0) q.0))
+  pub bound_of_holds : Holds Γ σ s c → (u : ℕ) → constraint_bound Γ σ s u c ≤ at u
+  bound_of_holds h u = cond_le (covers Γ c s) _ (at u) λ e. asked_of_admits c.kind (h.holds e) u
 
-  pub lower_of_holds : Holds Γ σ s c → (u : ℕ) → lower_bound Γ σ s u c ≤ at u
-  lower_of_holds h u = cond_le (lower_at u) (least_to (at c.from) c.bound) (at u) λ e.
-      let p = and-true (covers Γ c s) (is_lower c.kind && eqb c.to u) e in
-      let q = and-true (is_lower c.kind) (eqb c.to u) p.1 in
-      rw (← eqb-true c.to u q.1)
-      (to_at_least (at c.from) (at c.to) c.bound
-      (lower_half (at c.from) (at c.to) c.bound c.kind (h.holds p.0) q.0))
-
-  pub holds_of_bounds : upper_bound Γ σ s c.from c ≤ at c.from → lower_bound Γ σ s c.to c ≤ at c.to
+  pub holds_of_bound : constraint_bound Γ σ s c.from c ≤ at c.from → constraint_bound Γ σ s c.to c ≤ at c.to
       → Holds Γ σ s c
-  holds_of_bounds f g = record {
-    holds = λ e.
-        halves (at c.from) (at c.to) c.bound c.kind
-        (λ k. at_most_from (at c.from) (at c.to) c.bound
-        (le_cond (upper_at c.from) (least_from (at c.to) c.bound) (at c.from) (met e k c.from) f))
-        (λ k. at_least_to (at c.from) (at c.to) c.bound
-        (le_cond (lower_at c.to) (least_to (at c.from) c.bound) (at c.to) (met e k c.to) g));
+  holds_of_bound f g = record {
+    holds = λ e. admits_of_asked c.kind (le_cond (covers Γ c s) _ _ e f) (le_cond (covers Γ c s) _ _ e g);
   }
-    where
-      met : {a b : Bool} → a ≡ true → b ≡ true → (u : ℕ) → a && (b && eqb u u) ≡ true
-      met {a} {b} p q u = and_both a (b && eqb u u) p (and_both b (eqb u u) q (eq-eqb u u refl))

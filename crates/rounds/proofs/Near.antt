@@ -1,8 +1,8 @@
 -- No difference between two strategies grows by what a round asks: times that are at most e later ask for times that
 -- are at most e later. Assumes nothing.
-use mathlib.Core.Bool.{◌&&◌, cond}
+use mathlib.Core.Bool.{cond}
 use mathlib.Core.List.{List}
-use Prim.Native.Nat.{ℕ, ◌+◌, ◌*◌, ◌≤◌, max}
+use Prim.Native.Nat.{ℕ, ◌+◌, ◌*◌, ◌≤◌}
 use native.Mathlib.Omega.{arith}
 use lib.Dec.{eqb}
 use Rattle.prelude.proofs.Bounded.{max_below-near}
@@ -12,15 +12,17 @@ use Rattle.network.specs.Build.{observation, event_label, constraint, scenarios}
 use Rattle.network.specs.Happens.{mentions, happens, tells}
 use Rattle.network.specs.Constraint.{covers}
 use Rattle.network.specs.Strategy.{known_from}
+use Rattle.network.specs.declared.Kind.{Kind}
+use Rattle.network.specs.declared.Kind.TheVariants.{Max, Min}
+use Rattle.network.specs.declared.Constraint.{Constraint}
 use Rattle.network.specs.declared.Network.{Network}
-use Rattle.rounds.specs.Propagate.{is_upper, is_lower, upper_bound, lower_bound, hyperarc, raised, greatest_bound}
+use Rattle.rounds.specs.Propagate.{bound_by_kind, constraint_bound, hyperarc, raised, greatest_bound}
 use Rattle.rounds.proofs.Bounds.{least_from-near, least_to-near, either_near, cond-near}
 
--- what one constraint asks, by both halves
+-- what the constraint of a number asks, what the wait of u for one signal does, and the hyperarc to one scenario
 abbrev pub asks : Network → List ℕ → ℕ → ℕ → ℕ → ℕ
-asks Γ σ s u c = max (upper_bound Γ σ s u (constraint Γ c)) (lower_bound Γ σ s u (constraint Γ c))
+asks Γ σ s u c = constraint_bound Γ σ s u (constraint Γ c)
 
--- what the wait of u for one signal asks, and what the hyperarc to one scenario does
 abbrev pub wait_for : Network → List ℕ → ℕ → ℕ → ℕ → ℕ
 wait_for Γ σ s u p = cond (mentions (event_label Γ u) p) (known_from Γ σ s p) 0
 
@@ -29,16 +31,16 @@ arc_to Γ σ s u r = cond (happens Γ r u) (hyperarc Γ σ s r u) 0
 
 -- each bound is a time and a number, or the least of such, and a time is the greatest of its bounds
 module _ (Γ : Network) (e : ℕ) (σ τ : List ℕ) (o : Over e τ σ) (s : ℕ) where
+  by_kind-near : (u : ℕ) (c : Constraint) (k : Kind) → bound_by_kind Γ σ k s u c ≤ bound_by_kind Γ τ k s u c + e
+  by_kind-near u c Max =
+      cond-near e (eqb c.from u) _ _ (least_from-near e _ _ c.bound (o.at (s * Γ.events + c.to)))
+  by_kind-near u c Min =
+      cond-near e (eqb c.to u) _ _ (least_to-near e _ _ c.bound (o.at (s * Γ.events + c.from)))
+
   asks-near : (u c : ℕ) → asks Γ σ s u c ≤ asks Γ τ s u c + e
   asks-near u c =
       let r = constraint Γ c in
-      omega (
-        arith,
-        cond-near e (covers Γ r s && (is_upper r.kind && eqb r.from u)) _ _
-            (least_from-near e _ _ r.bound (o.at (s * Γ.events + r.to))),
-        cond-near e (covers Γ r s && (is_lower r.kind && eqb r.to u)) _ _
-            (least_to-near e _ _ r.bound (o.at (s * Γ.events + r.from))),
-      )
+      cond-near e (covers Γ r s) _ _ (by_kind-near u r r.kind)
 
   known-near : (p : ℕ) → known_from Γ σ s p ≤ known_from Γ τ s p + e
   known-near p = omega (arith, o.at (s * Γ.events + observation Γ p))

@@ -22,7 +22,7 @@ use Rattle.network.specs.declared.Network.{Network}
 use Rattle.network.proofs.Jointly.{covers_both}
 use Rattle.rounds.specs.Propagate.{raised, greatest_bound, propagate}
 use Rattle.rounds.specs.Hyperarcs.{Waiting, Hyperarcs}
-use Rattle.rounds.proofs.Bounds.{cond_le, le_cond, upper_of_holds, lower_of_holds, holds_of_bounds}
+use Rattle.rounds.proofs.Bounds.{cond_le, le_cond, bound_of_holds, holds_of_bound}
 use Rattle.rounds.proofs.Near.{asks, wait_for, arc_to, raised-near}
 use Rattle.rounds.proofs.ByCell.{length-propagate, time-propagate, over_by-cell, below-by-cell}
 
@@ -73,12 +73,8 @@ module _ (Γ : Network) (σ : List ℕ) where
               arith,
               time-propagate Γ σ s u hs hu,
               raised-here Γ σ s u e,
-              max_below_le (asks Γ σ s u) Γ.rules (time Γ.events σ s u) (λ c hc.
-                  omega (
-                    arith,
-                    upper_of_holds Γ σ s (constraint Γ c) (v.holds s c hs hc) u,
-                    lower_of_holds Γ σ s (constraint Γ c) (v.holds s c hs hc) u,
-                  )),
+              max_below_le (asks Γ σ s u) Γ.rules (time Γ.events σ s u)
+                  (λ c hc. bound_of_holds Γ σ s (constraint Γ c) (v.holds s c hs hc) u),
               max_below_le (wait_for Γ σ s u) Γ.signals (time Γ.events σ s u) (λ p hp.
                   cond_le (mentions (event_label Γ u) p) _ _ (λ m. (w.waits s u hs hu e).waited p hp m)),
               max_below_le (arc_to Γ σ s u) (scenarios Γ) (time Γ.events σ s u) (λ r hr.
@@ -100,7 +96,7 @@ module _ (Γ : Network) (σ : List ℕ) where
             let r = constraint Γ c in
             let proper = W.proper c hc in
             let both = covers_both Γ r s e in
-            (holds_of_bounds Γ σ s r
+            (holds_of_bound Γ σ s r
             (omega (
               arith,
               greatest_le s r.from hs proper.from both.0,

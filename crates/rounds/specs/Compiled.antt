@@ -1,9 +1,8 @@
 -- What the rounds are given of a network: its constraints, and the waits of its labels, as lists of bounds.
-use Rattle.std.specs.Prelude.{◌≡◌, true, cond, List, ℕ, ◌+◌, ◌-◌, ◌≤◌, ◌<◌, max, pos, length}
+use Rattle.std.specs.Prelude.{◌≡◌, true, cond, List, ℕ, ◌-◌, ◌≤◌, ◌<◌, max, pos, length}
 use Rattle.prelude.specs.Bounded.{max_below}
 use Rattle.network.specs.Limits as L
 use Rattle.network.specs.Build.{observation, event_label, constraint, scenarios}
-use Rattle.network.specs.Scenario.{satisfies}
 use Rattle.network.specs.Happens.{mentions, happens}
 use Rattle.network.specs.Strategy.{reaction}
 use Rattle.network.specs.Joint.{joint}
@@ -13,18 +12,8 @@ use Rattle.network.specs.declared.Constraint.{Constraint}
 use Rattle.network.specs.declared.Network.{Network}
 use Rattle.rows.specs.Rows.{RowIn}
 use Rattle.bounds.specs.declared.list.BoundList.{BoundList}
-use Rattle.bounds.specs.Listed.{asks, case, in_case, NoLonger}
-use Rattle.rounds.specs.Propagate.{upper_if, lower_if, constraints_bound, waits_bound, upper_bound, lower_bound}
-
--- the constraint is listed under its own label, in the first k scenarios
-pub record Constrained (c : Constraint) (lists lists' : List BoundList) (k : ℕ) : Type 0 where
-  pub sized : length lists' ≡ length lists
-  pub grows : (s : ℕ) → (case lists' s).count ≤ (case lists s).count + 2
-  pub asks_more : (Γ : Network) (σ row : List ℕ) (s u : ℕ) → s < k → c.from < Γ.events → c.to < Γ.events
-      → RowIn Γ σ s row
-      → asks (in_case lists' s) row u - L.horizon
-      ≡ max (asks (in_case lists s) row u - L.horizon)
-      (max (upper_if Γ σ (satisfies s c.label) s u c) (lower_if Γ σ (satisfies s c.label) s u c))
+use Rattle.bounds.specs.Listed.{asks, in_case, NoLonger}
+use Rattle.rounds.specs.Propagate.{bound_by_kind, constraint_bound, constraints_bound, waits_bound}
 
 -- that event w comes no sooner than so many minutes after an observation, as a constraint
 abbrev pub wait_by : ℕ → ℕ → ℕ → Label → Constraint
@@ -46,7 +35,8 @@ module _ (Γ : Network) where
   -- what the waits of event w for the first p signals ask of event u
   abbrev pub wait_asks : List ℕ → ℕ → ℕ → ℕ → ℕ → ℕ
   wait_asks σ s u w p =
-      max_below p (λ q. cond (mentions (event_label Γ w) q) (lower_if Γ σ (happens Γ s w) s u (wait w q)) 0)
+      max_below p (λ q. cond (mentions (event_label Γ w) q)
+      (cond (happens Γ s w) (bound_by_kind Γ σ Min s u (wait w q)) 0) 0)
 
   -- the lists have at most m bounds a case, and ask f
   pub record Asking (lists : List BoundList) (m : ℕ) (f : List ℕ → ℕ → ℕ → ℕ) : Type 0 where
@@ -57,8 +47,7 @@ module _ (Γ : Network) where
 
   -- what the first i constraints ask
   abbrev pub constraints_ask : ℕ → List ℕ → ℕ → ℕ → ℕ
-  constraints_ask i σ s u =
-      max_below i (λ c. max (upper_bound Γ σ s u (constraint Γ c)) (lower_bound Γ σ s u (constraint Γ c)))
+  constraints_ask i σ s u = max_below i (λ c. constraint_bound Γ σ s u (constraint Γ c))
 
   -- what they all ask, with the waits of the first w events and, of the next, those for the first p signals
   abbrev pub all_ask : ℕ → ℕ → List ℕ → ℕ → ℕ → ℕ

@@ -1,13 +1,13 @@
 -- One round: the time of each event that happens goes up to what the constraints, the waits of labels and the hyperarcs
 -- ask of the strategy before it (004, Theorem 1: value iteration). Document 02, point 8, fixes this round.
-use Rattle.std.specs.Prelude.{Bool, true, false, ◌&&◌, cond, List, ℕ, suc, ◌+◌, ◌-◌, ◌/◌, ◌%◌, max, ℤ, pos, negsuc, eqb}
+use Rattle.std.specs.Prelude.{cond, List, ℕ, suc, ◌+◌, ◌-◌, ◌/◌, ◌%◌, max, ℤ, pos, negsuc, eqb}
 use Rattle.prelude.specs.Bounded.{max_below, tabulate}
 use Rattle.network.specs.Build.{constraint, event_label, scenarios, cells}
 use Rattle.network.specs.Happens.{mentions, happens}
 use Rattle.network.specs.Constraint.{covers}
 use Rattle.network.specs.Strategy.{time, known_from, least_known_lem}
 use Rattle.network.specs.declared.Kind.{Kind}
-use Rattle.network.specs.declared.Kind.TheVariants.{Max, Min, Fix}
+use Rattle.network.specs.declared.Kind.TheVariants.{Max, Min}
 use Rattle.network.specs.declared.Constraint.{Constraint}
 use Rattle.network.specs.declared.Network.{Network}
 
@@ -20,40 +20,22 @@ abbrev pub least_to : ℕ → ℤ → ℕ
 least_to a (pos w) = a + w
 least_to a (negsuc w) = a - suc w
 
--- the kinds that bound the difference from above, and from below
-abbrev pub is_upper : Kind → Bool
-is_upper Max = true
-is_upper Min = false
-is_upper Fix = true
-
-abbrev pub is_lower : Kind → Bool
-is_lower Max = false
-is_lower Min = true
-is_lower Fix = true
-
 module _ (Γ : Network) (σ : List ℕ) where
   abbrev at : ℕ → ℕ → ℕ
   at s u = time Γ.events σ s u
 
-  -- what one constraint asks of event u in scenario s, if it counts there, by its upper half and by its lower one
-  abbrev pub upper_if : Bool → ℕ → ℕ → Constraint → ℕ
-  upper_if counts s u c =
-      cond (counts && (is_upper c.kind && eqb c.from u)) (least_from (at s c.to) c.bound) 0
+  -- what one constraint asks of event u in scenario s, by its kind: a `max` asks something of `from`, a `min` of `to`
+  abbrev pub bound_by_kind : Kind → ℕ → ℕ → Constraint → ℕ
+  bound_by_kind Max s u c = cond (eqb c.from u) (least_from (at s c.to) c.bound) 0
+  bound_by_kind Min s u c = cond (eqb c.to u) (least_to (at s c.from) c.bound) 0
 
-  abbrev pub lower_if : Bool → ℕ → ℕ → Constraint → ℕ
-  lower_if counts s u c =
-      cond (counts && (is_lower c.kind && eqb c.to u)) (least_to (at s c.from) c.bound) 0
-
-  abbrev pub upper_bound : ℕ → ℕ → Constraint → ℕ
-  upper_bound s u c = upper_if (covers Γ c s) s u c
-
-  abbrev pub lower_bound : ℕ → ℕ → Constraint → ℕ
-  lower_bound s u c = lower_if (covers Γ c s) s u c
+  -- and that only where it counts
+  abbrev pub constraint_bound : ℕ → ℕ → Constraint → ℕ
+  constraint_bound s u c = cond (covers Γ c s) (bound_by_kind c.kind s u c) 0
 
   -- what the constraints ask
   abbrev pub constraints_bound : ℕ → ℕ → ℕ
-  constraints_bound s u = max_below Γ.rules
-      (λ c. max (upper_bound s u (constraint Γ c)) (lower_bound s u (constraint Γ c)))
+  constraints_bound s u = max_below Γ.rules (λ c. constraint_bound s u (constraint Γ c))
 
   -- what the label of u asks: to come no sooner than each of its signals is known
   abbrev pub waits_bound : ℕ → ℕ → ℕ

@@ -1,32 +1,16 @@
 // The constraints of a network, and the waits of its events' labels, compiled into lists of difference bounds: one
-// bound for each half of a constraint and each wait, in the scenarios in which it counts.
+// bound for each constraint and each wait, in the scenarios in which it counts.
 ghost use Rattle.std.specs.Prelude.{◌≡◌, ℕ};
 ghost use Rattle.network.specs.Limits as L;
 ghost use Rattle.network.specs.Joint.{joint_of};
 ghost use Rattle.network.specs.WellFormed.{InLimits};
-ghost use Rattle.bounds.specs.Listed.{Listable, case, NoLonger};
-ghost use Rattle.rounds.specs.Compiled.{under, Constrained, wait_by, Asking, constraints_ask, Compiles};
+ghost use Rattle.bounds.specs.Listed.{case};
+ghost use Rattle.rounds.specs.Compiled.{under, wait_by, Asking, constraints_ask, Compiles};
 
 use bounds::bound::Bound;
 use bounds::lists::{self, Lists};
 use network::{Constraint, Kind, Label};
 use rows::frame::Frame;
-
-// The one or two bounds of a constraint, under its own label. (In the crate tighten a rule becomes numbers in the same
-// way; a function for both would take a closure and be no shorter.)
-fn list_constraint(lists: &mut Lists, frame: &Frame, c: &Constraint)
-    requires { Listable c.now × NoLonger 126 lists.old }
-    ensures { Constrained c.now lists.old lists.new frame.now.scenarios }
-{
-    match c.kind {
-        Kind::Max => lists::add(lists, frame, Bound::upper(c), c.label),
-        Kind::Min => lists::add(lists, frame, Bound::lower(c), c.label),
-        Kind::Fix => {
-            lists::add(lists, frame, Bound::upper(c), c.label);
-            lists::add(lists, frame, Bound::lower(c), c.label);
-        }
-    }
-}
 
 // A constraint under the label that joins its own and those of its two events.
 fn joined(c: &Constraint, from: Label, to: Label) -> Constraint
@@ -42,13 +26,13 @@ fn joined(c: &Constraint, from: Label, to: Label) -> Constraint
 // All constraints, each under the label that joins its own and those of its events, into lists that hold nothing yet.
 pub fn list_constraints(lists: &mut Lists, frame: &Frame)
     requires { (s : ℕ) → (case lists.old s).count ≡ 0 }
-    ensures { Asking frame.now.network lists.new L.bounds
+    ensures { Asking frame.now.network lists.new L.rules
         (constraints_ask frame.now.network frame.now.network.rules) }
 {
     let network = &frame.network;
     for c in &network.constraints[..network.rules] {
         let joint = joined(c, network.labels[c.from], network.labels[c.to]);
-        list_constraint(lists, frame, &joint);
+        lists::add(lists, frame, Bound::by_kind(&joint), joint.label);
     }
 }
 
@@ -65,9 +49,9 @@ fn wait_of(observation: usize, w: usize, reaction: u16, label: Label) -> Constra
     }
 }
 
-// The waits of all events, behind all constraints: one lower bound for each signal in a label.
+// The waits of all events, behind all constraints: one bound for each signal in a label.
 pub fn list_waits(lists: &mut Lists, frame: &Frame)
-    requires { Asking frame.now.network lists.old L.bounds
+    requires { Asking frame.now.network lists.old L.rules
         (constraints_ask frame.now.network frame.now.network.rules) }
     ensures { Compiles frame.now.network lists.new }
 {
@@ -81,7 +65,7 @@ pub fn list_waits(lists: &mut Lists, frame: &Frame)
         for p in 0..network.signals {
             if network::mentions(label, p) {
                 let wait = wait_of(network.observations[p], w, frame.reactions[p], label);
-                lists::add(lists, frame, Bound::lower(&wait), label);
+                lists::add(lists, frame, Bound::by_kind(&wait), label);
             }
         }
     }

@@ -1,15 +1,14 @@
--- Sheets and what reading them answers: refusals 1 to 9 with their lines, in the horizon, the events, the signals and
--- the rules, and sheets of those that are accepted. One table, which one theorem covers by computation. Assumes
--- nothing.
+-- Sheets and what reading them answers: refusals 1 to 9, and 22, with their lines, in the horizon, the events, the
+-- signals and the rules, and sheets of those that are accepted. One table, which one theorem covers by computation.
+-- Assumes nothing.
 use mathlib.Core.Path.{◌≡◌, refl}
 use mathlib.Core.Bool.{true}
 use mathlib.Core.List.{List, [], ◌∷◌, ◌++◌}
 use lib.ListN.{replicate}
 use Rattle.prelude.specs.Bytes.{ascii}
 use Rattle.text.specs.Number.{is_number, in_range}
-use Rattle.line.specs.Tests.{section_tests, event_tests, signal_tests, ends_tests, rule_tests, letter_tests}
-use Rattle.line.specs.Tests.{reaction_tests}
-use Rattle.line.specs.Tests.{placed_tests, label_tests}
+use Rattle.line.specs.Tests.{section_tests, event_tests, signal_tests, kind_tests, ends_tests, rule_tests}
+use Rattle.line.specs.Tests.{letter_tests, reaction_tests, placed_tests, label_tests}
 use Rattle.line.specs.Labelling.{whole_tests}
 use Rattle.sheet.specs.Reading.{progress}
 use Rattle.sheet.proofs.ExampleSheets.{Example, refused, accepted, lines, sheet_of, hour, two, none, one, rule}
@@ -32,6 +31,8 @@ examples =
     ∷ refused 3 3 (lines ("horizon,60" ∷ "events,1" ∷ "start,0" ∷ []))
     ∷ refused 3 8 (rule "max,start,door,5")
     ∷ refused 3 8 (rule "most,start,door,5,-")
+    -- 22: a kind that is retired
+    ∷ refused 22 9 (sheet_of hour two one ("rules,2" ∷ "max,start,door,5,-" ∷ "fix,start,door,5,-" ∷ []))
     -- 4, 5: numbers
     ∷ refused 4 1 (lines ("horizon,010" ∷ []))
     ∷ refused 4 1 (lines ("horizon,-0" ∷ []))
@@ -65,8 +66,9 @@ examples =
     ∷ refused 8 8 (rule "max,start,door,5,q")
     ∷ refused 9 8 (rule "max,start,door,5,p!p")
     ∷ refused 9 8 (rule "max,start,door,5,pp")
-    -- two faults on one line: the lowest number; on two lines: the first
+    -- two faults on one line: the lowest number, but 22 directly after 3; on two lines: the first
     ∷ refused 3 8 (rule "most,start,lock,010,p!p")
+    ∷ refused 22 8 (rule "fix,start,lock,010,p!p")
     ∷ refused 4 8 (rule "max,start,lock,010,p!p")
     ∷ refused 5 8 (rule "max,Start,lock,10081,p!p")
     ∷ refused 6 8 (rule "max,Start,lock,5,p!p")
@@ -80,11 +82,10 @@ examples =
     ∷ accepted (rule "max,start,start,0,-")
     ∷ accepted (rule "max,start,door,10080,p")
     ∷ accepted (rule "min,door,start,-10080,!p")
-    ∷ accepted (sheet_of hour two one ("rules,2" ∷ "fix,start,door,5,p" ∷ "fix,start,door,5,p" ∷ []))
+    ∷ accepted (sheet_of hour two one ("rules,2" ∷ "max,start,door,5,p" ∷ "max,start,door,5,p" ∷ []))
     ∷ []
 
 pub examples_end : all_end examples ≡ true
-unfolding is_number in_range section_tests event_tests signal_tests ends_tests rule_tests letter_tests reaction_tests
-    placed_tests
-    label_tests whole_tests progress
+unfolding is_number in_range section_tests event_tests signal_tests kind_tests ends_tests rule_tests letter_tests
+    reaction_tests placed_tests label_tests whole_tests progress
 examples_end = refl

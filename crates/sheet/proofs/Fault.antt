@@ -1,7 +1,7 @@
 -- A sheet is refused exactly with its fault, and has one; its number and its line. Assumes nothing.
 use mathlib.Core.Path.{◌≡◌, sym, ◌∙◌, ap}
 use mathlib.Core.Logic.{◌⊎◌, inl, inr, ◌↔◌}
-use mathlib.Core.Bool.{true, ◌&&◌}
+use mathlib.Core.Bool.{true, ◌&&◌, ◌||◌}
 use mathlib.Core.List.{List}
 use Prim.Native.Nat.{ℕ, suc, ◌≤◌, ◌<◌}
 use native.Mathlib.Omega.{arith}
@@ -11,15 +11,14 @@ use lib.ListN.{length}
 use Rattle.prelude.proofs.Checks.{fails-not-hold, first_fails_unique}
 use Rattle.prelude.proofs.Tests.{lt_or_ge, eq_or_ne, or-true, and-true}
 use Rattle.std.specs.Prelude.{Result, Ok, Err}
-use Rattle.refusal.specs.Refusal.{number_of}
+use Rattle.refusal.specs.Refusal.{number_of, turn_of}
 use Rattle.refusal.specs.declared.Cause.{Cause}
 use Rattle.refusal.specs.declared.Refusal.{Refusal}
 use Rattle.network.specs.declared.Network.{Network}
 use Rattle.sheet.specs.Reading.{read}
 use Rattle.sheet.specs.Place.{place, tests}
 use Rattle.sheet.specs.Fault.{FirstFault, Fails, Fault}
-use Rattle.sheet.proofs.Order.{first_fails_between, first_fails_lowest, tests_in_order}
-use Rattle.sheet.proofs.Order.{is_of_line, first_fails_of_line, tests_of_line}
+use Rattle.sheet.proofs.Order.{first_fails_lowest, is_of_line, first_fails_of_line, tests-are}
 use Rattle.sheet.proofs.Over.{over_holds, lines-inside}
 use Rattle.sheet.proofs.Answers.{Answers, answers}
 
@@ -56,30 +55,30 @@ module _ (sheet : List ℕ) where
   no_fault r Γ a (inl f) = omega (arith, f.0, a.0)
   no_fault r Γ a (inr f) = fails-not-hold (tests sheet f.1.above) r.cause f.1.fault (a.1 f.1.above)
 
-  -- so "on one line the lowest number" decides
+  -- so "on one line the lowest number" decides, but 22 directly after 3
   pub fault-lowest : (r : Refusal) (f : FirstFault sheet r) (d : Cause) → Fails (tests sheet f.above) d
-      → number_of r.cause ≤ number_of d
-  fault-lowest r f d g = first_fails_lowest 1 21 (tests sheet f.above) r.cause d
-      (tests_in_order sheet f.above) f.fault g
+      → turn_of r.cause ≤ turn_of d
+  fault-lowest r f d g =
+      first_fails_lowest 0 (tests sheet f.above) r.cause d (tests-are sheet f.above).0 f.fault g
 
-  -- a number of a line's refusal is from 2 to 10, or 20 or 21
-  of_line : (n : ℕ) → is_of_line n ≡ true → (n ≤ 10) ⊎ ((20 ≤ n) × (n ≤ 21))
+  -- the numbers of a line's refusals, as two ranges
+  of_line : (n : ℕ) → is_of_line n ≡ true → (1 < n) × ((n ≤ 10) ⊎ ((20 ≤ n) × (n ≤ 22)))
   of_line n e =
-      elim (or-true (leb n 10) (leb 20 n && leb n 21) e) [
-        | inl l ↦ inl (leb-true n 10 l)
-        | inr l ↦ let w = and-true (leb 20 n) (leb n 21) l in inr (leb-true 20 n w.0, leb-true n 21 w.1)
-      ]
+      let b = and-true (leb 2 n) (leb n 10 || (leb 20 n && leb n 22)) e in (
+        leb-true 2 n b.0,
+        elim (or-true (leb n 10) (leb 20 n && leb n 22) b.1) [
+          | inl l ↦ inl (leb-true n 10 l)
+          | inr l ↦ let w = and-true (leb 20 n) (leb n 22) l in inr (leb-true 20 n w.0, leb-true n 22 w.1)
+        ],
+      )
 
-  -- a fault's number and line: 1 with line 0, or 2 to 10, 20 or 21 with a line from 1 on
+  -- the number of a fault that has a line is from 2 to 10, or from 20 to 22
   pub first-fault-range : (r : Refusal) → FirstFault sheet r
       → let n = number_of r.cause in
-      (1 < n) × ((n ≤ 10) ⊎ ((20 ≤ n) × (n ≤ 21)))
+      (1 < n) × ((n ≤ 10) ⊎ ((20 ≤ n) × (n ≤ 22)))
   first-fault-range r f =
-      let ts = tests sheet f.above in (
-        (first_fails_between 1 21 ts r.cause (tests_in_order sheet f.above) f.fault).0,
-        of_line (number_of r.cause)
-            (first_fails_of_line ts r.cause (tests_of_line sheet f.above) f.fault),
-      )
+      of_line (number_of r.cause)
+      (first_fails_of_line (tests sheet f.above) r.cause (tests-are sheet f.above).1 f.fault)
 
   -- a fault stands at most one line behind as many lines as the sheet has bytes
   pub first-fault-near : (r : Refusal) → FirstFault sheet r → r.line ≤ suc (length sheet)

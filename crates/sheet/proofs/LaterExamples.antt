@@ -8,9 +8,8 @@ use Prim.Native.String.{String}
 use Prim.Native.Nat.{ℕ}
 use Rattle.prelude.specs.Bytes.{ascii}
 use Rattle.text.specs.Number.{is_number, in_range}
-use Rattle.line.specs.Tests.{section_tests, event_tests, signal_tests, ends_tests, rule_tests, letter_tests}
-use Rattle.line.specs.Tests.{reaction_tests}
-use Rattle.line.specs.Tests.{placed_tests, label_tests}
+use Rattle.line.specs.Tests.{section_tests, event_tests, signal_tests, kind_tests, ends_tests, rule_tests}
+use Rattle.line.specs.Tests.{letter_tests, reaction_tests, placed_tests, label_tests}
 use Rattle.line.specs.Labelling.{whole_tests}
 use Rattle.sheet.specs.Reading.{progress}
 use Rattle.sheet.proofs.ExampleSheets.{Example, refused, accepted, lines, sheet_of, hour, two, none, one, rule}
@@ -86,7 +85,6 @@ examples =
     ∷ []
 
 pub examples_end : all_end examples ≡ true
-unfolding is_number in_range section_tests event_tests signal_tests ends_tests rule_tests letter_tests reaction_tests
-    placed_tests
-    label_tests whole_tests progress
+unfolding is_number in_range section_tests event_tests signal_tests kind_tests ends_tests rule_tests letter_tests
+    reaction_tests placed_tests label_tests whole_tests progress
 examples_end = refl

@@ -20,7 +20,7 @@ use Rattle.names.specs.Names.{label_of, letters_of}
 use Rattle.names.specs.Defined.{all_defined_lem}
 use Rattle.names.proofs.Finds.{finds_answer}
 use Rattle.names.proofs.Labels.{sum_is}
-use Rattle.line.specs.Tests.{event_of, ends_tests, rule_tests}
+use Rattle.line.specs.Tests.{event_of, kind_tests, ends_tests, rule_tests}
 use Rattle.line.specs.Sections.{rule_of, with_line}
 use Rattle.line.specs.declared.Section.TheVariants.{Rules}
 use Rattle.line.proofs.Checks.{all_hold}
@@ -45,7 +45,7 @@ module _ (sheet : List ℕ) {m : ℕ} {Γ : Network} {at k : ℕ} where
   pub stage_rule : Stage sheet (to_come Rules (suc m)) Γ at k → Passes sheet at k (rule_tests sheet Γ)
       → Stage sheet (to_come Rules m) (with_line sheet Rules Γ at (fields (line_at sheet at))) (after_line sheet at)
       (suc k)
-  unfolding ends_tests rule_tests
+  unfolding kind_tests ends_tests rule_tests
   stage_rule g p =
       let w = g.forming in
       let fs = fields (line_at sheet at) in
@@ -53,7 +53,7 @@ module _ (sheet : List ℕ) {m : ℕ} {Γ : Network} {at k : ℕ} where
       let ls = label_of (field 4 fs) in
       let c = rule_of sheet Γ fs in
       let ends = and-true (answers (event_of sheet Γ (field 1 fs)))
-      (answers (event_of sheet Γ (field 2 fs)) && all_defined_lem Γ.signals Γ.letters (letters_of ls)) (holds 4) in
+      (answers (event_of sheet Γ (field 2 fs)) && all_defined_lem Γ.signals Γ.letters (letters_of ls)) (holds 6) in
       let rest = and-true (answers (event_of sheet Γ (field 2 fs)))
       (all_defined_lem Γ.signals Γ.letters (letters_of ls)) ends.1 in
       let few = w.signals in
@@ -76,10 +76,10 @@ module _ (sheet : List ℕ) {m : ℕ} {Γ : Network} {at k : ℕ} where
                     (record {
                       from = (finds_answer (is_named sheet Γ (field 1 fs)) Γ.events 0 ends.0).index_lt;
                       to = (finds_answer (is_named sheet Γ (field 2 fs)) Γ.events 0 rest.0).index_lt;
-                      bound = limits_of (field 3 fs) (leb-true (magnitude (field 3 fs)) L.horizon (holds 2));
+                      bound = limits_of (field 3 fs) (leb-true (magnitude (field 3 fs)) L.horizon (holds 4));
                       label = record {
-                        positive = (sum_is Γ.signals Γ.letters true ls few rest.1 (holds 5)).below;
-                        negative = (sum_is Γ.signals Γ.letters false ls few rest.1 (holds 5)).below;
+                        positive = (sum_is Γ.signals Γ.letters true ls few rest.1 (holds 7)).below;
+                        negative = (sum_is Γ.signals Γ.letters false ls few rest.1 (holds 7)).below;
                       };
                     })
                 | inr x ↦

@@ -1,5 +1,5 @@
 -- Why a sheet is refused, said of its lines and of no reader: "Lines are read from the top and the first line at fault
--- decides; on one line the lowest number does" (01, Refused sheets and calls).
+-- decides; on one line the lowest number does" (01, Refused sheets and calls), but 22 directly after 3 (02, point 7).
 use Rattle.std.specs.Prelude.{◌≡◌, false, ◌⊎◌, List, [], ◌∷◌, ℕ, suc, ◌≤◌, ◌<◌, length}
 use Rattle.prelude.specs.Checks.{Hold, FirstFails}
 use Rattle.refusal.specs.Refusal.{refusal}
@@ -17,7 +17,7 @@ pub record FirstFault (sheet : List ℕ) (r : Refusal) : Type 0 where
   pub pass : (j : ℕ) → j < above → Hold (tests sheet j)
   pub fault : FirstFails (tests sheet above) r.cause
 
--- one of the tests fails and names c; of all these the cause of the first fault has the lowest number (`fault-lowest`)
+-- one of the tests fails and names c; of all these the cause of the first fault has the lowest turn (`fault-lowest`)
 abbrev pub Fails : Tests → Cause → Type 0
 Fails [] c = ⊥
 Fails (t ∷ ts) c = ((t.0 ≡ false) × (t.1 ≡ c)) ⊎ Fails ts c

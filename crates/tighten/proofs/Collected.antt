@@ -1,8 +1,9 @@
 -- The upper bounds that remain, collected one after the other: those collected and the tightest of the keys from the
--- next one on are all that remain. Assumes nothing.
+-- next one on are all that remain. While one is left, fewer are collected than there were, so that there is room for
+-- it. Assumes nothing.
 use mathlib.Core.Path.{◌≡◌, refl, sym, ◌∙◌, ap}
 use mathlib.Core.List.{List, [], ◌∷◌, ◌++◌, append-nil, map}
-use Prim.Native.Nat.{ℕ, suc, ◌+◌, ◌*◌, ◌-◌, ◌/◌, ◌<◌, ◌≤◌}
+use Prim.Native.Nat.{ℕ, suc, ◌+◌, ◌*◌, ◌-◌, ◌/◌, ◌<◌}
 use native.Mathlib.Omega.{arith}
 use lib.ListN.{length, length-append}
 use lib.Seq.{append_snoc}
@@ -10,15 +11,13 @@ use Rattle.std.proofs.Common.{Some, None}
 use Rattle.prelude.specs.Gather.{gather_from}
 use Rattle.prelude.specs.Lists.{Each}
 use Rattle.prelude.proofs.Gather.{gather_none, gather-next}
-use Rattle.network.specs.Limits as L
 use Rattle.network.specs.Build.{no_constraint}
 use Rattle.network.specs.declared.Constraint.{Constraint}
 use Rattle.tighten.specs.Tightest.{ranks, tightest, remaining}
-use Rattle.tighten.specs.Fitting.{fitting}
 use Rattle.tighten.specs.Encoding.{per_key, encoded, decoded, least_of, floor_after_lem, top}
 use Rattle.tighten.proofs.Least.{LeastFrom, least_none, least_some}
 use Rattle.tighten.proofs.Regular.{Regular}
-use Rattle.tighten.proofs.Fitting.{fits, fits_not}
+use Rattle.tighten.proofs.Few.{remaining-few}
 use Rattle.tighten.proofs.Next.{none_left, least_lt, least-from, none_before, next-upper}
 
 -- those of the keys below `key` are collected, and `left` keys are to be tried
@@ -27,7 +26,6 @@ pub record Collected (xs done : List Constraint) (floor : ℕ) : Type 0 where
   pub left : ℕ
   pub keys : key + left ≡ ranks
   pub floor_is : floor ≡ key * per_key
-  pub few : length done ≤ L.rules
   pub rest : remaining xs ≡ done ++ gather_from key left (tightest xs)
 
 pub collected_none : (xs : List Constraint) → Collected xs [] 0
@@ -37,22 +35,20 @@ collected_none xs = record {
   left = ranks;
   keys = refl;
   floor_is = refl;
-  few = omega arith;
   rest = refl;
 }
 
 module _ {xs done : List Constraint} {floor : ℕ} (regular : Each Regular xs no_constraint)
     (f : Collected xs done floor) where
   -- no number is left: all of them are collected
-  pub collected_all : None ≡ least_of (map encoded xs) floor → Some done ≡ fitting (remaining xs)
+  pub collected_all : None ≡ least_of (map encoded xs) floor → done ≡ remaining xs
   collected_all e =
       let below = least_none floor (map encoded xs) (sym e) in
       let silent = none_left regular f.key (rw f.floor_is at below) (f.key + f.left) in
-      let all : remaining xs ≡ done =
-      f.rest
+      sym
+      (f.rest
       ∙ ap (λ (l : List Constraint). done ++ l) (gather_none (tightest xs) f.key f.left silent)
-      ∙ append-nil done in
-      rw all (fits done f.few)
+      ∙ append-nil done)
 
   module _ {v : ℕ} (e : Some v ≡ least_of (map encoded xs) floor) where
     at : LeastFrom (map encoded xs) (f.key * per_key) v
@@ -75,19 +71,22 @@ module _ {xs done : List Constraint} {floor : ℕ} (regular : Each Regular xs no
         (none_before regular f.key v at)
         (next-upper regular f.key v at))
 
-    -- one more than a sheet may have
-    pub collected_many : length done ≡ L.rules → None ≡ fitting (remaining xs)
-    collected_many c =
-        rw collected_next (fits_not (done ++ decoded v ∷ others)
-        (omega (arith, length-append done (decoded v ∷ others))))
+    -- it is one of those that remain, and these are no more than there were
+    pub collected_few : length done < length xs
+    collected_few =
+        omega (
+          arith,
+          length-append done (decoded v ∷ others),
+          ap (λ (l : List Constraint). length l) collected_next,
+          remaining-few xs,
+        )
 
     -- one more
-    pub collected_more : length done < L.rules → Collected xs (done ++ decoded v ∷ []) (floor_after_lem v)
-    collected_more h = record {
+    pub collected_more : Collected xs (done ++ decoded v ∷ []) (floor_after_lem v)
+    collected_more = record {
       key = suc (v / per_key);
       left = ranks - suc (v / per_key);
       keys = omega (arith, collected_lt);
       floor_is = omega arith;
-      few = omega (arith, length-append done (decoded v ∷ []));
       rest = rw append_snoc collected_next;
     }

@@ -8,10 +8,10 @@ use lib.Dec.{eqb, ltb}
 use lib.IntN.{ℤ, pos, negsuc}
 use lib.Signed.{le_z}
 use Rattle.network.specs.declared.Kind.{Kind}
-use Rattle.network.specs.declared.Kind.TheVariants.{Max, Min, Fix}
+use Rattle.network.specs.declared.Kind.TheVariants.{Max, Min}
 use Rattle.network.specs.declared.Label.{Label}
 use Rattle.network.specs.declared.Constraint.{Constraint}
-use Rattle.tighten.specs.Upper.{upper, uppers}
+use Rattle.tighten.specs.Upper.{upper, upper_of}
 use Rattle.tighten.specs.Tightest.{rank, tightest}
 
 abbrev label : ℕ → ℕ → Label
@@ -25,12 +25,6 @@ rule k w = record { kind = k; from = 1; to = 2; bound = w; label = label 0 0 }
 abbrev same : Constraint → Constraint → Bool
 same a b = eqb (rank a) (rank b) && (le_z a.bound b.bound && le_z b.bound a.bound)
 
-abbrev all_same : List Constraint → List Constraint → Bool
-all_same [] [] = true
-all_same (a ∷ xs) (b ∷ ys) = same a b && all_same xs ys
-all_same [] (b ∷ ys) = eqb 0 1
-all_same (a ∷ xs) [] = eqb 0 1
-
 abbrev is_some : Option Constraint → Constraint → Bool
 is_some none r = eqb 0 1
 is_some (some q) r = same q r
@@ -41,15 +35,13 @@ rising [] = true
 rising (a ∷ []) = true
 rising (a ∷ (b ∷ xs)) = ltb (rank a) (rank b) && rising (b ∷ xs)
 
--- the upper bounds of each kind: 0 has no sign
+-- the upper bound of each kind: 0 has no sign
 abbrev kinds : Bool
 kinds =
-    all_same (uppers Max (rule Max (pos 5))) (upper 1 2 (pos 5) (label 0 0) ∷ [])
-    && (all_same (uppers Min (rule Min (pos 5))) (upper 2 1 (negsuc 4) (label 0 0) ∷ [])
-    && (all_same (uppers Min (rule Min (negsuc 10079))) (upper 2 1 (pos 10080) (label 0 0) ∷ [])
-    && (all_same (uppers Min (rule Min (pos 0))) (upper 2 1 (pos 0) (label 0 0) ∷ [])
-    && all_same (uppers Fix (rule Fix (pos 20)))
-    (upper 1 2 (pos 20) (label 0 0) ∷ (upper 2 1 (negsuc 19) (label 0 0) ∷ [])))))
+    same (upper_of (rule Max (pos 5))) (upper 1 2 (pos 5) (label 0 0))
+    && (same (upper_of (rule Min (pos 5))) (upper 2 1 (negsuc 4) (label 0 0))
+    && (same (upper_of (rule Min (negsuc 10079))) (upper 2 1 (pos 10080) (label 0 0))
+    && same (upper_of (rule Min (pos 0))) (upper 2 1 (pos 0) (label 0 0))))
 
 -- `from` decides before `to`, this before the true letters, and these before the false ones
 abbrev order : Bool

@@ -13,10 +13,10 @@ use Rattle.network.proofs.Signed.{neg_limit, biased-few, unbiased-biased}
 use Rattle.network.specs.declared.Kind.TheVariants.{Max}
 use Rattle.network.specs.declared.Constraint.{Constraint}
 use Rattle.network.specs.declared.Network.{Network}
-use Rattle.tighten.specs.Upper.{forward, backward, uppers_of}
+use Rattle.tighten.specs.Upper.{upper_of, uppers_of}
 use Rattle.tighten.specs.Tightest.{rank, ranks}
 use Rattle.tighten.specs.Encoding.{per_key, encoded, decoded, Encodable, top}
-use Rattle.tighten.proofs.Rules.{uppers_below-each, uppers-each}
+use Rattle.tighten.proofs.Rules.{upper_of_either, uppers_of-each}
 
 pub record Regular (r : Constraint) : Type 0 where
   pub kind : r.kind ≡ Max
@@ -75,14 +75,13 @@ upper_unique {x} {y} h l k b =
 -- those of a network that was read
 module _ (Γ : Network) (w : WellFormed Γ) where
   module _ (c : Constraint) (h : Proper Γ c) where
-    forward-proper : Proper Γ (forward c)
-    forward-proper = record { from = h.from; to = h.to; bound = h.bound; label = h.label }
+    upper-proper : Proper Γ (upper_of c)
+    upper-proper =
+        upper_of_either (Proper Γ) c
+        (record { from = h.from; to = h.to; bound = h.bound; label = h.label })
+        (record { from = h.to; to = h.from; bound = neg_limit c.bound h.bound; label = h.label })
 
-    backward-proper : Proper Γ (backward c)
-    backward-proper =
-        record { from = h.to; to = h.from; bound = neg_limit c.bound h.bound; label = h.label }
-
-    pub proper_encodable : Encodable c.from c.to c.bound c.label
+    proper_encodable : Encodable c.from c.to c.bound c.label
     proper_encodable =
         let few = pow_mono {i = Γ.signals} {j = 4} w.signals in
         record {
@@ -93,18 +92,14 @@ module _ (Γ : Network) (w : WellFormed Γ) where
           bound = h.bound;
         }
 
+  pub upper_regular : (c : Constraint) → Proper Γ c → Regular (upper_of c)
+  upper_regular c h = record {
+    kind = upper_of_either (λ r. r.kind ≡ Max) c refl refl;
+    encodable = proper_encodable (upper_of c) (upper-proper c h);
+  }
+
   pub uppers-proper : Each (Proper Γ) (uppers_of Γ) no_constraint
-  uppers-proper =
-      uppers_below-each (Proper Γ) Γ Γ.rules (λ i l.
-      let c = constraint Γ i in
-      let h = w.proper i l in
-      uppers-each (Proper Γ) c.kind c (forward-proper c h) (backward-proper c h))
+  uppers-proper = uppers_of-each Γ (Proper Γ) (λ i l. upper-proper (constraint Γ i) (w.proper i l))
 
   pub uppers_regular : Each Regular (uppers_of Γ) no_constraint
-  uppers_regular =
-      uppers_below-each Regular Γ Γ.rules (λ i l.
-      let c = constraint Γ i in
-      let h = w.proper i l in
-      uppers-each Regular c.kind c
-      (record { kind = refl; encodable = proper_encodable (forward c) (forward-proper c h) })
-      (record { kind = refl; encodable = proper_encodable (backward c) (backward-proper c h) }))
+  uppers_regular = uppers_of-each Γ Regular (λ i l. upper_regular (constraint Γ i) (w.proper i l))

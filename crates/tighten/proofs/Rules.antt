@@ -1,75 +1,55 @@
--- The upper bounds of a network's rules, rule by rule: how many they are, and that what holds of those of each rule
--- holds of each, and the other way round; and that of rules which are upper bounds they are these. Assumes nothing.
-use mathlib.Core.Path.{◌≡◌, refl, sym, ◌∙◌, ap}
-use mathlib.Core.Logic.{inl, inr}
-use mathlib.Core.List.{List, [], ◌∷◌, ◌++◌}
-use Prim.Native.Nat.{ℕ, zero, suc, ◌+◌, ◌≤◌, ◌<◌}
+-- The upper bounds of a network's rules: there are as many as rules; what holds of each rule's holds of each, and the
+-- other way round; equal rules have equal ones; and a rule that is an upper bound is its own. Assumes nothing.
+use mathlib.Core.Path.{◌≡◌, sym, ◌∙◌, ap}
+use Prim.Native.Nat.{ℕ, ◌<◌}
 use native.Mathlib.Omega.{arith}
-use lib.ListN.{length, length-append}
-use Rattle.prelude.specs.Bounded.{tabulate}
+use lib.ListN.{length, get_or}
 use Rattle.prelude.specs.Lists.{Each}
-use Rattle.prelude.proofs.Tests.{eq_or_ne}
-use Rattle.prelude.proofs.Bounded.{tabulate-more}
-use Rattle.prelude.proofs.Parts.{each_none, each_cons, each_one, each_append, each_first, each-second}
+use Rattle.prelude.proofs.Bounded.{length-tabulate, get_d_tabulate}
+use Rattle.prelude.proofs.Lists.{tabulate-is}
 use Rattle.network.specs.Build.{no_constraint, constraint}
 use Rattle.network.specs.declared.Kind.{Kind}
-use Rattle.network.specs.declared.Kind.TheVariants.{Max, Min, Fix}
+use Rattle.network.specs.declared.Kind.TheVariants.{Max, Min}
 use Rattle.network.specs.declared.Constraint.{Constraint}
 use Rattle.network.specs.declared.Network.{Network}
-use Rattle.tighten.specs.Upper.{forward, backward, uppers, uppers_below}
+use Rattle.tighten.specs.Upper.{forward, backward, by_kind, upper_of, uppers_of}
 
-module _ (P : Constraint → Type 0) (Γ : Network) where
-  pub uppers_below-each : (n : ℕ)
-      → ((c : ℕ) → c < n → Each P (uppers (constraint Γ c).kind (constraint Γ c)) no_constraint)
-      → Each P (uppers_below Γ n) no_constraint
-  uppers_below-each zero h = each_none P no_constraint
-  uppers_below-each (suc n) h =
-      each_append P no_constraint _ _ (uppers_below-each n (λ c l. h c (omega arith))) (h n (omega arith))
+-- what holds of an upper bound in either direction holds of a rule's
+pub upper_of_either : (P : Constraint → Type 0) (c : Constraint) → P (forward c) → P (backward c) → P (upper_of c)
+upper_of_either P c f b = of c.kind
+  where
+    of : (k : Kind) → P (by_kind k c)
+    of Max = f
+    of Min = b
 
-  pub each-uppers_below : (n : ℕ) → Each P (uppers_below Γ n) no_constraint
-      → (c : ℕ) → c < n → Each P (uppers (constraint Γ c).kind (constraint Γ c)) no_constraint
-  each-uppers_below zero h c l = absurd (omega arith)
-  each-uppers_below (suc n) h c l =
-      elim (eq_or_ne c n) [
-        | inl p ↦ rw p (each-second P no_constraint (uppers_below Γ n) _ h)
-        | inr p ↦ each-uppers_below n (each_first P no_constraint (uppers_below Γ n) _ h) c (omega arith)
-      ]
+pub upper_of-max : (c : Constraint) → c.kind ≡ Max → upper_of c ≡ c
+upper_of-max c e =
+    let own : forward c ≡ c =
+    λ i. record { kind = sym e i; from = c.from; to = c.to; bound = c.bound; label = c.label } in
+    ap (λ (k : Kind). by_kind k c) e ∙ own
 
--- what holds of both halves holds of the upper bounds of a rule
-pub uppers-each : (P : Constraint → Type 0) (k : Kind) (c : Constraint) → P (forward c) → P (backward c)
-    → Each P (uppers k c) no_constraint
-uppers-each P Max c f b = each_one P no_constraint (forward c) f
-uppers-each P Min c f b = each_one P no_constraint (backward c) b
-uppers-each P Fix c f b =
-    each_cons P no_constraint (forward c) (backward c ∷ []) f (each_one P no_constraint (backward c) b)
+module _ (Γ : Network) where
+  abbrev at : ℕ → Constraint
+  at i = upper_of (constraint Γ i)
 
-length-uppers : (k : Kind) (c : Constraint) → length (uppers k c) ≤ 2
-length-uppers Max c = omega arith
-length-uppers Min c = omega arith
-length-uppers Fix c = omega arith
+  pub length-uppers_of : length (uppers_of Γ) ≡ Γ.rules
+  length-uppers_of = length-tabulate at Γ.rules
 
-pub length-uppers_below : (Γ : Network) (n : ℕ) → length (uppers_below Γ n) ≤ n + n
-length-uppers_below Γ zero = omega arith
-length-uppers_below Γ (suc n) =
-    let k = (constraint Γ n).kind in
-    omega (
-      arith,
-      length-append (uppers_below Γ n) (uppers k (constraint Γ n)),
-      length-uppers k (constraint Γ n),
-      length-uppers_below Γ n,
-    )
+  get_d_uppers_of : (i : ℕ) → i < Γ.rules → get_or (uppers_of Γ) i no_constraint ≡ upper_of (constraint Γ i)
+  get_d_uppers_of i h = get_d_tabulate at Γ.rules i no_constraint h
 
--- rules that are upper bounds are their own
-forward-max : (c : Constraint) → c.kind ≡ Max → forward c ≡ c
-forward-max c e = λ i. record { kind = sym e i; from = c.from; to = c.to; bound = c.bound; label = c.label }
+  module _ (P : Constraint → Type 0) where
+    pub uppers_of-each : ((i : ℕ) → i < Γ.rules → P (upper_of (constraint Γ i))) → Each P (uppers_of Γ) no_constraint
+    uppers_of-each f = record {
+      each = λ i h. let l : i < Γ.rules = omega (arith, length-uppers_of) in rw (get_d_uppers_of i l) (f i l);
+    }
 
-pub uppers_below-max : (Δ : Network) (n : ℕ) → ((i : ℕ) → i < n → (constraint Δ i).kind ≡ Max)
-    → uppers_below Δ n ≡ tabulate n (constraint Δ)
-uppers_below-max Δ zero h = refl
-uppers_below-max Δ (suc n) h =
-    let c = constraint Δ n in
-    let rest = uppers_below-max Δ n (λ i l. h i (omega arith)) in
-    ap (λ (k : Kind). uppers_below Δ n ++ uppers k c) (h n (omega arith))
-    ∙ ap (λ (l : List Constraint). l ++ forward c ∷ []) rest
-    ∙ ap (λ (x : Constraint). tabulate n (constraint Δ) ++ x ∷ []) (forward-max c (h n (omega arith)))
-    ∙ sym (tabulate-more (constraint Δ) n)
+    pub each-uppers_of : Each P (uppers_of Γ) no_constraint → (i : ℕ) → i < Γ.rules → P (upper_of (constraint Γ i))
+    each-uppers_of e i h = rw (get_d_uppers_of i h) at (e.each i (omega (arith, length-uppers_of)))
+
+pub uppers_of-same : (Γ Δ : Network) → Γ.rules ≡ Δ.rules
+    → ((i : ℕ) → i < Δ.rules → constraint Γ i ≡ constraint Δ i) → uppers_of Γ ≡ uppers_of Δ
+uppers_of-same Γ Δ e f =
+    tabulate-is (at Γ) no_constraint Γ.rules (uppers_of Δ) (e ∙ sym (length-uppers_of Δ)) (λ i h.
+    let l : i < Δ.rules = omega (arith, length-uppers_of Δ) in
+    ap upper_of (f i l) ∙ sym (get_d_uppers_of Δ i l))

@@ -1,7 +1,7 @@
 -- Which tables keep the upper bounds: of networks that agree in all but names, letters and rules, a table that solves
 -- the first solves the second where each upper bound of the second has one as tight among those of the first. So they
 -- have the same solutions where the same ones remain. Assumes nothing.
-use mathlib.Core.Path.{◌≡◌, sym, ◌∙◌, ap, ap₂}
+use mathlib.Core.Path.{◌≡◌, refl, sym, ◌∙◌, ap, ap₂}
 use mathlib.Core.Logic.{◌↔◌}
 use mathlib.Core.Bool.{true, ◌&&◌}
 use mathlib.Core.List.{List}
@@ -10,12 +10,12 @@ use native.Mathlib.Omega.{arith}
 use lib.Signed.{◌≤ℤ◌}
 use Rattle.prelude.specs.Lists.{Each}
 use Rattle.prelude.proofs.Lists.{each_in, each_mono}
-use Rattle.network.specs.Build.{no_constraint, scenarios}
+use Rattle.network.specs.Build.{constraint, no_constraint, scenarios}
 use Rattle.network.specs.Scenario.{satisfies}
 use Rattle.network.specs.Happens.{mentions, happens}
 use Rattle.network.specs.Constraint.{covers}
 use Rattle.network.specs.Strategy.{time, known}
-use Rattle.network.specs.Solution.{Waits, OnTime, Alike, Solution}
+use Rattle.network.specs.Solution.{Waits, OnTime, Holds, Alike, Solution}
 use Rattle.network.specs.WellFormed.{WellFormed}
 use Rattle.network.proofs.Bounds.{at_most_mono}
 use Rattle.network.specs.declared.Label.{Label}
@@ -28,7 +28,7 @@ use Rattle.tighten.proofs.Regular.{uppers_regular}
 use Rattle.tighten.proofs.Keys.{key-from, key-to, key-label}
 use Rattle.tighten.proofs.Stays.{among}
 use Rattle.tighten.proofs.Remains.{remaining-is}
-use Rattle.tighten.proofs.Kept.{Admits, Kept, uppers-kept, rules_hold}
+use Rattle.tighten.proofs.Kept.{keeps, Kept, uppers-kept, rules_hold}
 use Rattle.tighten.proofs.Agree.{Agree, agree-sym, scenarios-agree, cells_agree, happens-agree}
 use Rattle.tighten.proofs.Agree.{time-agree, known_from-agree, known-agree}
 
@@ -88,33 +88,44 @@ module _ {Γ Δ : Network} (a : Agree Γ Δ) where
     kept-agree s k y w = record { kept = λ e. at w.upper w.key w.limit (each_in (Kept Γ σ s) k w.stands) e }
       where
         at : (x : Constraint) → key_of x ≡ key_of y → x.bound ≤ℤ y.bound → Kept Γ σ s x → covers Δ y s ≡ true
-            → Admits (time Δ.events σ s) y
+            → keeps (time Δ.events σ s) y ≡ true
         at x p l q e =
-            let h = (q.kept (covers-agree x y p s ∙ e)).admitted in
+            let h = q.kept (covers-agree x y p s ∙ e) in
             let t = time Γ.events σ s in
-            record {
-              admitted = rw (
-                ← (time-agree a σ s y.from),
-                ← (time-agree a σ s y.to),
-                ← (key-from x y p),
-                ← (key-to x y p),
-              )
-                  (at_most_mono (t x.from) (t x.to) x.bound y.bound l h);
-            }
+            rw (
+              ← (time-agree a σ s y.from),
+              ← (time-agree a σ s y.to),
+              ← (key-from x y p),
+              ← (key-to x y p),
+            )
+            (at_most_mono (t x.from) (t x.to) x.bound y.bound l h)
 
-  pub solution_by-uppers : Each (Stays (uppers_of Γ)) (uppers_of Δ) no_constraint → (σ : List ℕ) → Solution Γ σ
-      → Solution Δ σ
-  solution_by-uppers stay σ h = record {
+  -- a rule holds in both
+  pub holds_agree : (σ : List ℕ) (s : ℕ) (c : Constraint) → Holds Γ σ s c → Holds Δ σ s c
+  holds_agree σ s c w = record {
+    holds = λ e.
+        rw (← (time-agree a σ s c.from), ← (time-agree a σ s c.to)) (w.holds (covers-agree c c refl s ∙ e));
+  }
+
+  -- a table of the first is one of the second where the rules of that hold
+  pub solution_by-rules : (σ : List ℕ) → Solution Γ σ
+      → ((s c : ℕ) → s < scenarios Δ → c < Δ.rules → Holds Δ σ s (constraint Δ c)) → Solution Δ σ
+  solution_by-rules σ h rules = record {
     sized = h.sized ∙ cells_agree a;
     on_time = λ s u l m. on-time-agree σ s u (h.on_time s u (there_too l) (omega (arith, a.events)));
-    viable = λ s c l m.
-        rules_hold Δ σ s
-        (each_mono (kept-agree σ s (uppers-kept Γ σ s (λ c m. h.viable s c (there_too l) m))) stay)
-        c
-        m;
+    viable = rules;
     dynamic = λ s r u l m n.
         alike-agree σ s r u (h.dynamic s r u (there_too l) (there_too m) (omega (arith, a.events)));
   }
+
+  pub solution_by-uppers : Each (Stays (uppers_of Γ)) (uppers_of Δ) no_constraint → (σ : List ℕ) → Solution Γ σ
+      → Solution Δ σ
+  solution_by-uppers stay σ h =
+      solution_by-rules σ h (λ s c l m.
+      rules_hold Δ σ s
+      (each_mono (kept-agree σ s (uppers-kept Γ σ s (λ c m. h.viable s c (there_too l) m))) stay)
+      c
+      m)
 
 pub same_solutions : {Γ Δ : Network} → Agree Γ Δ → Each (Stays (uppers_of Γ)) (uppers_of Δ) no_constraint
     → Each (Stays (uppers_of Δ)) (uppers_of Γ) no_constraint → (σ : List ℕ) → Solution Γ σ ↔ Solution Δ σ

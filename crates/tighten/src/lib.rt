@@ -1,13 +1,12 @@
-// What remains of a network's rules: each rule as upper bounds, which document 02 calls rows, and of those with equal
-// ends and label the tightest, in the order of their keys. An upper bound is searched as one number, its key and
+// What remains of a network's rules: each rule as an upper bound, which document 02 calls a row, and of those with
+// equal ends and label the tightest, in the order of their keys. An upper bound is searched as one number, its key and
 // behind it its limit: the next one is the least number behind the last key.
 #![tactic(auto)]
 
-ghost use Rattle.std.specs.Prelude.{◌≡◌, ◌++◌, map, ◌+◌, ◌≤◌, ◌<◌, length};
-ghost use Rattle.network.specs.Limits as L;
-ghost use Rattle.tighten.specs.Upper.{uppers, uppers_of};
+ghost use Rattle.std.specs.Prelude.{◌≡◌, map, ◌<◌};
+ghost use Rattle.network.specs.WellFormed.{InLimits};
+ghost use Rattle.tighten.specs.Upper.{upper_of, uppers_of};
 ghost use Rattle.tighten.specs.Tightest.{remaining_of};
-ghost use Rattle.tighten.specs.Fitting.{fitting};
 ghost use Rattle.tighten.specs.Encoding as E;
 
 use counted::Counted;
@@ -18,7 +17,7 @@ use network::{Constraint, Kind, Label, Network};
 pub type UpperBounds = Counted<Constraint, { Network::RULES }>;
 
 // Upper bounds as numbers.
-type Encodings = Counted<u32, { Network::BOUNDS }>;
+type Encodings = Counted<u32, { Network::RULES }>;
 
 // How many numbers a key has for its limits: more than there are limits.
 const PER_KEY: u32 = 32768;
@@ -55,37 +54,31 @@ fn decode(number: u32) -> Constraint
     }
 }
 
-// The numbers of a rule: "a `min` swaps its ends and negates its limit, and a `fix` becomes both".
-fn push_rule(encodings: &mut Encodings, rule: &Constraint)
-    requires { (length encodings.old + 2 ≤ L.bounds)
-        × E.Encodable rule.now.from rule.now.to rule.now.bound rule.now.label }
-    ensures { encodings.new ≡ encodings.old ++ map E.encoded (uppers rule.now.kind rule.now) }
+// The upper bound of a rule: "a `min` swaps its ends and negates its limit".
+fn upper_of(rule: &Constraint) -> Constraint
+    requires { InLimits rule.now.bound }
+    ensures { result ≡ upper_of rule.now }
 {
-    let swapped = Constraint {
-        kind: Kind::Max,
-        from: rule.to,
-        to: rule.from,
-        bound: -rule.bound,
-        label: rule.label,
-    };
     match rule.kind {
-        Kind::Max => encodings.push(encode(rule)),
-        Kind::Min => encodings.push(encode(&swapped)),
-        Kind::Fix => {
-            encodings.push(encode(rule));
-            encodings.push(encode(&swapped));
-        }
+        Kind::Max => *rule,
+        Kind::Min => Constraint {
+            kind: Kind::Max,
+            from: rule.to,
+            to: rule.from,
+            bound: -rule.bound,
+            label: rule.label,
+        },
     }
 }
 
-// The numbers of all rules.
+// The numbers of the upper bounds of all rules.
 fn encode_all(formed: &Formed) -> Encodings
     ensures { result ≡ map E.encoded (uppers_of formed.now.network) }
 {
     let network = &formed.network;
-    let mut encodings = Encodings::new([0; Network::BOUNDS]);
+    let mut encodings = Encodings::new([0; Network::RULES]);
     for rule in &network.constraints[..network.rules] {
-        push_rule(&mut encodings, rule);
+        encodings.push(encode(&upper_of(rule)));
     }
     encodings
 }
@@ -110,19 +103,16 @@ fn floor_after(number: u32) -> u32
     (number / PER_KEY + 1) * PER_KEY
 }
 
-// The upper bounds that remain, one key after the other, or None where a sheet may not have so many.
-pub fn remaining(formed: &Formed) -> Option<UpperBounds>
-    ensures { result ≡ fitting (remaining_of formed.now.network) }
+// The upper bounds that remain, one key after the other. They fit a sheet, since they are no more than the rules.
+pub fn remaining(formed: &Formed) -> UpperBounds
+    ensures { result ≡ remaining_of formed.now.network }
 {
     let encodings = encode_all(formed);
     let mut remaining = UpperBounds::new([Constraint::NONE; Network::RULES]);
     let mut floor = 0;
     while let Some(least) = least_from(&encodings, floor) {
-        if remaining.len() == Network::RULES {
-            return None;
-        }
         remaining.push(decode(least));
         floor = floor_after(least);
     }
-    Some(remaining)
+    remaining
 }

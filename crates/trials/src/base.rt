@@ -19,6 +19,15 @@ pub fn print_brief<T: Display + Copy>(
     }
 }
 
+// Whether a text that was written once more is the same.
+pub fn print_again(rt: &impl Print, again: &[u8], before: &[u8]) -> io::Result<()> {
+    if again == before {
+        print!(rt; "again same")
+    } else {
+        print!(rt; "again other")
+    }
+}
+
 // What a call answers whose memory is one place too short.
 pub fn print_short<T: Display + Copy>(
     rt: &impl Print,

@@ -12,11 +12,7 @@ pub type Form = [u8; opening::SHEET_BYTES];
 fn print_again(rt: &impl Print, form: &[u8]) -> io::Result<()> {
     let mut page = [0u8; opening::SHEET_BYTES];
     let n = report::house(rt, "again ", form, &mut page)?.unwrap_or(0);
-    if &page[..n] == form {
-        print!(rt; "again same")
-    } else {
-        print!(rt; "again other")
-    }
+    base::print_again(rt, &page[..n], form)
 }
 
 // The form of n bytes, in a buffer of one byte less.

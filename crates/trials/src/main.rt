@@ -6,6 +6,7 @@
 
 mod back;
 mod base;
+mod convert;
 mod due;
 mod house;
 mod small;
@@ -19,9 +20,9 @@ fn digit(n: usize) -> u8 {
     b'0' + (n % 10) as u8
 }
 
-// The trial of this number has the sheet NNN.csv in data/, and the listing NNN.lst or the table NNN.tab, where there is
-// one. NNN are the last three digits of the number. The digits are spelled by hand, since a format would make a text
-// on the heap.
+// The trial of this number has the sheet NNN.csv in data/, or NNN.fix, which is converted first, and the listing
+// NNN.lst or the table NNN.tab, where there is one. NNN are the last three digits of the number. The digits are spelled
+// by hand, since a format would make a text on the heap.
 fn name(number: usize, kind: [u8; 3]) -> [u8; 7] {
     let a = digit(number / 100);
     let b = digit(number / 10);
@@ -67,6 +68,25 @@ fn told(
     }
 }
 
+// What the reader says of a sheet that is converted first, what the converter makes of it, and what is told of that.
+fn former(
+    rt: &(impl Files + Print),
+    sheet: &[u8],
+    number: usize,
+    last: &mut house::Form,
+) -> io::Result<()> {
+    base::read(rt, sheet)?;
+    let mut page = [0u8; opening::SHEET_BYTES];
+    match report::convert(rt, "converted ", sheet, &mut page)? {
+        Some(n) => {
+            let converted = &page[..n];
+            convert::tell(rt, sheet, converted)?;
+            told(rt, converted, number, last)
+        }
+        None => Ok(()),
+    }
+}
+
 // A trial: its number and title, and what its files make. The sheet is read with one byte more than a sheet
 // may have.
 fn numbered(
@@ -80,8 +100,14 @@ fn numbered(
     rt.write_all(title)?;
     println!(rt; "")?;
     let mut sheet = [0u8; opening::SHEET_BYTES + 1];
-    let n = files::read(rt, path(&name(number, *b"csv")), &mut sheet)?;
-    told(rt, &sheet[..n], number, last)
+    let fix = name(number, *b"fix");
+    if files::is_there(rt, path(&fix)) {
+        let n = files::read(rt, path(&fix), &mut sheet)?;
+        former(rt, &sheet[..n], number, last)
+    } else {
+        let n = files::read(rt, path(&name(number, *b"csv")), &mut sheet)?;
+        told(rt, &sheet[..n], number, last)
+    }
 }
 
 // Each line is the title of a trial.

@@ -1,6 +1,6 @@
 use native.Mathlib.Omega.{arith}
 use Rattle.page.proofs.Pushing.{pushing-next, pushing-all}
-use Rattle.canonical.specs.Most.{most_case}
+use Rattle.layout.specs.Most.{most_case}
 use Rattle.canonical.proofs.CaseLines.{labels_pushed}
 use Rattle.canonical.proofs.Labelled.{labelled-few}
 use Rattle.canonical.proofs.push_cases.Goals as goal

@@ -2,7 +2,7 @@
 -- section's first line, the lines of the events below u are written. Assumes nothing.
 use Rattle.page.proofs.Pushing.{Pushing}
 use Rattle.canonical.specs.Listed.{labelled_at}
-use Rattle.canonical.specs.Most.{most_case}
+use Rattle.layout.specs.Most.{most_case}
 use Rattle.canonical.proofs.Gathered.{line_by}
 use Rattle.canonical.proofs.CaseLines.{line_of}
 use Rattle.canonical.proofs.push_cases.Given as goal

@@ -7,7 +7,7 @@ use Rattle.page.proofs.Pushing.{pushing-next, pushing-all}
 use Rattle.network.specs.Build.{letter}
 use Rattle.layout.specs.Layout.{reaction_line}
 use Rattle.canonical.specs.Listed.{slow_by, labelled_of}
-use Rattle.canonical.specs.Most.{most_reaction}
+use Rattle.layout.specs.Most.{most_reaction}
 use Rattle.canonical.proofs.Gathered.{line_by}
 use Rattle.canonical.proofs.SlowLines.{slow_pushed}
 use Rattle.canonical.proofs.Slow.{slow_few}

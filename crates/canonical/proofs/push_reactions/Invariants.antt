@@ -4,7 +4,7 @@
 use Rattle.page.proofs.Pushing.{Pushing}
 use Rattle.layout.specs.Layout.{reaction_line}
 use Rattle.canonical.specs.Listed.{slow_at}
-use Rattle.canonical.specs.Most.{most_reaction}
+use Rattle.layout.specs.Most.{most_reaction}
 use Rattle.canonical.proofs.Gathered.{line_by}
 use Rattle.canonical.proofs.push_reactions.Given as goal
 

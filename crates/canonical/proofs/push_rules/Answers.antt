@@ -1,10 +1,7 @@
-use mathlib.Core.Path.{◌∙◌, ap}
-use Prim.Native.Nat.{◌≤◌}
+use mathlib.Core.Path.{◌∙◌}
 use native.Mathlib.Omega.{arith}
 use lib.ListN.{length, get_or}
-use Rattle.std.proofs.Common.{Some}
 use Rattle.page.proofs.Pushing.{pushing-next, pushing-all}
-use Rattle.network.specs.Limits as L
 use Rattle.network.specs.Build.{no_constraint}
 use Rattle.layout.specs.Layout.{rule_line}
 use Rattle.canonical.specs.House.{as_rule}
@@ -12,13 +9,19 @@ use Rattle.canonical.proofs.Sections.{section_pushed}
 use Rattle.canonical.proofs.Remaining.{remaining-few, remaining-proper-at, remaining-lines}
 use Rattle.canonical.proofs.push_rules.Goals as goal
 
+pub overflow_cast-uppers : goal.overflow_cast-uppers
+overflow_cast-uppers c =
+    let formed = c.args.accepted.now.formed in
+    let are = c.as_slice-uppers.ensures ∙ c.requires.0 in
+    omega (arith, remaining-few formed.network are formed.well_formed)
+
 pub push_rule-requires : goal.push_rule-requires
 push_rule-requires c =
     let formed = c.args.accepted.now.formed in
-    let us = c.as_slice-uppers.result.now in
-    let held = ap Some c.as_slice-uppers.ensures ∙ c.requires.0 in
-    let few : length us ≤ L.rules = remaining-few formed.network us held in (
-      remaining-proper-at formed.network us held formed.well_formed c.loop-upper.upper-index c.loop-upper-test.true,
+    let Γ = formed.network in
+    let are = c.as_slice-uppers.ensures ∙ c.requires.0 in
+    let few = remaining-few Γ are formed.well_formed in (
+      remaining-proper-at Γ are formed.well_formed c.loop-upper.upper-index c.loop-upper-test.true,
       omega arith,
     )
 
@@ -29,12 +32,13 @@ loop-upper-preserved c =
 pub returns : goal.returns
 returns c =
     let sheet = c.args.accepted.now.sheet.now in
-    let Γ = c.args.accepted.now.formed.network in
+    let formed = c.args.accepted.now.formed in
+    let Γ = formed.network in
     let us = c.as_slice-uppers.result.now in
-    let held = ap Some c.as_slice-uppers.ensures ∙ c.requires.0 in
-    let few : length us ≤ L.rules = remaining-few Γ us held in
+    let are = c.as_slice-uppers.ensures ∙ c.requires.0 in
+    let few = remaining-few Γ are formed.well_formed in
     section_pushed "rules" _ (length us) (λ k. rule_line (as_rule sheet Γ (get_or us k no_constraint)))
-    (remaining-lines Γ us held sheet)
+    (remaining-lines Γ are sheet)
     c.push_count.ensures
     (pushing-all c.loop-upper.invariant (omega arith))
     (omega arith)

@@ -6,7 +6,7 @@ use Rattle.page.proofs.Pushing.{Pushing}
 use Rattle.network.specs.Build.{no_constraint}
 use Rattle.layout.specs.Layout.{rule_line}
 use Rattle.canonical.specs.House.{as_rule}
-use Rattle.canonical.specs.Most.{most_rule}
+use Rattle.layout.specs.Most.{most_rule}
 use Rattle.canonical.proofs.push_rules.Given as goal
 
 abbrev pub invariant-loop-upper : goal.invariant-loop-upper

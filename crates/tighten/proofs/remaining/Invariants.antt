@@ -1,11 +1,10 @@
--- Each turn finds what the next key has, or that no key is left, or one more than fits (`Next`). The invariant: those
--- collected and the tightest of the keys from the floor on are all that remain (`Collected`). The measure is the room
--- that is left. Assumes nothing.
+-- Each turn finds what the next key has, or that no key is left (`Next`). The invariant: those collected and the
+-- tightest of the keys from the floor on are all that remain (`Collected`). The measure is the room that is left.
+-- Assumes nothing.
 use mathlib.Core.Path.{◌≡◌}
 use mathlib.Core.List.{map}
 use Prim.Native.Nat.{◌-◌}
 use lib.ListN.{length}
-use Rattle.network.specs.Limits as L
 use Rattle.tighten.specs.Upper.{uppers_of}
 use Rattle.tighten.specs.Encoding.{encoded}
 use Rattle.tighten.proofs.Collected.{Collected}
@@ -17,4 +16,4 @@ invariant-loop-least l =
     (l.encodings ≡ map encoded xs) × Collected xs l.remaining l.floor
 
 abbrev pub decreases-loop-least : goal.decreases-loop-least
-decreases-loop-least l = L.rules - length l.remaining
+decreases-loop-least l = length (uppers_of l.formed.network) - length l.remaining

@@ -3,6 +3,7 @@
 use mathlib.Core.Path.{◌≡◌, sym, ◌∙◌, ap}
 use mathlib.Core.Bool.{true, ◌&&◌}
 use mathlib.Core.Option.{none, some}
+use Rattle.std.proofs.Math.Option
 use mathlib.Core.List.{List}
 use Prim.Native.Nat.{ℕ}
 use lib.ListN.{length}
@@ -12,14 +13,15 @@ use Rattle.prelude.proofs.Options.{option_of-some}
 use Rattle.text.specs.Lines.{fields, field}
 use Rattle.text.specs.Number.{value_of}
 use Rattle.refusal.specs.declared.Cause.TheVariants as C
+use Rattle.network.specs.declared.Kind.TheVariants.{Max}
 use Rattle.network.specs.declared.Constraint.{Constraint}
 use Rattle.names.specs.Names.{is_name_lem, is_label_lem, label_of}
 use Rattle.names.specs.Defined.{mask_of}
-use Rattle.line.specs.Tests.{event_of, kind_of, limit_tests, letters_tests, ends_tests, rule_tests}
+use Rattle.line.specs.Tests.{event_of, kind_of, kind_tests, limit_tests, letters_tests, ends_tests, rule_tests}
 use Rattle.line.specs.declared.entry.Entry.TheVariants.{Rule}
 use Rattle.line.proofs.Refusals.{answer-err, answer-ok, exits, exits-none, exits_without, of_line}
 use Rattle.line.proofs.Refusals.{moved-letters}
-use Rattle.line.proofs.RuleRefusals.{limit-fits, rule-count, rule-other, rule-limit, rule-ends, rule-is}
+use Rattle.line.proofs.RuleRefusals.{limit-fits, rule-count, rule-kind, rule-limit, rule-ends, rule-is}
 use Rattle.line.proofs.RuleRefusals.{ends_ill, ends-from, ends-to, ends-letters}
 use Rattle.line.proofs.entry.rule_fields.Goals.{In_ok-fields, In_ok-kind, In_ok-bound, Else-not-is_rule, In_ok-from}
 use Rattle.line.proofs.entry.rule_fields.Goals.{In_ok-to}
@@ -35,12 +37,15 @@ line_is d = rw d.in_ok-fields.ensures.ok_part at d.of.ensures
 five : (d : In_ok-fields) → length (fs d) ≡ 5
 five d = rw (line_is d) at d.in_ok-fields.fields.cut.counted
 
--- the kind is that of the first field
-kind : (d : In_ok-kind) → kind_of (field 0 (fs (goal.at.In_ok-kind d).In_ok-fields)) ≡ some d.in_ok-kind.kind
+-- the kind passed, and is that of the first field
+kind : (d : In_ok-kind) → let f = field 0 (fs (goal.at.In_ok-kind d).In_ok-fields) in
+    (first_failing_lem (kind_tests f) ≡ none) × (Option.get_or (kind_of f) Max ≡ d.in_ok-kind.kind)
 kind d =
-    let found = option_of-some (kind_of d.at.result.now) d.in_ok-kind.kind
-    (sym d.kind_of.ensures ∙ d.in_ok-kind.ensures.ok_part) in
-    rw (of_line 0 d.at.ensures.is (line_is (goal.at.In_ok-kind d).In_ok-fields)) at found
+    let f = d.at.result.now in
+    let found = answer-ok (first_failing_lem (kind_tests f)) (Option.get_or (kind_of f) Max) d.in_ok-kind.kind
+    (sym d.in_ok-kind.ensures) in
+    let is-first = of_line 0 d.at.ensures.is (line_is (goal.at.In_ok-kind d).In_ok-fields) in
+    (rw is-first at found.0, ap (λ (g : List ℕ). Option.get_or (kind_of g) Max) (sym is-first) ∙ found.1)
 
 -- the limit passed, and is what its field says; what is left is the ends and the label
 limit : (d : In_ok-bound) → let f = field 3 (fs (goal.at.In_ok-bound d).In_ok-fields) in
@@ -58,8 +63,8 @@ to_ends : (d : In_ok-bound) → let defined = d.args.defined.now in
 to_ends d =
     let defined = d.args.defined.now in
     let places = goal.at.In_ok-bound d in
-    rule-ends defined.sheet.now defined.network.now (fs places.In_ok-fields) d.in_ok-kind.kind
-    (five places.In_ok-fields) (kind places.In_ok-kind) (limit d).0
+    rule-ends defined.sheet.now defined.network.now (fs places.In_ok-fields) (five places.In_ok-fields)
+    (kind places.In_ok-kind).0 (limit d).0
 
 -- the form of the ends and the label, and both ends
 formed : (d : Else-not-is_rule) → let gs = fs (goal.at.Else-not-is_rule d).In_ok-fields in
@@ -114,11 +119,13 @@ pub returns-in_err-kind : goal.returns-in_err-kind
 returns-in_err-kind c =
     let defined = c.args.defined.now in
     let d = (goal.at.returns-in_err-kind c).In_ok-fields in
-    let nothing = exits_without c.from_residual-in_err-kind.result c.in_err-kind.field-0.0 C.WrongFields
-    (kind_of c.at.result.now) c.from_residual-in_err-kind.ensures.1
-    (rw c.kind_of.ensures at c.in_err-kind.ensures.value) in
-    nothing.1 ∙ sym (rw (rule-other defined.sheet.now defined.network.now (fs d)
-    (rw (of_line 0 c.at.ensures.is (line_is d)) at nothing.0)))
+    let f = c.at.result.now in
+    let e = c.in_err-kind.field-0.0 in
+    let why = answer-err (first_failing_lem (kind_tests f)) (Option.get_or (kind_of f) Max) e
+    (sym c.in_err-kind.ensures) in
+    exits c.from_residual-in_err-kind.result e c.from_residual-in_err-kind.ensures.1
+    ∙ sym (rw (rule-kind defined.sheet.now defined.network.now (fs d) (five d) e
+    (rw (c.at.ensures.is, line_is d) at why)))
 
 pub returns-in_err-bound : goal.returns-in_err-bound
 returns-in_err-bound c =
@@ -129,8 +136,8 @@ returns-in_err-bound c =
     let e = c.in_err-bound.field-0.0 in
     let why = answer-err (first_failing_lem (limit_tests f)) (value_of f) e (sym c.in_err-bound.ensures) in
     exits c.from_residual-in_err-bound.result e c.from_residual-in_err-bound.ensures.1
-    ∙ sym (rw (rule-limit defined.sheet.now defined.network.now (fs d) c.in_ok-kind.kind (five d)
-    (kind places.In_ok-kind) e (rw (c.at-2.ensures.is, line_is d) at why)))
+    ∙ sym (rw (rule-limit defined.sheet.now defined.network.now (fs d) (five d) (kind places.In_ok-kind).0 e
+    (rw (c.at-2.ensures.is, line_is d) at why)))
 
 pub returns-then-not-is_rule : goal.returns-then-not-is_rule
 returns-then-not-is_rule c =
@@ -206,8 +213,8 @@ returns c =
       ← label.1,
     )
     (ap (λ (r : Constraint). Ok (Rule r))
-    (sym (rule-is sheet Γ (fs d) c.in_ok-kind.kind (five d) (kind places.In_ok-kind) c.in_ok-from.from c.in_ok-to.to
-    c.in_ok-bound.bound (from places.In_ok-from) (to places.In_ok-to) value.1
+    (sym (rule-is sheet Γ (fs d) c.in_ok-kind.kind c.in_ok-from.from c.in_ok-to.to c.in_ok-bound.bound
+    (kind places.In_ok-kind).1 (from places.In_ok-from) (to places.In_ok-to) value.1
     ∙ ap (λ (g : List ℕ). record {
       kind = c.in_ok-kind.kind;
       from = c.in_ok-from.from;

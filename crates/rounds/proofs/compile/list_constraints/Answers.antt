@@ -5,10 +5,9 @@ use lib.ListN.{get_or, take}
 use Rattle.std.proofs.lemmas.List.{get_or-take, length-take}
 use Rattle.network.specs.Build.{constraint, no_constraint}
 use Rattle.network.specs.WellFormed.{Proper}
-use Rattle.network.proofs.Jointly.{joint-lettered}
+use Rattle.bounds.specs.Listed.{Listable}
 use Rattle.rounds.specs.Compiled.{jointly}
-use Rattle.rounds.proofs.Constrained.{listable, listing_none, listing-next}
-use Rattle.rounds.proofs.Waits.{asking_as}
+use Rattle.rounds.proofs.Asking.{listable, jointly-proper, asking_as, listing_none, listing-next}
 use Rattle.rounds.proofs.compile.list_constraints.Goals.{In-loop-c}
 use Rattle.rounds.proofs.compile.list_constraints.Goals as goal
 
@@ -27,32 +26,34 @@ rule d =
     let Γ = d.args.frame.now.network in
     get_or-take Γ.rules Γ.constraints d.loop-c.c-index no_constraint (within d)
 
-proper : (d : In-loop-c) → let Γ = d.args.frame.now.network in Proper Γ (constraint Γ d.loop-c.c-index)
-proper d = d.args.frame.now.formed.proper d.loop-c.c-index (within d)
+-- and it can be listed under its joint label
+proper : (d : In-loop-c) → let Γ = d.args.frame.now.network in Proper Γ (jointly Γ (constraint Γ d.loop-c.c-index))
+proper d =
+    let W = d.args.frame.now.formed in
+    jointly-proper W _ (W.proper d.loop-c.c-index (within d))
 
-pub list_constraint-requires : goal.list_constraint-requires
-list_constraint-requires c =
-    let d = (goal.at.list_constraint-requires c).In-loop-c in
-    let Γ = c.args.frame.now.network in
-    let W = c.args.frame.now.formed in
-    let i = c.loop-c.c-index in
-    let p = proper d in
-    let joined : Proper Γ (jointly Γ (constraint Γ i)) = record {
-      from = p.from;
-      to = p.to;
-      bound = p.bound;
-      label = joint-lettered Γ (constraint Γ i) p.label W.lettered;
-    } in (
-      rw (c.joined-joint.ensures, rule d) (listable W _ joined),
-      λ s. omega (arith, c.loop-c.invariant.short s, W.rules, within d),
+ready : (d : In-loop-c) → let Γ = d.args.frame.now.network in Listable (jointly Γ (constraint Γ d.loop-c.c-index))
+ready d = listable d.args.frame.now.formed _ (proper d)
+
+pub by_kind-requires : goal.by_kind-requires
+by_kind-requires c =
+    let d = (goal.at.by_kind-requires c).In-loop-c in
+    rw (c.joined-joint.ensures, rule d) (ready d)
+
+pub add-requires : goal.add-requires
+add-requires c =
+    let d = (goal.at.add-requires c).In-loop-c in (
+      rw (c.joined-joint.ensures, rule d) (ready d).label,
+      λ s. omega (arith, c.loop-c.invariant.short s, c.args.frame.now.formed.rules, within d),
     )
 
 pub loop-c-preserved : goal.loop-c-preserved
 loop-c-preserved c =
     let d = (goal.at.loop-c-preserved c).In-loop-c in
     let frame = c.args.frame.now in
-    listing-next frame.network c.loop-c.c-index c.loop-c.invariant (proper d)
-    (rw (c.joined-joint.ensures, rule d, frame.scenarios_are) at c.list_constraint.ensures)
+    listing-next frame.network c.loop-c.c-index c.loop-c.invariant (proper d) c.by_kind.result
+    (rw (c.joined-joint.ensures, rule d) at c.by_kind.ensures)
+    (rw (c.joined-joint.ensures, rule d, frame.scenarios_are) at c.add.ensures)
 
 pub returns : goal.returns
 returns c =

@@ -6,9 +6,9 @@ use lib.Seq.{get_or-take, length-take-le}
 use Rattle.network.specs.Build.{no_label, event_label}
 use Rattle.rows.specs.declared.frame.Frame.{Frame}
 use Rattle.rows.proofs.Framed.{sums}
-use Rattle.rounds.proofs.Constrained.{listable}
+use Rattle.rounds.proofs.Asking.{listable, asking_as}
 use Rattle.rounds.proofs.Waits.{wait-proper, wait_skip, wait-next, waits_start, waits-next, compiled-waits}
-use Rattle.rounds.proofs.Waits.{asking_as, compiled-unlabelled}
+use Rattle.rounds.proofs.Waits.{compiled-unlabelled}
 use Rattle.rounds.proofs.compile.list_waits.Goals.{In-loop-w, then-mentions, else-mentions}
 use Rattle.rounds.proofs.compile.list_waits.Goals as goal
 
@@ -39,9 +39,9 @@ loop-w-init c = waits_start c.requires
 pub mentions-requires : goal.mentions-requires
 mentions-requires c = omega (arith, c.loop-p-test.true, c.args.frame.now.formed.signals)
 
-pub lower-requires : goal.lower-requires
-lower-requires c =
-    let d = (goal.at.lower-requires c).In-loop-w in
+pub by_kind-requires : goal.by_kind-requires
+by_kind-requires c =
+    let d = (goal.at.by_kind-requires c).In-loop-w in
     let frame = c.args.frame.now in
     let W = frame.formed in
     let known = frame.reactions_are c.loop-p.p (omega (arith, c.loop-p-test.true, W.signals)) in
@@ -77,8 +77,8 @@ loop-p-preserved c =
     elim c.if-mentions.branch [
       | then-mentions t ↦ rw t.lists-is
           (asking_as
-          (wait-next W w p so-far t.lower.result (event d) c.loop-p-test.true (sym e ∙ t.if-mentions.true)
-          (rw (t.wait_of-wait.ensures, known) at t.lower.ensures)
+          (wait-next W w p so-far t.by_kind.result (event d) c.loop-p-test.true (sym e ∙ t.if-mentions.true)
+          (rw (t.wait_of-wait.ensures, known) at t.by_kind.ensures)
           (rw (frame.scenarios_are, own d) at t.add.ensures))
           (omega arith) (λ σ s u. refl))
       | else-mentions t ↦ rw t.lists-is

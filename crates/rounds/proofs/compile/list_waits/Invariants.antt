@@ -6,7 +6,7 @@ use Rattle.rounds.specs.Compiled.{Asking, all_ask}
 use Rattle.rounds.proofs.compile.list_waits.Given as goal
 
 abbrev pub invariant-loop-p : goal.invariant-loop-p
-invariant-loop-p l = Asking l.frame.network l.lists (128 + l.w * 4 + l.p) (all_ask l.frame.network l.w l.p)
+invariant-loop-p l = Asking l.frame.network l.lists (64 + l.w * 4 + l.p) (all_ask l.frame.network l.w l.p)
 
 abbrev pub invariant-loop-w : goal.invariant-loop-w
-invariant-loop-w l = Asking l.frame.network l.lists (128 + l.w * 4) (all_ask l.frame.network l.w 0)
+invariant-loop-w l = Asking l.frame.network l.lists (64 + l.w * 4) (all_ask l.frame.network l.w 0)

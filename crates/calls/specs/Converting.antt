@@ -1,0 +1,56 @@
+-- What holds of the call that converts former sheets (02, point 7), for every sheet and lent buffer: "the good tables
+-- before and after are the same set". Where it refuses stands in `Numbers`.
+use Rattle.std.specs.Prelude.{◌≡◌, ◌↔◌, List, ℕ, suc, ◌+◌, ◌≤◌, length}
+use Rattle.refusal.specs.Refusal.{number_of, refusal}
+use Rattle.refusal.specs.declared.Cause.TheVariants.{RetiredKind}
+use Rattle.refusal.specs.declared.Refusal.{Refusal}
+use Rattle.network.specs.Limits as L
+use Rattle.network.specs.Solution.{Solution}
+use Rattle.network.specs.Least.{Least, Inconsistent}
+use Rattle.network.specs.declared.Network.{Network}
+use Rattle.sheet.specs.Fault.{Fault}
+use Rattle.conversion.specs.Rows.{fixes}
+use Rattle.conversion.specs.FormerRules.{read_as_max_lem, heading_line, FirstFix, FormerSolution, FormerLeast, FormerNone}
+use Rattle.conversion.specs.Converted.{resulting, converted, SameBytes}
+use Rattle.calls.specs.Values.{number_values}
+use Rattle.calls.specs.Calls.{converting}
+use Rattle.calls.specs.Answers.{Reads, WroteText}
+
+-- the sheet is a former sheet that is read as Γ, no more rules result than a sheet may have, and t is what it becomes
+pub record Conversion (sheet : List ℕ) (Γ : Network) (t : List ℕ) : Type 0 where
+  pub reads : Reads (read_as_max_lem sheet) Γ
+  pub few : resulting sheet Γ ≤ L.rules
+  pub text : t ≡ converted sheet Γ
+
+pub record Converting : Type 0 where
+  -- "Sheets that still hold it are no longer read by any call but a converter": today's reader accepts none of them. One
+  -- that the former rules accept is refused with 22 and the line of its first `fix` row; a sheet without such a row is
+  -- never refused with 22, and the converter never answers it
+  pub read_by : (sheet : List ℕ) (Γ : Network) → Reads sheet Γ → fixes sheet ≡ 0
+  pub turned_away : (sheet : List ℕ) (Γ : Network) → Reads (read_as_max_lem sheet) Γ → (fixes sheet ≡ 0 → ⊥)
+      → (c : ℕ) × FirstFix sheet Γ c × Fault sheet (refusal RetiredKind (suc (suc (heading_line Γ) + c)))
+  pub for_fix : (sheet : List ℕ) (r : Refusal) → Fault sheet r → number_of r.cause ≡ 22 → fixes sheet ≡ 0 → ⊥
+  pub never : (sheet m : List ℕ) → (number_values (converting sheet m).answer).number ≡ 22 → ⊥
+  -- where there is room the converted sheet is written, and everything behind it is unaltered
+  pub written : (sheet m t : List ℕ) (Γ : Network) → Conversion sheet Γ t → length t ≤ length m
+      → WroteText t m (converting sheet m)
+  -- today's reader accepts it
+  pub accepted : (sheet t : List ℕ) (Γ : Network) → Conversion sheet Γ t → (Δ : Network) × Reads t Δ
+  -- and its good tables are the former sheet's: so it has the same least table, or none
+  pub good : (sheet t : List ℕ) (Γ Δ : Network) → Conversion sheet Γ t → Reads t Δ → (σ : List ℕ)
+      → FormerSolution sheet Γ σ ↔ Solution Δ σ
+  pub least : (sheet t : List ℕ) (Γ Δ : Network) → Conversion sheet Γ t → Reads t Δ → (σ : List ℕ)
+      → FormerLeast sheet Γ σ ↔ Least Δ σ
+  pub none : (sheet t : List ℕ) (Γ Δ : Network) → Conversion sheet Γ t → Reads t Δ
+      → FormerNone sheet Γ ↔ Inconsistent Δ
+  -- "every other byte but the count of rules stays"; and 17 is about the rows that result of these
+  pub bytes : (sheet : List ℕ) (Γ : Network) → Reads (read_as_max_lem sheet) Γ
+      → SameBytes sheet Γ (converted sheet Γ)
+  -- a sheet without `fix` is read as it stands, so that it is refused as every call refuses it; one that is accepted
+  -- comes back byte for byte
+  pub as_it_stands : (sheet : List ℕ) → fixes sheet ≡ 0 → read_as_max_lem sheet ≡ sheet
+  pub unchanged : (sheet m : List ℕ) (Γ : Network) → Reads sheet Γ → length sheet ≤ length m
+      → WroteText sheet m (converting sheet m)
+  -- so a second pass changes no byte
+  pub second_pass : (sheet t m : List ℕ) (Γ : Network) → Conversion sheet Γ t → length t ≤ length m
+      → WroteText t m (converting t m)
