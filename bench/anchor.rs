@@ -1,7 +1,7 @@
 //! A solver to measure against: an unproved Rust solver, written apart from the library, of the same job and with the
 //! same rounds. Taken over as it was, but for its layout, its names, the reading of reactions, which its rounds had
-//! from the first, and the kind `fix`, which it does not know (02, point 7), so that a rule asks once and its lists are
-//! half as long. A sheet is taken to be in order: the reader panics where it is not.
+//! from the first, and the kind `fix`: it knows `max` and `min` alone (02, point 7), so that a rule asks once. A sheet
+//! is taken to be in order: the reader panics where it is not.
 
 pub struct Rule {
     /// 0 `max`, 1 `min`.

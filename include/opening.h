@@ -106,7 +106,7 @@
  *         `-` alone is a blank
  *     20  the start is given a label other than `-`: the last line of the cases
  *     21  an event's or rule's label lacks part of the label of an event whose signal it uses: the last line of the cases
- *     22  the row is a `fix`; never of convert
+ *     22  the row is a `fix`, which 3 takes for a kind; never of convert
  *
  * Of the sheet, 1 is tried before any line; then its first line at fault decides, and on it the lowest number, but 22 is tried
  * directly after 3, before 4. 20 and 21 look at all labels, and are tried on the last line of the cases, if that section has
@@ -244,8 +244,8 @@ uint64_t opening_house(const uint8_t *sheet, size_t sheet_len, uint8_t *out, siz
  * those above with that kind, and refused by them: with the number and the line that it would have if each `fix` were a `max`.
  * 17 is answered where more than 64 rules would result, whatever out is.
  * In the converted sheet a `max` and a `min` row stand in the place of each `fix` row, with its other bytes, and the count of
- * the rules is raised; every other byte stays. It has exactly the good tables of the former one. A sheet without `fix` comes
- * back byte for byte. If the answer's number is 0, the first opening_bytes(answer) bytes of out are the converted sheet, with
+ * the rules is raised; every other byte stays. It has exactly the good tables of the former one. An accepted sheet without
+ * `fix` comes back byte for byte. If the answer's number is 0, the first opening_bytes(answer) bytes of out are the converted sheet, with
  * no NUL behind it, and all bytes behind them are unaltered; an out longer than needed is no fault, and OPENING_SHEET_MOST
  * bytes are always enough. Otherwise out keeps all its contents. */
 uint64_t opening_convert(const uint8_t *sheet, size_t sheet_len, uint8_t *out, size_t out_len);

@@ -145,8 +145,8 @@ pub fn holds_in(label: &[(usize, bool)], case: usize) -> bool {
 
 // ---------------------------------------------------------------- The sheet
 
-/// By which rules a sheet is read: those of today, or, by the converter, "the former rules". Readings: these "are
-/// those after request 6".
+/// By which rules a sheet is read: those of today, or, by the converter, "the former rules". Readings: these are
+/// those after request 6.
 #[derive(Clone, Copy, PartialEq)]
 enum Kinds {
     Today,

@@ -10,7 +10,8 @@ use Rattle.network.specs.Least.{Least, Inconsistent}
 use Rattle.network.specs.declared.Network.{Network}
 use Rattle.sheet.specs.Fault.{Fault}
 use Rattle.conversion.specs.Rows.{fixes}
-use Rattle.conversion.specs.FormerRules.{read_as_max_lem, heading_line, FirstFix, FormerSolution, FormerLeast, FormerNone}
+use Rattle.conversion.specs.FormerRules.{read_as_max_lem, heading_line, FirstFix, FormerSolution, FormerLeast}
+use Rattle.conversion.specs.FormerRules.{FormerNone}
 use Rattle.conversion.specs.Converted.{resulting, converted, SameBytes}
 use Rattle.calls.specs.Values.{number_values}
 use Rattle.calls.specs.Calls.{converting}
@@ -23,9 +24,9 @@ pub record Conversion (sheet : List ℕ) (Γ : Network) (t : List ℕ) : Type 0 
   pub text : t ≡ converted sheet Γ
 
 pub record Converting : Type 0 where
-  -- "Sheets that still hold it are no longer read by any call but a converter": today's reader accepts none of them. One
-  -- that the former rules accept is refused with 22 and the line of its first `fix` row; a sheet without such a row is
-  -- never refused with 22, and the converter never answers it
+  -- "Sheets that still hold it are no longer read by any call but a converter": today's reader accepts none of them.
+  -- One that the former rules accept is refused with 22 and the line of its first `fix` row; a sheet without such a row
+  -- is never refused with 22, and the converter never answers it
   pub read_by : (sheet : List ℕ) (Γ : Network) → Reads sheet Γ → fixes sheet ≡ 0
   pub turned_away : (sheet : List ℕ) (Γ : Network) → Reads (read_as_max_lem sheet) Γ → (fixes sheet ≡ 0 → ⊥)
       → (c : ℕ) × FirstFix sheet Γ c × Fault sheet (refusal RetiredKind (suc (suc (heading_line Γ) + c)))
@@ -43,7 +44,8 @@ pub record Converting : Type 0 where
       → FormerLeast sheet Γ σ ↔ Least Δ σ
   pub none : (sheet t : List ℕ) (Γ Δ : Network) → Conversion sheet Γ t → Reads t Δ
       → FormerNone sheet Γ ↔ Inconsistent Δ
-  -- "every other byte but the count of rules stays"; and 17 is about the rows that result of these
+  -- "every other byte but the count of rules stays"; and as only rows are `fix` rows, as many rows result as 17 asks
+  -- about
   pub bytes : (sheet : List ℕ) (Γ : Network) → Reads (read_as_max_lem sheet) Γ
       → SameBytes sheet Γ (converted sheet Γ)
   -- a sheet without `fix` is read as it stands, so that it is refused as every call refuses it; one that is accepted

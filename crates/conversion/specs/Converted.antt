@@ -30,9 +30,9 @@ module _ (sheet : List ℕ) (Γ : Network) where
       ++ heading resulting
       ++ lines (map doubled (drop (suc (heading_line Γ)) (lines_of sheet)))
 
--- t is the sheet with other bytes in the places of the count and of the `fix` rows only. The sheet has these lines: some
--- above the rules, their heading, as many rows as there are rules, and some behind them; and only rows are `fix` rows. In
--- t the lines above, the rows that are no `fix` rows and the lines behind are the same bytes in the same order
+-- t is the sheet with other bytes in the places of the count and of the `fix` rows only. The sheet has these lines:
+-- some above the rules, their heading, as many rows as there are rules, and some behind them; and only rows are `fix`
+-- rows. In t the lines above, the rows that are no `fix` rows and the lines behind are the same bytes in the same order
 pub record SameBytes (sheet : List ℕ) (Γ : Network) (t : List ℕ) : Type 0 where
   pub above : List (List ℕ)
   pub rows : List (List ℕ)
