@@ -1,8 +1,8 @@
 -- Of the tests of a rule's line, the one with 22 is the first to fail exactly for a `fix` row. Assumes nothing.
 use mathlib.Core.Path.{◌≡◌, refl, ap}
 use mathlib.Core.Logic.{◌↔◌, inl, inr}
-use mathlib.Core.Bool.{Bool, true, ◌&&◌, not, or-true}
-use mathlib.Core.List.{List, [], ◌∷◌, ◌++◌}
+use mathlib.Core.Bool.{Bool, true, not, or-true}
+use mathlib.Core.List.{List, ◌++◌}
 use Prim.Native.Nat.{ℕ}
 use native.Mathlib.Omega.{arith}
 use borrow.Author.Tests.{eq-eqb, not-true, not-false}
@@ -17,22 +17,19 @@ use Rattle.refusal.specs.declared.Cause.{Cause}
 use Rattle.refusal.specs.declared.Cause.TheVariants as C
 use Rattle.network.specs.declared.Network.{Network}
 use Rattle.line.specs.Tests.{Tests, kind_of, is_retired, kind_tests, limit_tests, ends_tests, rule_tests}
+use Rattle.sheet.proofs.Order.{every_number, first_fails_number}
 use Rattle.conversion.specs.Rows.{are_fix}
 
--- whether none of the tests has the number 22
-abbrev pub others : Tests → Bool
-others [] = true
-others (t ∷ ts) = not (eqb (number_of t.1) 22) && others ts
+-- another number than 22
+abbrev pub is_other : ℕ → Bool
+is_other n = not (eqb n 22)
 
 module _ (c : Cause) (n : number_of c ≡ 22) where
-  -- so the first of them to fail has another number
-  pub others-fail : (ts : Tests) → others ts ≡ true → FirstFails ts c → ⊥
-  others-fail [] o f = f
-  others-fail (t ∷ ts) o (inl f) =
-      let p = and-true (not (eqb (number_of t.1) 22)) (others ts) o in
-      clash (eqb (number_of t.1) 22) (eq-eqb (number_of t.1) 22 (rw f.1 n)) (not-true (eqb (number_of t.1) 22) p.0)
-  others-fail (t ∷ ts) o (inr f) =
-      others-fail ts (and-true (not (eqb (number_of t.1) 22)) (others ts) o).1 f.1
+  -- of tests with other numbers, none fails first with this one
+  pub others-fail : (ts : Tests) → every_number is_other ts ≡ true → FirstFails ts c → ⊥
+  others-fail ts o f =
+      clash (eqb (number_of c) 22) (eq-eqb (number_of c) 22 n)
+      (not-true (eqb (number_of c) 22) (first_fails_number is_other ts c o f))
 
   module _ (sheet : List ℕ) (Γ : Network) (fs : List (List ℕ)) where
     pub fix_of_fails : FirstFails (rule_tests sheet Γ fs) c → are_fix fs ≡ true

@@ -18,7 +18,7 @@ use Rattle.network.specs.declared.Network.{Network}
 use Rattle.sheet.specs.Reading.{read}
 use Rattle.sheet.specs.Place.{place, tests}
 use Rattle.sheet.specs.Fault.{FirstFault, Fails, Fault}
-use Rattle.sheet.proofs.Order.{first_fails_lowest, is_of_line, first_fails_of_line, tests-are}
+use Rattle.sheet.proofs.Order.{first_fails_lowest, is_of_line, first_fails_number, tests-are}
 use Rattle.sheet.proofs.Over.{over_holds, lines-inside}
 use Rattle.sheet.proofs.Answers.{Answers, answers}
 
@@ -78,7 +78,7 @@ module _ (sheet : List ℕ) where
       (1 < n) × ((n ≤ 10) ⊎ ((20 ≤ n) × (n ≤ 22)))
   first-fault-range r f =
       of_line (number_of r.cause)
-      (first_fails_of_line (tests sheet f.above) r.cause (tests-are sheet f.above).1 f.fault)
+      (first_fails_number is_of_line (tests sheet f.above) r.cause (tests-are sheet f.above).1 f.fault)
 
   -- a fault stands at most one line behind as many lines as the sheet has bytes
   pub first-fault-near : (r : Refusal) → FirstFault sheet r → r.line ≤ suc (length sheet)

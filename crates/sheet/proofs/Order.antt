@@ -49,20 +49,24 @@ first_fails_lowest lo (t ∷ ts) c d o (inr f) (inl g) = clash t.0 f.0 g.0
 first_fails_lowest lo (t ∷ ts) c d o (inr f) (inr g) =
     first_fails_lowest (turn_of t.1) ts c d (in_order lo t ts o).1 f.1 g
 
+-- what each of the tests' numbers has, and so that of the first to fail
+abbrev pub every_number : (ℕ → Bool) → Tests → Bool
+every_number p [] = true
+every_number p (t ∷ ts) = p (number_of t.1) && every_number p ts
+
+pub first_fails_number : (p : ℕ → Bool) (ts : Tests) (c : Cause) → every_number p ts ≡ true → FirstFails ts c
+    → p (number_of c) ≡ true
+first_fails_number p [] c o f = absurd f
+first_fails_number p (t ∷ ts) c o (inl f) = rw (← f.1) (and-true (p (number_of t.1)) (every_number p ts) o).0
+first_fails_number p (t ∷ ts) c o (inr f) =
+    first_fails_number p ts c (and-true (p (number_of t.1)) (every_number p ts) o).1 f.1
+
 -- the numbers of a line's refusals: from 2 to 10, and from 20 to 22
 abbrev pub is_of_line : ℕ → Bool
 is_of_line n = leb 2 n && (leb n 10 || (leb 20 n && leb n 22))
 
 abbrev pub are_of_line : Tests → Bool
-are_of_line [] = true
-are_of_line (t ∷ ts) = is_of_line (number_of t.1) && are_of_line ts
-
-pub first_fails_of_line : (ts : Tests) (c : Cause) → are_of_line ts ≡ true → FirstFails ts c
-    → is_of_line (number_of c) ≡ true
-first_fails_of_line [] c o f = absurd f
-first_fails_of_line (t ∷ ts) c o (inl f) = rw (← f.1) (and-true (is_of_line (number_of t.1)) (are_of_line ts) o).0
-first_fails_of_line (t ∷ ts) c o (inr f) =
-    first_fails_of_line ts c (and-true (is_of_line (number_of t.1)) (are_of_line ts) o).1 f.1
+are_of_line ts = every_number is_of_line ts
 
 module _ (sheet : List ℕ) where
   expected-are : (d : Expected) (Γ : Network) (at : ℕ)
