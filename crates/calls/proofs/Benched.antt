@@ -6,27 +6,27 @@ use mathlib.Core.List.{List, ◌++◌}
 use Prim.Native.Nat.{ℕ, ◌*◌, ◌/◌, ◌≤◌}
 use borrow.Author.Tests.{eq-eqb}
 use lib.ListN.{length, drop}
-use Rattle.pairs.specs.Pairs.{minutes_of, bytes_of}
+use Rattle.pairs.specs.Pairs.{minutes_of}
 use Rattle.network.specs.Build.{cells}
-use Rattle.network.specs.Least.{Least, Inconsistent}
 use Rattle.network.specs.declared.Network.{Network}
 use Rattle.sheet.specs.Reading.{network_of, Accepts}
 use Rattle.dispatch.specs.Due.{due}
 use Rattle.dispatch.specs.HeardText.{is_heard_lem, heard_in, due_text}
 use Rattle.dispatch.proofs.HeardText.{due-heard}
-use Rattle.calls.specs.Values.{OrRefusal, done, number_values}
-use Rattle.calls.specs.Call.{Left}
-use Rattle.calls.specs.Lent.{as_minutes, as_bytes, in_pairs}
+use Rattle.calls.specs.Values.{OrRefusal, number_values}
+use Rattle.calls.specs.Lent.{as_minutes, as_bytes}
 use Rattle.calls.specs.Play.{events_due_lem}
-use Rattle.calls.specs.Bench.{bench_solving, bench_due}
+use Rattle.calls.specs.Bench.{bench_due}
 use Rattle.calls.specs.Numbers.{bytes}
+use Rattle.calls.specs.Answers.{Reads}
+use Rattle.calls.specs.Playing.{TellsRow}
 use Rattle.calls.specs.Benched.{Benched}
 use Rattle.calls.proofs.Handed.{bytes_rightly}
 use Rattle.calls.proofs.Judging.{judge_passes, judge-breaches}
-use Rattle.calls.proofs.Solving.{refuses_13, solves-least}
 use Rattle.calls.proofs.Writing.{listing-wrote}
 use Rattle.calls.proofs.Alike.{playing-alike}
 use Rattle.calls.proofs.Play.{lettered}
+use Rattle.calls.proofs.Playing.{playing}
 use Rattle.calls.proofs.Header.{header-judge, header-solver, header-lister, header-house, header-player}
 use Rattle.calls.proofs.Header.{header-converter}
 use Rattle.calls.proofs.Header.{header-recoverer}
@@ -34,18 +34,6 @@ use Rattle.calls.proofs.Header.{header-recoverer}
 module _ (sheet : List ℕ) (a : Accepts sheet) (b : List ℕ) where
   abbrev net : Network
   net = network_of sheet
-
-  solved : cells net ≤ length b / 2 → (Inconsistent net → ⊥)
-      → (σ : List ℕ) × Least net σ × (number_values (bench_solving sheet b).answer ≡ done (cells net))
-      × ((bench_solving sheet b).memory ≡ bytes_of σ ++ drop (2 * cells net) b)
-  solved room n =
-      let s = solves-least sheet (in_pairs b) a room n in
-      let size = s.1.solves.sized in (
-        s.0,
-        s.1,
-        ap (λ (l : Left (OrRefusal ℕ)). number_values l.answer) s.2 ∙ ap done size,
-        ap (λ (l : Left (OrRefusal ℕ)). l.memory) s.2 ∙ ap (λ (k : ℕ). bytes_of s.0 ++ drop (2 * k) b) size,
-      )
 
   -- a table of bytes that has the right length is played as its minutes are
   played : length b ≡ 2 * cells net → (m : ℕ) (text : List ℕ) → is_heard_lem text ≡ true
@@ -60,17 +48,27 @@ module _ (sheet : List ℕ) (a : Accepts sheet) (b : List ℕ) where
       (λ Γ. due_text Γ t m text)
       (λ Γ. due Γ t m (heard_in text)) (λ _ _. due-heard net t m (lettered sheet a) text h)
 
+played_as : (sheet b : List ℕ) (Γ : Network) (m : ℕ) (text : List ℕ) → Reads sheet Γ → length b ≡ 2 * cells Γ
+    → is_heard_lem text ≡ true → bench_due sheet b m text ≡ events_due_lem sheet (minutes_of b) m (heard_in text)
+played_as sheet b Γ m text r = rw (← r.network) (λ e. played sheet r.accepted b e m text)
+
+-- so it tells the row that the list has
+row_told : (sheet b : List ℕ) (m : ℕ) (text : List ℕ) → is_heard_lem text ≡ true
+    → TellsRow sheet (bytes b) (minutes_of b) m (heard_in text) (number_values (bench_due sheet b m text))
+row_told sheet b m text formed Γ r right good s h l =
+    rw (played_as sheet b Γ m text r right formed)
+    (playing.due sheet (minutes_of b) m (heard_in text) Γ r good.sized good s h l)
+
 pub benched : Benched
 benched = record {
   passes = λ sheet b Γ r. rw (← r.network)
       (judge_passes sheet (as_bytes b) (bytes b) r.accepted (bytes_rightly b (network_of sheet)));
   breaches = λ sheet b Γ x r. rw (← r.network)
       (λ e. judge-breaches sheet (as_bytes b) (bytes b) r.accepted (bytes_rightly b (network_of sheet)) e x);
-  refused = λ sheet b Γ r. rw (← r.network) (λ room. refuses_13 sheet (in_pairs b) r.accepted room);
-  solved = λ sheet b Γ r. rw (← r.network) (solved sheet r.accepted b);
   lists = λ sheet b m Γ r. rw (← r.network)
       (λ e. listing-wrote sheet (as_bytes b) (bytes b) m r.accepted (bytes_rightly b (network_of sheet)) e);
-  plays = λ sheet b Γ m text r. rw (← r.network) (λ e. played sheet r.accepted b e m text);
+  due = row_told;
+  plays = played_as;
   judge_holds = header-judge;
   solver_holds = header-solver;
   lister_holds = header-lister;

@@ -11,13 +11,14 @@ use Rattle.rounds.proofs.Hyperarcs.{hyperarcs_agree}
 use Rattle.solver.proofs.Least.{solve-least, solve-none}
 use Rattle.conversion.proofs.Retired.{retired_iff}
 use Rattle.calls.specs.Demands.{Demands}
-use Rattle.calls.specs.Lent.{as_minutes, in_place_lem}
+use Rattle.calls.specs.Lent.{as_minutes}
 use Rattle.calls.specs.Numbers.{minutes}
 use Rattle.calls.proofs.Call.{reads_well_formed}
 use Rattle.calls.proofs.Handed.{minutes_rightly}
 use Rattle.calls.proofs.Judging.{judge_passes, judge-breaches}
+use Rattle.calls.proofs.Reader.{summary_ok, summary_err, summary_counts}
 use Rattle.calls.proofs.Solving.{refuses_13, solves-least}
-use Rattle.calls.proofs.Writing.{wrote, listing-wrote}
+use Rattle.calls.proofs.Writing.{wrote_into, listing-wrote}
 use Rattle.calls.proofs.Numbers.{numbers}
 use Rattle.calls.proofs.Benched.{benched}
 use Rattle.calls.proofs.Former.{plain-contents, former_iff}
@@ -25,7 +26,9 @@ use Rattle.calls.proofs.Former.{plain-contents, former_iff}
 pub demands : Demands
 demands = record {
   numbers = numbers;
-  counted = λ sheet Γ r. rw (← r.network, r.accepted);
+  reads = summary_ok;
+  faults = summary_err;
+  counts = summary_counts;
   accepted = accepted_iff;
   contains = λ sheet Γ r l. rw (← r.network) (network-contains sheet l);
   at_fault = refused_iff;
@@ -45,14 +48,12 @@ demands = record {
     λ i e. i.none (found Γ) (solve-least Γ (reads_well_formed r) e).solves,
   );
   passes = λ sheet t Γ r. rw (← r.network)
-      (let p = judge_passes sheet (as_minutes t) (minutes t) r.accepted (minutes_rightly t (network_of sheet)) in
-      (λ e. (p.0 e).1, λ g. p.1 (g.sized, g)));
+      (judge_passes sheet (as_minutes t) (minutes t) r.accepted (minutes_rightly t (network_of sheet)));
   breaches = λ sheet t Γ b r. rw (← r.network)
       (λ e. judge-breaches sheet (as_minutes t) (minutes t) r.accepted (minutes_rightly t (network_of sheet)) e b);
-  refused = λ sheet m Γ r. rw (← r.network) (λ room. refuses_13 sheet (in_place_lem m) r.accepted room);
+  refused = λ sheet m Γ r. rw (← r.network) (refuses_13 sheet m r.accepted);
   solved = λ sheet m Γ r. rw (← r.network)
-      (λ room n. let s = solves-least sheet (in_place_lem m) r.accepted room n in
-      (s.0, s.1, wrote s.0 m (sym s.2)));
+      (λ room n. let s = solves-least sheet m r.accepted room n in (s.0, s.1, wrote_into m s.0 (sym s.2)));
   lists = λ sheet t m Γ r. rw (← r.network)
       (λ e. listing-wrote sheet (as_minutes t) (minutes t) m r.accepted (minutes_rightly t (network_of sheet)) e);
   bench = benched;

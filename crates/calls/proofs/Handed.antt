@@ -21,6 +21,10 @@ use Rattle.calls.specs.Numbers.{minutes, bytes}
 pub cells-few : {Γ : Network} → WellFormed Γ → cells Γ ≤ 256
 cells-few {Γ} w = omega (arith, mul-le-mul w.events (pow_mono {i = Γ.signals} {j = 4} w.signals))
 
+-- and at least one
+pub cells-some : {Γ : Network} → WellFormed Γ → 1 ≤ cells Γ
+cells-some {Γ} w = omega (arith, mul-le-mul w.some_event (pow_mono {i = 0} {j = Γ.signals} (omega arith)))
+
 pub record Rightly (t : Handed) (right : Network → Type 0) (Γ : Network) : Type 0 where
   pub yes : (t.has (cells Γ) ≡ true) ↔ right Γ
   pub no : (t.has (cells Γ) ≡ false) ↔ (right Γ → ⊥)

@@ -20,7 +20,7 @@ use Rattle.calls.specs.Values.{OrRefusal, Values, number_values}
 use Rattle.calls.specs.Lent.{as_bytes, in_pairs}
 use Rattle.calls.specs.Calls.{judging_tests, housed, converting}
 use Rattle.calls.specs.Bench.{bench_judgement, bench_solving, bench_listed, bench_due, bench_recovering}
-use Rattle.calls.specs.Bench.{Finding, no_finding}
+use Rattle.calls.specs.Bench.{Finding, finding, no_finding}
 use Rattle.calls.specs.Bench.{judgement_values, refused, packed, Small, packed_count_lem}
 use Rattle.calls.specs.Answers.{OfSheet, Own, OneOf, Answers}
 use Rattle.calls.specs.Numbers.{bytes, judges, solves, lists, houses, converts, recovers, plays}
@@ -54,14 +54,22 @@ module _ {A : Type 0} {nothing : A} (sheet : List ℕ) (own : List Own) (v : Val
   line-few : v.line < 65536
   line-few = omega (arith, a.near)
 
+-- values that are equal one by one
+values_are : {A : Type 0} (v : Values A) (n l : ℕ) (x : A) → n ≡ v.number → l ≡ v.line → x ≡ v.value
+    → ◌≡◌ {A = Values A} (record { number = n; line = l; value = x }) v
+values_are v n l x p q r = rw (p, q, r) refl
+
+finding_is : (y : Finding) (w a b c : ℕ) → w ≡ y.word → a ≡ y.first → b ≡ y.second → c ≡ y.third
+    → finding w a b c ≡ y
+finding_is y w a b c p q r s = rw (p, q, r, s) refl
+
 judge_holds : (v : Values Finding) → Small v → JudgeHolds (packed v) v
 judge_holds v s = record {
-  number = omega (arith, s.number);
-  line = omega (arith, s.number, s.line);
-  word = omega (arith, s.number, s.line, s.word);
-  first = omega (arith, s.number, s.line, s.word, s.first);
-  second = omega (arith, s.number, s.line, s.word, s.first, s.second);
-  third = omega (arith, s.number, s.line, s.word, s.first, s.second, s.third);
+  values = values_are v _ _ _ (omega (arith, s.number)) (omega (arith, s.number, s.line))
+      (finding_is v.value _ _ _ _ (omega (arith, s.number, s.line, s.word))
+      (omega (arith, s.number, s.line, s.word, s.first))
+      (omega (arith, s.number, s.line, s.word, s.first, s.second))
+      (omega (arith, s.number, s.line, s.word, s.first, s.second, s.third)));
   rest = omega (arith, s.number, s.line, s.word, s.first, s.second, s.third);
 }
 
@@ -70,14 +78,7 @@ count-holds : (sheet : List ℕ) (own : List Own) (v : Values ℕ) → are_few o
 count-holds sheet own v few a c =
     let n = number-few sheet own v few a in
     let l = line-few sheet own v few a in
-    record {
-      number = omega arith;
-      line = omega arith;
-      minutes = omega arith;
-      bytes = omega arith;
-      events = omega arith;
-      rest = omega arith;
-    }
+    record { values = values_are v _ _ _ (omega arith) (omega arith) (omega arith); rest = omega arith }
 
 module _ (sheet b : List ℕ) where
   abbrev answer : OrRefusal Verdict

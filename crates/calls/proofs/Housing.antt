@@ -7,6 +7,7 @@ use lib.ListN.{length}
 use Rattle.network.specs.declared.Network.{Network}
 use Rattle.network.proofs.Least.{same-least, same_inconsistent}
 use Rattle.sheet.specs.Reading.{network_of, Accepts}
+use Rattle.tighten.specs.Tightest.{remaining_of}
 use Rattle.tighten.proofs.Agree.{same-events}
 use Rattle.tighten.proofs.Few.{remaining_of-few}
 use Rattle.tighten.proofs.Regular.{uppers_regular}
@@ -17,7 +18,7 @@ use Rattle.canonical.proofs.Again.{form-accepted, form_agrees, form-again, form-
 use Rattle.canonical.proofs.Forms.{forms-equal}
 use Rattle.calls.specs.Calls.{housed}
 use Rattle.calls.specs.Answers.{Reads, WroteText}
-use Rattle.calls.specs.Housing.{Form, SameTables, Housing}
+use Rattle.calls.specs.Housing.{Form, SameTables, HouseForm, Housing}
 use Rattle.calls.proofs.Call.{reads_well_formed}
 use Rattle.calls.proofs.Writing.{house-wrote}
 
@@ -59,6 +60,23 @@ tables sheet f Γ Δ form reads =
     record { good = good; least = same-least events good; none = same_inconsistent events good }))
     sheet f Γ form Δ reads.network
 
+-- the form that is written, told by what it contains
+form : (sheet : List ℕ) (Γ : Network) → Reads sheet Γ → Form sheet Γ (house_text sheet Γ)
+form sheet Γ reads = record { reads = reads; form = refl }
+
+house_form : (sheet : List ℕ) (Γ : Network) → Reads sheet Γ → HouseForm sheet Γ (house_text sheet Γ)
+unfolding house_text
+house_form sheet Γ reads =
+    let own = again sheet (house_text sheet Γ) Γ (form sheet Γ reads) in
+    record {
+      rows = remaining_of Γ;
+      remain = remaining-is (uppers_regular Γ (reads_well_formed reads));
+      text = refl;
+      network = own.0;
+      own = own.1;
+      tables = tables sheet (house_text sheet Γ) Γ own.0 (form sheet Γ reads) own.1.reads;
+    }
+
 equal : (sheet other f g : List ℕ) (Γ Δ : Network) → Form sheet Γ f → Form other Δ g → (f ≡ g) ↔ Same sheet Γ other Δ
 equal sheet other f g Γ Δ form form' =
     by-sheet (λ sheet Γ f. (f ≡ g) ↔ Same sheet Γ other Δ)
@@ -70,6 +88,11 @@ equal sheet other f g Γ Δ form form' =
 pub housing : Housing
 housing = record {
   few = λ sheet Γ reads. remaining_of-few Γ (reads_well_formed reads);
+  writes = λ sheet m Γ reads. (
+    house_text sheet Γ,
+    house_form sheet Γ reads,
+    all-written sheet m (house_text sheet Γ) Γ (form sheet Γ reads),
+  );
   written = all-written;
   rows = λ sheet Γ reads. remaining-is (uppers_regular Γ (reads_well_formed reads));
   rows_alone = λ sheet Γ rs reads is. remaining_unique (uppers_regular Γ (reads_well_formed reads)) is;

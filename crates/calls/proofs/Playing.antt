@@ -95,7 +95,6 @@ module _ (sheet t : List ℕ) (Γ : Network) (reads : Reads sheet Γ) where
 
     plays : Plays sheet t Γ
     plays = record {
-      due = row_at;
       row = λ m s h. row_at m (history_of Γ t m s) s h (own m s);
       heard = heard;
       same = same;
@@ -111,4 +110,8 @@ module _ (sheet t : List ℕ) (Γ : Network) (reads : Reads sheet Γ) where
     }
 
 pub playing : Playing
-playing = record { plays = plays; by_mask = events-due-said }
+playing = record {
+  due = λ sheet t m hs Γ reads right good. row_at sheet t Γ reads good m hs;
+  plays = plays;
+  by_mask = events-due-said;
+}

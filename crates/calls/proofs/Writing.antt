@@ -16,7 +16,7 @@ use Rattle.listing.specs.Listing.{listing}
 use Rattle.canonical.specs.House.{house_text}
 use Rattle.conversion.specs.FormerRules.{read_as_max_lem}
 use Rattle.conversion.specs.Converted.{resulting, converted}
-use Rattle.calls.specs.Values.{OrRefusal}
+use Rattle.calls.specs.Values.{OrRefusal, number_values}
 use Rattle.calls.specs.Call.{without_line_lem, Left}
 use Rattle.calls.specs.Lent.{Handed, Lent, in_place_lem}
 use Rattle.calls.specs.Calls.{writing, refusing, listing_tests, listing_of, house_tests, housed}
@@ -28,7 +28,8 @@ use Rattle.calls.proofs.Matched.{unlined, writes_call}
 use Rattle.calls.proofs.Handed.{Rightly}
 use Rattle.calls.proofs.Fit.{few-fit, many_do_not, not-fit-many}
 
-pub wrote_into : {l : Left (OrRefusal ℕ)} (m : Lent) (text : List ℕ) → writing m text ≡ l → WroteInto text m l
+pub wrote_into : {l : Left (OrRefusal ℕ)} (m : Lent) (text : List ℕ) → writing m text ≡ l
+    → WroteInto text m (number_values l.answer) l.memory
 wrote_into m text e = rw (← e) (record { answer = refl; memory = refl })
 
 pub wrote : {l : Left (OrRefusal ℕ)} (text m : List ℕ) → writing (in_place_lem m) text ≡ l → WroteText text m l

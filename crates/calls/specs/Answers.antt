@@ -51,17 +51,23 @@ pub record Answers (sheet : List ℕ) (own : List Own) {A : Type 0} (nothing : A
   pub exactly : (Γ : Network) → Reads sheet Γ → Exactly own Γ v.number
   pub refusal_empty : (v.number ≡ 0 → ⊥) → v.value ≡ nothing
 
--- of a call that writes into the memory m: it answers so, and "a refusal leaves each lent buffer unaltered"
-pub record Writes (sheet : List ℕ) (own : List Own) (l : Left (OrRefusal ℕ)) (m : List ℕ) : Type 0 where
-  pub answers : Answers sheet own 0 (number_values l.answer)
-  pub keeps : ((number_values l.answer).number ≡ 0 → ⊥) → l.memory ≡ m
+-- of a call that writes into lent memory, which held `before` and then holds `after`: it answers so, and "a refusal
+-- leaves each lent buffer unaltered"
+pub record AnswersInto (sheet : List ℕ) (own : List Own) (before : List ℕ) (v : Values ℕ) (after : List ℕ)
+    : Type 0 where
+  pub answers : Answers sheet own 0 v
+  pub keeps : (v.number ≡ 0 → ⊥) → after ≡ before
 
--- it has written this into the memory that it was lent: "the written part has exactly its stated contents and
--- everything behind it is unaltered"
-pub record WroteInto (text : List ℕ) (m : Lent) (l : Left (OrRefusal ℕ)) : Type 0 where
-  pub answer : number_values l.answer ≡ done (length text)
-  pub memory : l.memory ≡ m.after text
+-- such a call is defined to leave this
+abbrev pub Writes : List ℕ → List Own → Left (OrRefusal ℕ) → List ℕ → Type 0
+Writes sheet own l before = AnswersInto sheet own before (number_values l.answer) l.memory
 
--- into memory that is lent as it is
+-- this text was written into the memory that was lent: "the written part has exactly its stated contents and everything
+-- behind it is unaltered"
+pub record WroteInto (text : List ℕ) (m : Lent) (v : Values ℕ) (after : List ℕ) : Type 0 where
+  pub answer : v ≡ done (length text)
+  pub memory : after ≡ m.after text
+
+-- a call is defined to write it into memory that is lent as it is
 abbrev pub WroteText : List ℕ → List ℕ → Left (OrRefusal ℕ) → Type 0
-WroteText text m l = WroteInto text (in_place_lem m) l
+WroteText text m l = WroteInto text (in_place_lem m) (number_values l.answer) l.memory

@@ -1,6 +1,6 @@
 -- The three demands, as statements about every sheet, table and lent buffer. They speak of the definitions that the
--- calls' contracts are equations with: `summary`, `judgement`, `solving` and `listed` (Calls), in `Numbers` and
--- `Benched` those of all calls, and of their answers in the papers' numbers.
+-- calls' contracts are equations with: `summary`, `judgement`, `solving_into` and `listed` (Calls), in `Numbers` and
+-- `Benched` those of all calls. What is said here of a call's definition each call's contract says of its answer.
 use Rattle.std.specs.Prelude.{◌≡◌, ◌↔◌, true, List, ℕ, ◌≤◌, length, Err}
 use Rattle.std.proofs.Math.Option.{none}
 use Rattle.refusal.specs.Refusal.{turn_of}
@@ -28,22 +28,28 @@ use Rattle.checker.specs.declared.Breach.{Breach}
 use Rattle.checker.specs.declared.Verdict.TheVariants.{Pass, Breach as Breached}
 use Rattle.rounds.specs.Hyperarcs.{Dynamic, Waiting, Hyperarcs}
 use Rattle.solver.specs.Solve.{solve, found}
-use Rattle.listing.specs.Listing.{listing}
 use Rattle.conversion.specs.Rows.{are_fix}
-use Rattle.calls.specs.Values.{done, refused_as, number_values}
-use Rattle.calls.specs.Calls.{counts_of, summary, summary_values, judgement, solving, listed}
-use Rattle.calls.specs.Bench.{passed, breach_values, judgement_values}
-use Rattle.calls.specs.Answers.{Reads, WroteText}
+use Rattle.calls.specs.Values.{number_values}
+use Rattle.calls.specs.Lent.{Lent, in_place_lem}
+use Rattle.calls.specs.Calls.{summary, judgement, solving_into, listed}
+use Rattle.calls.specs.Bench.{judgement_values}
+use Rattle.calls.specs.Answers.{Reads}
+use Rattle.calls.specs.Reader.{AcceptsLayout, RefusesFault, CountsContents}
+use Rattle.calls.specs.Judges.{Passes, Breaches}
+use Rattle.calls.specs.Solves.{RefusesNone, WritesLeast}
+use Rattle.calls.specs.Lists.{WritesListing}
 use Rattle.calls.specs.Former.{Prompt, Unlabelled, Former}
-use Rattle.calls.specs.Numbers.{Numbers}
+use Rattle.calls.specs.Numbers.{minutes, Numbers}
 use Rattle.calls.specs.Benched.{Benched}
 
 pub record Demands : Type 0 where
   -- demand 1: every call has one of its defined answers, by its contract; which numbers and lines these are, and where
   -- each comes; "a refusal leaves each lent buffer unaltered"
   pub numbers : Numbers
-  -- of the reader's call: the counts of an accepted sheet
-  pub counted : (sheet : List ℕ) (Γ : Network) → Reads sheet Γ → summary_values (summary sheet) ≡ done (counts_of Γ)
+  -- of the reader's call
+  pub reads : (sheet : List ℕ) → AcceptsLayout sheet (summary sheet)
+  pub faults : (sheet : List ℕ) → RefusesFault sheet (summary sheet)
+  pub counts : (sheet : List ℕ) → CountsContents sheet (summary sheet)
   -- demand 2: "A sheet is accepted when it keeps every rule of its layout, otherwise refused"
   pub accepted : (sheet : List ℕ) → Accepts sheet ↔ Layout sheet
   -- its network holds what it contains: ends, limits and labels of the rules as they are written, the reactions and the
@@ -84,23 +90,17 @@ pub record Demands : Type 0 where
   pub least : (sheet : List ℕ) (Γ : Network) → Reads sheet Γ → (solve Γ).end ≡ Rests → Least Γ (found Γ)
   -- or at none, "exactly when the sheet has no good table"
   pub none : (sheet : List ℕ) (Γ : Network) → Reads sheet Γ → ((solve Γ).end ≡ Rests → ⊥) ↔ L.Inconsistent Γ
-  -- of the judge's call: it passes a table for an accepted sheet exactly when it is a good table
-  pub passes : (sheet t : List ℕ) (Γ : Network) → Reads sheet Γ
-      → (judgement_values (judgement sheet t) ≡ passed) ↔ Solution Γ t
-  -- and of a table of the right length it tells the first breach
-  pub breaches : (sheet t : List ℕ) (Γ : Network) (b : Breach) → Reads sheet Γ → length t ≡ cells Γ
-      → (judgement_values (judgement sheet t) ≡ breach_values b) ↔ First Γ t b
-  -- demand 3, of the solver's call: "for every accepted sheet and lent table long enough, the program refuses with \"no
-  -- table\" exactly when the sheet has no good table"
-  pub refused : (sheet m : List ℕ) (Γ : Network) → Reads sheet Γ → cells Γ ≤ length m
-      → (number_values (solving sheet m).answer ≡ refused_as 13) ↔ L.Inconsistent Γ
-  -- "otherwise it writes a good table in which each event, in each case, is no later than in any other good table, and
-  -- leaves everything behind it unaltered"
-  pub solved : (sheet m : List ℕ) (Γ : Network) → Reads sheet Γ → cells Γ ≤ length m → (L.Inconsistent Γ → ⊥)
-      → (σ : List ℕ) × Least Γ σ × WroteText σ m (solving sheet m)
-  -- of the listing's call, where there is room: the listing, and everything behind it unaltered
-  pub lists : (sheet t m : List ℕ) (Γ : Network) → Reads sheet Γ → length t ≡ cells Γ
-      → length (listing sheet Γ t) ≤ length m
-      → WroteText (listing sheet Γ t) m (listed sheet t m)
+  -- of the judge's call: it passes a table for an accepted sheet exactly when it is a good table, and of a table of the
+  -- right length it tells the first breach
+  pub passes : (sheet t : List ℕ) → Passes sheet (minutes t) t (judgement_values (judgement sheet t))
+  pub breaches : (sheet t : List ℕ) → Breaches sheet (minutes t) t (judgement_values (judgement sheet t))
+  -- demand 3, of the solver's call, with memory that is lent as minutes or as pairs of bytes
+  pub refused : (sheet : List ℕ) (m : Lent) → RefusesNone sheet m (number_values (solving_into sheet m).answer)
+  pub solved : (sheet : List ℕ) (m : Lent)
+      → let l = solving_into sheet m in WritesLeast sheet m (number_values l.answer) l.memory
+  -- of the listing's call
+  pub lists : (sheet t m : List ℕ)
+      → let l = listed sheet t m in
+      WritesListing sheet (minutes t) t (in_place_lem m) (number_values l.answer) l.memory
   -- and of the bench's calls
   pub bench : Benched

@@ -2,7 +2,7 @@
 -- that they give back the values that went in (01, The judge's verdict: the workshop bench).
 use Rattle.std.specs.Prelude.{◌≡◌, ℕ, ◌/◌, ◌%◌, ◌^◌}
 use Rattle.calls.specs.Values.{Values}
-use Rattle.calls.specs.Bench.{Finding}
+use Rattle.calls.specs.Bench.{Finding, finding}
 
 -- `answer >> s`, and its n lowest bits
 abbrev pub shifted : ℕ → ℕ → ℕ
@@ -38,21 +38,25 @@ opening_second a = bits a 40 8
 abbrev pub opening_third : ℕ → ℕ
 opening_third a = bits a 48 8
 
--- of the judge's answer; its last byte is 0
-pub record JudgeHolds (a : ℕ) (v : Values Finding) : Type 0 where
-  pub number : opening_number a ≡ v.number
-  pub line : opening_line a ≡ v.line
-  pub word : opening_word a ≡ v.value.word
-  pub first : opening_first a ≡ v.value.first
-  pub second : opening_second a ≡ v.value.second
-  pub third : opening_third a ≡ v.value.third
-  pub rest : shifted a 56 ≡ 0
+-- what these functions tell of an answer: the number, the line, and what a call tells, which `opening_bytes` and
+-- `opening_events` shift out as `opening_minutes` does
+abbrev pub told : ℕ → Values ℕ
+told a = record { number = opening_number a; line = opening_line a; value = opening_minutes a }
 
--- of the others'; each tells one of the three, and the last three bytes are 0
+-- of the judge's answer
+abbrev pub found : ℕ → Values Finding
+found a = record {
+  number = opening_number a;
+  line = opening_line a;
+  value = finding (opening_word a) (opening_first a) (opening_second a) (opening_third a);
+}
+
+-- the answer a of a call other than the judge tells v, and its last three bytes are 0
 pub record CountHolds (a : ℕ) (v : Values ℕ) : Type 0 where
-  pub number : opening_number a ≡ v.number
-  pub line : opening_line a ≡ v.line
-  pub minutes : opening_minutes a ≡ v.value
-  pub bytes : opening_bytes a ≡ v.value
-  pub events : opening_events a ≡ v.value
+  pub values : told a ≡ v
   pub rest : shifted a 40 ≡ 0
+
+-- the judge's, whose last byte is 0
+pub record JudgeHolds (a : ℕ) (v : Values Finding) : Type 0 where
+  pub values : found a ≡ v
+  pub rest : shifted a 56 ≡ 0

@@ -9,10 +9,13 @@ use Rattle.network.specs.declared.Network.{Network}
 use Rattle.tighten.specs.Upper.{uppers_of}
 use Rattle.tighten.specs.Remaining.{Remaining}
 use Rattle.tighten.specs.Tightest.{remaining_of}
-use Rattle.canonical.specs.House.{house_text}
+use Rattle.layout.specs.Layout.{text_of}
+use Rattle.canonical.specs.House.{house_by, house_text}
 use Rattle.canonical.specs.Same.{Same}
+use Rattle.calls.specs.Values.{Values, number_values}
+use Rattle.calls.specs.Lent.{Lent, in_place_lem}
 use Rattle.calls.specs.Calls.{housed}
-use Rattle.calls.specs.Answers.{Reads, WroteText}
+use Rattle.calls.specs.Answers.{Reads, WroteInto, WroteText}
 
 -- the sheet's network is Γ, and f is its form
 pub record Form (sheet : List ℕ) (Γ : Network) (f : List ℕ) : Type 0 where
@@ -25,10 +28,28 @@ pub record SameTables (Γ Δ : Network) : Type 0 where
   pub least : (σ : List ℕ) → Least Γ σ ↔ Least Δ σ
   pub none : Inconsistent Γ ↔ Inconsistent Δ
 
+-- f is a house form of the sheet, told by what it contains: the upper bounds that remain are its rules, and all else as
+-- it is; it "reads back to the same good tables", and it is its own form
+pub record HouseForm (sheet : List ℕ) (Γ : Network) (f : List ℕ) : Type 0 where
+  pub rows : List Constraint
+  pub remain : Remaining (uppers_of Γ) rows
+  pub text : f ≡ text_of (house_by sheet Γ rows)
+  pub network : Network
+  pub own : Form f network f
+  pub tables : SameTables Γ network
+
+-- what the call that writes the form has written, where there is room, and everything behind it is unaltered
+abbrev pub WritesForm : List ℕ → Lent → Values ℕ → List ℕ → Type 0
+WritesForm sheet m v after =
+    (Γ : Network) → Reads sheet Γ
+    → (f : List ℕ) × HouseForm sheet Γ f × (length f ≤ m.room → WroteInto f m v after)
+
 -- where it refuses stands in `Numbers`
 pub record Housing : Type 0 where
   -- "the house form never meets 17 again" (02, point 7): no more rows remain than a sheet may have
   pub few : (sheet : List ℕ) (Γ : Network) → Reads sheet Γ → length (remaining_of Γ) ≤ L.rules
+  pub writes : (sheet m : List ℕ)
+      → let l = housed sheet m in WritesForm sheet (in_place_lem m) (number_values l.answer) l.memory
   -- where there is room the form is written, and everything behind it is unaltered
   pub written : (sheet m f : List ℕ) (Γ : Network) → Form sheet Γ f → length f ≤ length m
       → WroteText f m (housed sheet m)

@@ -1,7 +1,7 @@
 -- The values of an answer; what a call is; how tables are handed in and memory is lent; what the public calls answer,
--- the player's, that of reading a listing back and those of the bench; what the programs print; what each call can
--- answer, by its number and line; what holds of reading a listing back; the demands; and what holds of playing a table,
--- of the house form, of converting, of reactions and of what is printed.
+-- the player's, that of reading a listing back and those of the bench; what the programs print. Then what these answers
+-- mean: what each call can answer, by its number and line; what its answer says where it does not refuse; the demands;
+-- and what holds of the house form, of converting, of reactions and of what is printed; and the trial sheets.
 pub mod Values
 pub mod Call
 pub mod Lent
@@ -12,13 +12,18 @@ pub mod Bench
 pub mod Header
 pub mod Table
 pub mod Answers
-pub mod ReadingBack
 pub mod Numbers
+pub mod Reader
+pub mod Judges
+pub mod Solves
+pub mod Lists
+pub mod ReadingBack
+pub mod Playing
 pub mod Benched
 pub mod Demands
-pub mod Playing
 pub mod Housing
 pub mod Converting
 pub mod Former
 pub mod Reacting
 pub mod Printing
+pub mod Trials

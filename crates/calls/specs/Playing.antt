@@ -11,6 +11,7 @@ use Rattle.dispatch.specs.Said.{said_from}
 use Rattle.dispatch.specs.declared.Heard.{Heard}
 use Rattle.calls.specs.Answers.{Reads}
 use Rattle.calls.specs.Values.{Values, number_values}
+use Rattle.calls.specs.Numbers.{minutes}
 use Rattle.calls.specs.Play.{events_due_lem, events_due_on_lem}
 
 -- the answer is the row of the case s at the minute m: of each event, whether it happens in s and is due; and no bit
@@ -21,6 +22,14 @@ pub record RowAt (Γ : Network) (t : List ℕ) (m s : ℕ) (v : Values ℕ) : Ty
   pub each : (u : ℕ) → u < Γ.events → truth v.value u ≡ is_due_lem Γ t m s u
   pub no_more : v.value < 2 ^ Γ.events
 
+-- what v means as the answer for those who have heard hs, of a good table σ: with exactly what the case s has heard
+-- before the minute, in any order, it is the row of s. `right` says that the table which is handed in has the sheet's
+-- size
+abbrev pub TellsRow : List ℕ → (Network → Type 0) → List ℕ → ℕ → List Heard → Values ℕ → Type 0
+TellsRow sheet right σ m hs v =
+    (Γ : Network) → Reads sheet Γ → right Γ → Solution Γ σ
+    → (s : ℕ) → s < scenarios Γ → History Γ σ m hs s → RowAt Γ σ m s v
+
 module _ (sheet t : List ℕ) where
   -- the answer's values
   abbrev pub answer : ℕ → List Heard → Values ℕ
@@ -28,9 +37,7 @@ module _ (sheet t : List ℕ) where
 
   -- of a good table of the network Γ
   pub record Plays (Γ : Network) : Type 0 where
-    -- with exactly what the case s has heard, in any order, the answer is the row of s
-    pub due : (m : ℕ) (hs : List Heard) (s : ℕ) → s < scenarios Γ → History Γ t m hs s → RowAt Γ t m s (answer m hs)
-    -- so playing s from minute 0 with what it has heard so far gives its row: each event that it has once, at its
+    -- playing s from minute 0 with what it has heard so far gives its row: each event that it has once, at its
     -- minute
     pub row : (m s : ℕ) → s < scenarios Γ → RowAt Γ t m s (answer m (history_of Γ t m s))
     -- and what it has heard so far is told by the answers before: a signal is heard when its event was due its
@@ -49,6 +56,7 @@ module _ (sheet t : List ℕ) where
 
 -- where it refuses stands in `Numbers`
 pub record Playing : Type 0 where
+  pub due : (sheet t : List ℕ) (m : ℕ) (hs : List Heard) → TellsRow sheet (minutes t) t m hs (answer sheet t m hs)
   pub plays : (sheet t : List ℕ) (Γ : Network) → Reads sheet Γ → Solution Γ t → Plays sheet t Γ
   -- the mask of a list says what the list does
   pub by_mask : (sheet t : List ℕ) (m : ℕ) (hs : List Heard)

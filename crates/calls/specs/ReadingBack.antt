@@ -26,36 +26,32 @@ pub record Printed (sheet : List ℕ) (Γ : Network) (printed : List ℕ) : Type
   pub printable : Printable Γ table
   pub is : printed ≡ listing sheet Γ table
 
--- the memory is lent as minutes, or for C as bytes
-module _ (sheet printed : List ℕ) (m : Lent) where
-  abbrev pub back : Left (OrRefusal ℕ)
-  back = recovering_into sheet printed m
-
-  -- the answer's values
-  abbrev pub answer : Values ℕ
-  answer = number_values back.answer
-
+-- the memory is lent as minutes, or for C as bytes; the call has answered v, and left this in the memory
+module _ (sheet printed : List ℕ) (m : Lent) (v : Values ℕ) (after : List ℕ) where
   -- of an accepted sheet, whose network is Γ
-  pub record ReadsBack (Γ : Network) : Type 0 where
+  pub record ReadsBackBy (Γ : Network) : Type 0 where
     -- "a listing that is accepted prints back to its own bytes": a table was written, and everything behind it is
     -- unaltered; the call that lists this table writes these bytes
-    pub prints_back : answer.number ≡ 0
-        → (σ : List ℕ) × Printable Γ σ × WroteInto σ m back
+    pub prints_back : v.number ≡ 0
+        → (σ : List ℕ) × Printable Γ σ × WroteInto σ m v after
         × ((out : List ℕ) → length printed ≤ length out → WroteText printed out (listed sheet σ out))
     -- so a listing is accepted exactly where it is the listing of a table
-    pub accepted : cells Γ ≤ m.room → (answer.number ≡ 0) ↔ Printed sheet Γ printed
+    pub accepted : cells Γ ≤ m.room → (v.number ≡ 0) ↔ Printed sheet Γ printed
+    -- "Any table of the right length that was printed is recovered number for number", and everything behind it is
+    -- unaltered
+    pub recovers : (σ : List ℕ) → Printable Γ σ → cells Γ ≤ m.room → printed ≡ listing sheet Γ σ → WroteInto σ m v after
     -- 18 "with the first listing line at fault", and 19
     pub misfit : (l : ℕ)
-        → (answer ≡ turned_away 0 (refusal OtherForm l)) ↔ Misfit (header sheet Γ) Γ.signals Γ.events printed l
+        → (v ≡ turned_away 0 (refusal OtherForm l)) ↔ Misfit (header sheet Γ) Γ.signals Γ.events printed l
     pub unread : (l : ℕ)
-        → (answer ≡ turned_away 0 (refusal NoMinute l)) ↔ Unread (header sheet Γ) Γ.signals Γ.events printed l
+        → (v ≡ turned_away 0 (refusal NoMinute l)) ↔ Unread (header sheet Γ) Γ.signals Γ.events printed l
+
+  abbrev pub ReadsBack : Type 0
+  ReadsBack = (Γ : Network) → Reads sheet Γ → ReadsBackBy Γ
 
 pub record ReadingBack : Type 0 where
-  pub reads_back : (sheet printed : List ℕ) (m : Lent) (Γ : Network) → Reads sheet Γ → ReadsBack sheet printed m Γ
-  -- "Any table of the right length that was printed is recovered number for number", and everything behind it is
-  -- unaltered
-  pub recovers : (sheet σ : List ℕ) (m : Lent) (Γ : Network) → Reads sheet Γ → Printable Γ σ → cells Γ ≤ m.room
-      → WroteInto σ m (recovering_into sheet (listing sheet Γ σ) m)
+  pub reads_back : (sheet printed : List ℕ) (m : Lent)
+      → let l = recovering_into sheet printed m in ReadsBack sheet printed m (number_values l.answer) l.memory
   -- so a listing is that of one table only
   pub one_table : (sheet σ τ : List ℕ) (Γ : Network) → Reads sheet Γ → Printable Γ σ → Printable Γ τ
       → listing sheet Γ σ ≡ listing sheet Γ τ → σ ≡ τ

@@ -62,15 +62,19 @@ module _ (sheet : List ℕ) (Γ : Network) where
   abbrev pub as_case : ℕ → Case
   as_case u = record { event = name_of_lem Γ sheet u; label = literals_of Γ (event_label Γ u) }
 
-  abbrev pub house_of : Contents
-  house_of = record {
+  -- what the form contains, where these upper bounds remain
+  abbrev pub house_by : List Constraint → Contents
+  house_by rs = record {
     horizon = Γ.horizon;
     names = names_of;
     signals = signals_of;
-    rules = map as_rule (remaining_of Γ);
+    rules = map as_rule rs;
     reactions = before_labels (length (labelled_of Γ)) (slow_of Γ);
     cases = section_of (map as_case (labelled_of Γ));
   }
+
+  abbrev pub house_of : Contents
+  house_of = house_by (remaining_of Γ)
 
   -- the form's bytes
   unfoldable pub house_text : List ℕ

@@ -1,4 +1,2 @@
--- What the calls' own parts answer: the refusal before a call's work, and tables that come and go as bytes.
+-- What the calls' own parts answer: the refusal before a call's work.
 pub mod Prologue
-pub mod Taken
-pub mod Packed

@@ -2,11 +2,26 @@
 // one, and a refusal leaves the lent memory as it was.
 #![tactic(auto)]
 
-ghost use Rattle.std.specs.Prelude.{◌≡◌, Ok, Err, MatchResult};
+ghost use Rattle.std.specs.Prelude.{◌≡◌, List, [], Ok, Err, MatchResult, length};
+ghost use Rattle.dispatch.specs.Said.{said_from};
+ghost use Rattle.conversion.specs.FormerRules.{read_as_max_lem};
+ghost use Rattle.calls.specs.Values.{number_values};
 ghost use Rattle.calls.specs.Call.{Leaves};
-ghost use Rattle.calls.specs.Calls.{summary, judgement, solving, listed, housed, converting};
+ghost use Rattle.calls.specs.Lent.{in_place_lem};
+ghost use Rattle.calls.specs.Calls.{summary, no_counts, summary_values, judgement, solving, listed, housed, converting};
 ghost use Rattle.calls.specs.Play.{events_due_lem, events_due_on_lem};
 ghost use Rattle.calls.specs.Recover.{recovering};
+ghost use Rattle.calls.specs.Bench.{no_finding, judgement_values};
+ghost use Rattle.calls.specs.Answers.{Answers, AnswersInto};
+ghost use Rattle.calls.specs.Numbers.{minutes, judges, solves, lists, houses, converts, recovers, plays};
+ghost use Rattle.calls.specs.Numbers.{misnamed_by, unheard_by, misnamed_on, unheard_on};
+ghost use Rattle.calls.specs.Reader.{AcceptsLayout, RefusesFault, CountsContents};
+ghost use Rattle.calls.specs.Judges.{Passes, Breaches};
+ghost use Rattle.calls.specs.Solves.{RefusesNone, WritesLeast};
+ghost use Rattle.calls.specs.Lists.{WritesListing};
+ghost use Rattle.calls.specs.ReadingBack.{ReadsBack};
+ghost use Rattle.calls.specs.Playing.{TellsRow};
+ghost use Rattle.calls.specs.Housing.{WritesForm};
 ghost use Rattle.opening.specs.Prologue.{handed_in_lem, of_unread, of_unanswered};
 
 use calls::Counts;
@@ -17,8 +32,6 @@ use network::accepted::Accepted;
 use network::times::Strategy;
 use readback::Unread;
 use refusal::{Cause, Refusal};
-
-pub mod bench;
 
 // Lent memory of these lengths is long enough for every sheet: a table's minutes, a listing's bytes as it is written,
 // and the bytes of a sheet, also in its house form or converted. No listing that is longer than the last is read back.
@@ -45,7 +58,11 @@ fn handed_in(sheet: &[u8], minutes: usize) -> Result<Accepted<'_>, Refusal>
 
 // The horizon and the counts of a sheet.
 pub fn read_sheet(sheet: &[u8]) -> Result<Counts, Refusal>
-    ensures { result ≡ summary sheet.now }
+    ensures outcome { result ≡ summary sheet.now }
+    ensures accepted { AcceptsLayout sheet.now result }
+    ensures faults { RefusesFault sheet.now result }
+    ensures counts { CountsContents sheet.now result }
+    ensures refusals { Answers sheet.now [] no_counts (summary_values result) }
 {
     let accepted = sheet::read(sheet)?;
     let network = &accepted.formed.network;
@@ -59,7 +76,10 @@ pub fn read_sheet(sheet: &[u8]) -> Result<Counts, Refusal>
 
 // The verdict on a table.
 pub fn judge_table(sheet: &[u8], table: &[u16]) -> Result<Verdict, Refusal>
-    ensures { result ≡ judgement sheet.now table.now }
+    ensures outcome { result ≡ judgement sheet.now table.now }
+    ensures refusals { Answers sheet.now (judges (minutes table.now)) no_finding (judgement_values result) }
+    ensures passes { Passes sheet.now (minutes table.now) table.now (judgement_values result) }
+    ensures breaches { Breaches sheet.now (minutes table.now) table.now (judgement_values result) }
 {
     let accepted = handed_in(sheet, table.len())?;
     let strategy = Strategy {
@@ -71,7 +91,10 @@ pub fn judge_table(sheet: &[u8], table: &[u16]) -> Result<Verdict, Refusal>
 
 // The least good table into the first cells of the table.
 pub fn solve_sheet(sheet: &[u8], table: &mut [u16]) -> Result<usize, Refusal>
-    ensures { Leaves (solving sheet.now table.old) result table.new }
+    ensures outcome { Leaves (solving sheet.now table.old) result table.new }
+    ensures refusals { AnswersInto sheet.now (solves (length table.old)) table.old (number_values result) table.new }
+    ensures none { RefusesNone sheet.now (in_place_lem table.old) (number_values result) }
+    ensures least { WritesLeast sheet.now (in_place_lem table.old) (number_values result) table.new }
 {
     let accepted = sheet::read(sheet)?;
     let cells = accepted.formed.cell_count();
@@ -85,8 +108,11 @@ pub fn solve_sheet(sheet: &[u8], table: &mut [u16]) -> Result<usize, Refusal>
 
 // The listing of any table of the right length, into the first bytes of out.
 pub fn write_listing(sheet: &[u8], table: &[u16], out: &mut [u8]) -> Result<usize, Refusal>
-    ensures { Leaves (listed sheet.now table.now out.old) result
-        out.new }
+    ensures outcome { Leaves (listed sheet.now table.now out.old) result out.new }
+    ensures refusals { AnswersInto sheet.now (lists (minutes table.now) sheet.now table.now out.old) out.old
+        (number_values result) out.new }
+    ensures lists { WritesListing sheet.now (minutes table.now) table.now (in_place_lem out.old)
+        (number_values result) out.new }
 {
     let accepted = handed_in(sheet, table.len())?;
     listing::write(&accepted, table, out).ok_or(Refusal::without_line(Cause::BufferTooShort))
@@ -105,8 +131,10 @@ fn of_unread(unread: Unread) -> Refusal
 
 // The table of a listing, into the first cells of the table.
 pub fn read_listing(sheet: &[u8], printed: &[u8], table: &mut [u16]) -> Result<usize, Refusal>
-    ensures { Leaves (recovering sheet.now printed.now table.old) result
-        table.new }
+    ensures outcome { Leaves (recovering sheet.now printed.now table.old) result table.new }
+    ensures refusals { AnswersInto sheet.now (recovers sheet.now printed.now (length table.old)) table.old
+        (number_values result) table.new }
+    ensures reads_back { ReadsBack sheet.now printed.now (in_place_lem table.old) (number_values result) table.new }
 {
     let accepted = sheet::read(sheet)?;
     readback::read(&accepted, printed, table).map_err(of_unread)
@@ -114,7 +142,9 @@ pub fn read_listing(sheet: &[u8], printed: &[u8], table: &mut [u16]) -> Result<u
 
 // The sheet in its house form, into the first bytes of out.
 pub fn write_house(sheet: &[u8], out: &mut [u8]) -> Result<usize, Refusal>
-    ensures { Leaves (housed sheet.now out.old) result out.new }
+    ensures outcome { Leaves (housed sheet.now out.old) result out.new }
+    ensures refusals { AnswersInto sheet.now (houses sheet.now out.old) out.old (number_values result) out.new }
+    ensures form { WritesForm sheet.now (in_place_lem out.old) (number_values result) out.new }
 {
     let accepted = sheet::read(sheet)?;
     canonical::write(&accepted, out).ok_or(Refusal::without_line(Cause::BufferTooShort))
@@ -122,7 +152,9 @@ pub fn write_house(sheet: &[u8], out: &mut [u8]) -> Result<usize, Refusal>
 
 // A former sheet with a `max` and a `min` row in the place of each `fix`, into the first bytes of out.
 pub fn convert_sheet(sheet: &[u8], out: &mut [u8]) -> Result<usize, Refusal>
-    ensures { Leaves (converting sheet.now out.old) result out.new }
+    ensures outcome { Leaves (converting sheet.now out.old) result out.new }
+    ensures refusals { AnswersInto (read_as_max_lem sheet.now) (converts sheet.now out.old) out.old
+        (number_values result) out.new }
 {
     let former = conversion::read(sheet)?;
     if Network::RULES < former.rules {
@@ -146,7 +178,11 @@ fn of_unanswered(unanswered: Unanswered) -> Refusal
 // The events due at the minute, by what a mask says of the signals heard before it. A mask says what a list does
 // where `Said::add` made it from `Said::NOTHING`, record by record; any other is misnamed.
 pub fn events_due_on(sheet: &[u8], table: &[u16], minute: u16, said: Said) -> Result<u16, Refusal>
-    ensures { result ≡ events_due_on_lem sheet.now table.now minute said.mask }
+    ensures outcome { result ≡ events_due_on_lem sheet.now table.now minute said.mask }
+    ensures refusals { Answers sheet.now (plays (minutes table.now) table.now (misnamed_on said.mask)
+        (unheard_on table.now minute said.mask)) 0 (number_values result) }
+    ensures row { (hs : List Heard) → said_from 0 hs ≡ said.mask
+        → TellsRow sheet.now (minutes table.now) table.now minute hs (number_values result) }
 {
     let accepted = handed_in(sheet, table.len())?;
     let strategy = Strategy {
@@ -161,7 +197,10 @@ pub fn events_due_on(sheet: &[u8], table: &[u16], minute: u16, said: Said) -> Re
 
 // The events due at the minute, by the list of the signals heard before it.
 pub fn events_due(sheet: &[u8], table: &[u16], minute: u16, heard: &[Heard]) -> Result<u16, Refusal>
-    ensures { result ≡ events_due_lem sheet.now table.now minute heard.now }
+    ensures outcome { result ≡ events_due_lem sheet.now table.now minute heard.now }
+    ensures refusals { Answers sheet.now (plays (minutes table.now) table.now (misnamed_by heard.now)
+        (unheard_by table.now minute heard.now)) 0 (number_values result) }
+    ensures row { TellsRow sheet.now (minutes table.now) table.now minute heard.now (number_values result) }
 {
     events_due_on(sheet, table, minute, Said::of(heard))
 }

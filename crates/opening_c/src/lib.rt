@@ -1,67 +1,153 @@
-// The calls of the workshop bench for C, as include/opening.h declares them: each is the function of that name in
-// `opening::bench`, and promises the same.
+// The calls for C, as include/opening.h declares them: byte slices and numbers only. Each is the public call on the
+// minutes of the bytes. A table travels as two bytes a minute, low byte first, and an answer is one number, whose bytes
+// the header explains.
 #![tactic(auto)]
 
-ghost use Rattle.std.specs.Prelude.{◌≡◌};
+ghost use Rattle.std.specs.Prelude.{◌≡◌, true, ◌/◌, ◌<◌, min, length};
+ghost use Rattle.pairs.specs.Pairs.{minutes_of};
+ghost use Rattle.network.specs.Limits as L;
+ghost use Rattle.dispatch.specs.HeardText.{is_heard_lem, heard_in};
+ghost use Rattle.conversion.specs.FormerRules.{read_as_max_lem};
 ghost use Rattle.calls.specs.Values.{number_values};
 ghost use Rattle.calls.specs.Call.{Leaves};
+ghost use Rattle.calls.specs.Lent.{in_place_lem, in_pairs};
 ghost use Rattle.calls.specs.Calls.{housed, converting};
 ghost use Rattle.calls.specs.Bench as B;
+ghost use Rattle.calls.specs.Header.{told, found, shifted};
+ghost use Rattle.calls.specs.Answers.{Answers, AnswersInto};
+ghost use Rattle.calls.specs.Numbers.{bytes, judges, solves, lists, houses, converts, recovers, plays};
+ghost use Rattle.calls.specs.Numbers.{misnamed_in, unheard_by};
+ghost use Rattle.calls.specs.Judges.{Passes, Breaches};
+ghost use Rattle.calls.specs.Solves.{RefusesNone, WritesLeast};
+ghost use Rattle.calls.specs.Lists.{WritesListing};
+ghost use Rattle.calls.specs.ReadingBack.{ReadsBack};
+ghost use Rattle.calls.specs.Playing.{TellsRow};
+ghost use Rattle.calls.specs.Housing.{WritesForm};
+ghost use Rattle.opening_c.specs.Packed.{HasRoom, packed_table_lem};
 
-use opening::bench;
+mod answer;
 
-// The judge for C.
+use answer::{packed, word};
+use network::Network;
+use refusal::Refusal;
+
+// How many minutes of a sheet's table so many bytes have room for: whole pairs are counted.
+fn room(bytes: usize) -> usize
+    ensures { result ≡ min (bytes / 2) L.cells }
+{
+    (bytes / 2).min(Network::CELLS)
+}
+
+// The answer of a call that writes: a count that fits 16 bits, so that the cast loses nothing.
+fn packed_written(written: Result<usize, Refusal>) -> u64
+    requires { (number_values written).value < 65536 }
+    ensures { result ≡ B.packed_count_lem (number_values written) }
+{
+    packed(written.map(|count| count as u32))
+}
+
+// The answer of a call that writes minutes, and as many of them in the table's bytes.
+fn packed_table(written: Result<usize, Refusal>, minutes: &[u16], table: &mut [u8]) -> u64
+    requires { HasRoom written minutes.now table.old }
+    ensures { Leaves (packed_table_lem written minutes.now table.old) result table.new }
+{
+    if let Ok(count) = written {
+        pairs::pack(&minutes[..count], table);
+    }
+    packed_written(written)
+}
+
+// The judge.
 #[unsafe(no_mangle)]
 pub extern "C" fn opening_judge(sheet: &[u8], table: &[u8]) -> u64
-    ensures { result ≡ B.packed (B.judgement_values (B.bench_judgement sheet.now table.now)) }
+    ensures outcome { result ≡ B.packed (B.judgement_values (B.bench_judgement sheet.now table.now)) }
+    ensures refusals { Answers sheet.now (judges (bytes table.now)) B.no_finding (found result) }
+    ensures passes { Passes sheet.now (bytes table.now) (minutes_of table.now) (found result) }
+    ensures breaches { Breaches sheet.now (bytes table.now) (minutes_of table.now) (found result) }
+    ensures unused { shifted result 56 ≡ 0 }
 {
-    bench::opening_judge(sheet, table)
+    let minutes = pairs::table_of::<{ Network::CELLS }>(table);
+    packed(opening::judge_table(sheet, minutes.as_slice()).map(word))
 }
 
-// The solver for C.
+// The solver.
 #[unsafe(no_mangle)]
 pub extern "C" fn opening_solve(sheet: &[u8], table: &mut [u8]) -> u64
-    ensures { Leaves (B.packed_left (B.bench_solving sheet.now table.old)) result table.new }
+    ensures outcome { Leaves (B.packed_left (B.bench_solving sheet.now table.old)) result table.new }
+    ensures refusals { AnswersInto sheet.now (solves (length table.old / 2)) table.old (told result) table.new }
+    ensures none { RefusesNone sheet.now (in_pairs table.old) (told result) }
+    ensures least { WritesLeast sheet.now (in_pairs table.old) (told result) table.new }
+    ensures unused { shifted result 40 ≡ 0 }
 {
-    bench::opening_solve(sheet, table)
+    let mut minutes = [0u16; Network::CELLS];
+    let lent = room(table.len());
+    let written = opening::solve_sheet(sheet, &mut minutes[..lent]);
+    packed_table(written, &minutes, table)
 }
 
-// The listing for C.
+// The listing.
 #[unsafe(no_mangle)]
 pub extern "C" fn opening_listing(sheet: &[u8], table: &[u8], out: &mut [u8]) -> u64
-    ensures { Leaves (B.packed_left (B.bench_listed sheet.now table.now out.old)) result out.new }
+    ensures outcome { Leaves (B.packed_left (B.bench_listed sheet.now table.now out.old)) result out.new }
+    ensures refusals { AnswersInto sheet.now (lists (bytes table.now) sheet.now (minutes_of table.now) out.old) out.old
+        (told result) out.new }
+    ensures lists { WritesListing sheet.now (bytes table.now) (minutes_of table.now) (in_place_lem out.old)
+        (told result) out.new }
+    ensures unused { shifted result 40 ≡ 0 }
 {
-    bench::opening_listing(sheet, table, out)
+    let minutes = pairs::table_of::<{ Network::CELLS }>(table);
+    packed_written(opening::write_listing(sheet, minutes.as_slice(), out))
 }
 
-// The reader of listings for C.
+// The reader of listings.
 #[unsafe(no_mangle)]
 pub extern "C" fn opening_read_listing(sheet: &[u8], printed: &[u8], table: &mut [u8]) -> u64
-    ensures { Leaves (B.packed_left (B.bench_recovering sheet.now printed.now table.old)) result table.new }
+    ensures outcome { Leaves (B.packed_left (B.bench_recovering sheet.now printed.now table.old)) result table.new }
+    ensures refusals { AnswersInto sheet.now (recovers sheet.now printed.now (length table.old / 2)) table.old
+        (told result) table.new }
+    ensures reads_back { ReadsBack sheet.now printed.now (in_pairs table.old) (told result) table.new }
+    ensures unused { shifted result 40 ≡ 0 }
 {
-    bench::opening_read_listing(sheet, printed, table)
+    let mut minutes = [0u16; Network::CELLS];
+    let lent = room(table.len());
+    let written = opening::read_listing(sheet, printed, &mut minutes[..lent]);
+    packed_table(written, &minutes, table)
 }
 
-// The house form for C.
+// The house form.
 #[unsafe(no_mangle)]
 pub extern "C" fn opening_house(sheet: &[u8], out: &mut [u8]) -> u64
-    ensures { Leaves (B.packed_left (housed sheet.now out.old)) result out.new }
+    ensures outcome { Leaves (B.packed_left (housed sheet.now out.old)) result out.new }
+    ensures refusals { AnswersInto sheet.now (houses sheet.now out.old) out.old (told result) out.new }
+    ensures form { WritesForm sheet.now (in_place_lem out.old) (told result) out.new }
+    ensures unused { shifted result 40 ≡ 0 }
 {
-    bench::opening_house(sheet, out)
+    packed_written(opening::write_house(sheet, out))
 }
 
-// The converter for C.
+// The converter.
 #[unsafe(no_mangle)]
 pub extern "C" fn opening_convert(sheet: &[u8], out: &mut [u8]) -> u64
-    ensures { Leaves (B.packed_left (converting sheet.now out.old)) result out.new }
+    ensures outcome { Leaves (B.packed_left (converting sheet.now out.old)) result out.new }
+    ensures refusals { AnswersInto (read_as_max_lem sheet.now) (converts sheet.now out.old) out.old (told result)
+        out.new }
+    ensures unused { shifted result 40 ≡ 0 }
 {
-    bench::opening_convert(sheet, out)
+    packed_written(opening::convert_sheet(sheet, out))
 }
 
-// The player for C.
+// The player.
 #[unsafe(no_mangle)]
 pub extern "C" fn opening_due(sheet: &[u8], table: &[u8], minute: u16, heard: &[u8]) -> u64
-    ensures { result ≡ B.packed_count_lem (number_values (B.bench_due sheet.now table.now minute heard.now)) }
+    ensures outcome { result ≡ B.packed_count_lem (number_values (B.bench_due sheet.now table.now minute heard.now)) }
+    ensures refusals { Answers sheet.now (plays (bytes table.now) (minutes_of table.now) (misnamed_in heard.now)
+        (unheard_by (minutes_of table.now) minute (heard_in heard.now))) 0 (told result) }
+    ensures row { is_heard_lem heard.now ≡ true → TellsRow sheet.now (bytes table.now) (minutes_of table.now) minute
+        (heard_in heard.now) (told result) }
+    ensures unused { shifted result 40 ≡ 0 }
 {
-    bench::opening_due(sheet, table, minute, heard)
+    let minutes = pairs::table_of::<{ Network::CELLS }>(table);
+    let said = dispatch::heard_text::said(heard);
+    let due = opening::events_due_on(sheet, minutes.as_slice(), minute, said);
+    packed(due.map(u32::from))
 }

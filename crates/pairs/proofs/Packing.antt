@@ -1,4 +1,5 @@
--- Minutes from pairs of bytes, and pairs from minutes, one more at a time. Assumes nothing.
+-- Minutes from pairs of bytes, and pairs from minutes, one more at a time; a table of bytes has its size as one of
+-- minutes has. Assumes nothing.
 use mathlib.Core.Path.{◌≡◌, refl, sym, ◌∙◌, ap}
 use mathlib.Core.Logic.{inl, inr}
 use mathlib.Core.List.{List, [], ◌∷◌, ◌++◌, append_assoc}
@@ -23,31 +24,22 @@ put_next p t i v e h =
     ∙ set_at p (get_or t i 0) (drop (suc i) t) v i e
     ∙ rw (append_assoc, add-one)
 
-pub unpack_step : (b t₀ t : List ℕ) (i v : ℕ) → t ≡ tabulate i (pair_at b) ++ drop i t₀ → i < length t₀
-    → v ≡ pair_at b i
-    → set t i v ≡ tabulate (i + 1) (pair_at b) ++ drop (i + 1) t₀
-unpack_step b t₀ t i v e h q =
+-- one more minute
+pub table_step : (b t : List ℕ) (i v : ℕ) → t ≡ tabulate i (pair_at b) → v ≡ pair_at b i
+    → t ++ v ∷ [] ≡ tabulate (i + 1) (pair_at b)
+table_step b t i v e q =
     let more : tabulate (i + 1) (pair_at b) ≡ tabulate i (pair_at b) ++ v ∷ [] =
     rw (q, add-one) (tabulate-more (pair_at b) i) in
-    ap (λ (l : List ℕ). set l i v) e
-    ∙ put_next (tabulate i (pair_at b)) t₀ i v (length-tabulate (pair_at b) i) h
-    ∙ rw more
+    rw e (sym more)
 
--- one more short minute
-pub short-more : (b : List ℕ) (i v : ℕ) → Short (tabulate i (pair_at b)) → v ≡ pair_at b i → v < 65536
-    → Short (tabulate (i + 1) (pair_at b))
-short-more b i v s q h k =
-    elim (lt_or_ge k (i + 1)) [
-      | inl l ↦ elim (eq_or_ne k i) [
-        | inl e ↦ rw (get_d_tabulate (pair_at b) (i + 1) k 0 l, e) (omega arith)
-        | inr n ↦
-            let here : get_or (tabulate (i + 1) (pair_at b)) k 0 ≡ get_or (tabulate i (pair_at b)) k 0 =
-            get_d_tabulate (pair_at b) (i + 1) k 0 l ∙ sym (get_d_tabulate (pair_at b) i k 0 (omega arith)) in
-            omega (arith, s k)
-      ]
+-- minutes of bytes are short
+pub minutes_of-short : (b : List ℕ) → ((i : ℕ) → get_or b i 0 < 256) → Short (minutes_of b)
+minutes_of-short b few k =
+    elim (lt_or_ge k (length b / 2)) [
+      | inl l ↦ rw (get_d_tabulate (pair_at b) (length b / 2) k 0 l) (omega (arith, few (2 * k), few (2 * k + 1)))
       | inr l ↦
-          let beyond : get_or (tabulate (i + 1) (pair_at b)) k 0 ≡ 0 =
-          get_or-eq_default (tabulate (i + 1) (pair_at b)) 0 (omega (arith, length-tabulate (pair_at b) (i + 1))) in
+          let beyond : get_or (minutes_of b) k 0 ≡ 0 =
+          get_or-eq_default (minutes_of b) 0 (omega (arith, length-minutes_of b)) in
           omega arith
     ]
 

@@ -1,5 +1,5 @@
 -- A table as bytes: "two bytes a minute, low byte first" (01, The judge's verdict).
-use Rattle.std.specs.Prelude.{List, [], ◌∷◌, ℕ, ◌+◌, ◌*◌, ◌/◌, ◌%◌, ◌≤◌, length, get_or}
+use Rattle.std.specs.Prelude.{Bool, ◌&&◌, cond, List, [], ◌∷◌, ℕ, ◌+◌, ◌*◌, ◌/◌, ◌%◌, ◌≤◌, eqb, leb, length, get_or}
 use Rattle.prelude.specs.Bounded.{tabulate}
 
 -- the minute of pair i
@@ -9,6 +9,14 @@ pair_at b i = get_or b (2 * i) 0 + 256 * get_or b (2 * i + 1) 0
 -- the minutes of the whole pairs
 abbrev pub minutes_of : List ℕ → List ℕ
 minutes_of b = tabulate (length b / 2) (pair_at b)
+
+-- they are a table of at most so many minutes
+abbrev pub is_table : ℕ → List ℕ → Bool
+is_table most b = eqb (length b % 2) 0 && leb (length b / 2) most
+
+-- the minutes of such a table; of other bytes, none
+abbrev pub table_of_lem : ℕ → List ℕ → List ℕ
+table_of_lem most b = cond (is_table most b) (minutes_of b) []
 
 abbrev pub bytes_of : List ℕ → List ℕ
 bytes_of [] = []

@@ -3,19 +3,23 @@
 // `iter_mut().zip(..)` a proof would know nothing.
 #![tactic(auto)]
 
-ghost use Rattle.std.specs.Prelude.{◌≡◌, ◌++◌, ◌*◌, ◌/◌, ◌≤◌, length, drop};
-ghost use Rattle.pairs.specs.Pairs.{minutes_of, bytes_of, Short};
+ghost use Rattle.std.specs.Prelude.{◌≡◌, ◌++◌, ◌*◌, ◌≤◌, length, drop};
+ghost use Rattle.pairs.specs.Pairs.{bytes_of, table_of_lem};
 
-// The minutes of the whole pairs of bytes, into the first cells of the table; each has sixteen bits.
-pub fn unpack(bytes: &[u8], table: &mut [u16])
-    requires { length bytes.now / 2 ≤ length table.old }
-    ensures { (table.new ≡ minutes_of bytes.now
-        ++ drop (length bytes.now / 2) table.old)
-        × Short (minutes_of bytes.now) }
+use counted::Counted;
+
+// The minutes of a table that is handed in as bytes, if there are at most N. Bytes that leave half a minute over, or are
+// more, have none: a sheet's table has at least one, so that such a table is as one of another length.
+pub fn table_of<const N: usize>(bytes: &[u8]) -> Counted<u16, N>
+    ensures { result ≡ table_of_lem N bytes.now }
 {
-    for i in 0..bytes.len() / 2 {
-        table[i] = u16::from_le_bytes([bytes[2 * i], bytes[2 * i + 1]]);
+    let mut table = Counted::new([0; N]);
+    if bytes.len() % 2 == 0 && bytes.len() / 2 <= N {
+        for i in 0..bytes.len() / 2 {
+            table.push(u16::from_le_bytes([bytes[2 * i], bytes[2 * i + 1]]));
+        }
     }
+    table
 }
 
 // The bytes of the minutes, into the first bytes.

@@ -53,15 +53,12 @@ pub fn read(rt: &impl Print, sheet: &[u8]) -> io::Result<()> {
     }
 }
 
-// The verdict. Half a minute behind the table can be told to the C judge alone, which takes bytes. Its answer is to be
-// a refusal then: the number is the lowest byte, and the line all that is above, since the bytes behind it are 0. A
-// verdict would show as refusal 0.
+// The verdict. Half a minute behind the table can be told of bytes alone, by which C hands a table in: no minutes come of
+// them, which is no sheet's table.
 fn verdict(rt: &impl Print, sheet: &[u8], bytes: &[u8], table: &[u16]) -> io::Result<()> {
     if bytes.len() % 2 == 1 {
-        let answer = opening::bench::opening_judge(sheet, bytes);
-        let number = answer % 256;
-        let line = answer / 256;
-        return println!(rt; "refused {number} line {line}");
+        let handed = pairs::table_of::<{ opening::TABLE_MINUTES }>(bytes);
+        return report::judge(rt, sheet, handed.as_slice());
     }
     report::judge(rt, sheet, table)
 }

@@ -1,20 +1,14 @@
 // What each request's file makes of a sheet and of a table, the one that is handed in or the solver's.
-ghost use Rattle.std.specs.Prelude.{◌≤◌, length};
-
 use crate::due::Asked;
 use crate::{back, base, due};
 use network::accepted::Accepted;
 use std::io;
 
-// A table of bytes, two a minute.
-fn handed_in(rt: &impl Print, sheet: &[u8], bytes: &[u8]) -> io::Result<()>
-    requires { length bytes.now ≤ 1024 }
-{
-    let mut table = [0u16; 512];
-    let n = bytes.len() / 2;
-    pairs::unpack(bytes, &mut table);
-    base::judge(rt, sheet, bytes, &table[..n])?;
-    due::ask_first(rt, sheet, &table[..n])
+// A table of bytes, two a minute, and perhaps half a minute behind them.
+fn handed_in(rt: &impl Print, sheet: &[u8], bytes: &[u8]) -> io::Result<()> {
+    let table = pairs::table_of::<512>(&bytes[..bytes.len() - bytes.len() % 2]);
+    base::judge(rt, sheet, bytes, table.as_slice())?;
+    due::ask_first(rt, sheet, table.as_slice())
 }
 
 // The solver's table.
@@ -35,9 +29,7 @@ fn solved(rt: &impl Print, accepted: &Accepted) -> io::Result<()> {
 }
 
 // A table that is handed in, or the solver's, where the sheet is accepted. Where none is handed in, there are no bytes.
-pub fn tell(rt: &impl Print, sheet: &[u8], bytes: &[u8]) -> io::Result<()>
-    requires { length bytes.now ≤ 1024 }
-{
+pub fn tell(rt: &impl Print, sheet: &[u8], bytes: &[u8]) -> io::Result<()> {
     if !bytes.is_empty() {
         return handed_in(rt, sheet, bytes);
     }

@@ -8,10 +8,10 @@ pub returns-clause-ok : goal.returns-clause-ok
 returns-clause-ok g c =
     let written = c.convert_sheet in
     part written.result written.new.out c.count.result c.count.ensures.ok
-    (converting-counted c.args.sheet.now c.args.page.now written.ensures)
+    (converting-counted c.args.sheet.now c.args.page.now written.ensures.outcome)
 
 pub returns-clause-err : goal.returns-clause-err
 returns-clause-err g c =
     let written = c.convert_sheet in
-    untouched written.result written.new.out c.count.result c.count.ensures.err written.ensures
+    untouched written.result written.new.out c.count.result c.count.ensures.err written.ensures.outcome
     (numbers.converter c.args.sheet.now c.args.page.now).keeps

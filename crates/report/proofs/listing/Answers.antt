@@ -8,10 +8,10 @@ pub returns-clause-ok : goal.returns-clause-ok
 returns-clause-ok g c =
     let written = c.write_listing in
     part written.result written.new.out c.count.result c.count.ensures.ok
-    (listed-counted c.args.sheet.now c.args.page.now c.args.table.now written.ensures)
+    (listed-counted c.args.sheet.now c.args.page.now c.args.table.now written.ensures.outcome)
 
 pub returns-clause-err : goal.returns-clause-err
 returns-clause-err g c =
     let written = c.write_listing in
-    untouched written.result written.new.out c.count.result c.count.ensures.err written.ensures
+    untouched written.result written.new.out c.count.result c.count.ensures.err written.ensures.outcome
     (numbers.lister c.args.sheet.now c.args.table.now c.args.page.now).keeps

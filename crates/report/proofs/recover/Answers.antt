@@ -8,10 +8,10 @@ pub returns-clause-ok : goal.returns-clause-ok
 returns-clause-ok g c =
     let written = c.read_listing in
     part written.result written.new.table c.count.result c.count.ensures.ok
-    (recovering-counted c.args.sheet.now c.args.table.now c.args.printed.now written.ensures)
+    (recovering-counted c.args.sheet.now c.args.table.now c.args.printed.now written.ensures.outcome)
 
 pub returns-clause-err : goal.returns-clause-err
 returns-clause-err g c =
     let written = c.read_listing in
-    untouched written.result written.new.table c.count.result c.count.ensures.err written.ensures
+    untouched written.result written.new.table c.count.result c.count.ensures.err written.ensures.outcome
     (numbers.recoverer c.args.sheet.now c.args.printed.now c.args.table.now).keeps

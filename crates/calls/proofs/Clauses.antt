@@ -1,0 +1,112 @@
+-- What the answer of a call means, once its values v and what it left are the defined ones: one law for a call's contract
+-- and for that of its function for C, whose values the header's functions tell. Assumes nothing.
+use mathlib.Core.Path.{◌≡◌}
+use mathlib.Core.Bool.{true}
+use mathlib.Core.List.{List}
+use Prim.Native.Nat.{ℕ}
+use Rattle.pairs.specs.Pairs.{minutes_of}
+use Rattle.network.specs.declared.Network.{Network}
+use Rattle.sheet.specs.Reading.{network_of}
+use Rattle.dispatch.specs.HeardText.{is_heard_lem, heard_in}
+use Rattle.conversion.specs.FormerRules.{read_as_max_lem}
+use Rattle.calls.specs.Values.{Values, number_values}
+use Rattle.calls.specs.Lent.{Handed, Lent, in_place_lem}
+use Rattle.calls.specs.Calls.{judging, solving_into, listing_of, housed, converting}
+use Rattle.calls.specs.Recover.{recovering_into}
+use Rattle.calls.specs.Bench.{Finding, no_finding, judgement_values, bench_due}
+use Rattle.calls.specs.Answers.{Answers, AnswersInto}
+use Rattle.calls.specs.Numbers.{bytes, judges, solves, lists, houses, converts, recovers}
+use Rattle.calls.specs.Numbers.{plays, misnamed_in, unheard_by}
+use Rattle.calls.specs.Judges.{Passes, Breaches}
+use Rattle.calls.specs.Solves.{RefusesNone, WritesLeast}
+use Rattle.calls.specs.Lists.{WritesListing}
+use Rattle.calls.specs.ReadingBack.{ReadsBack}
+use Rattle.calls.specs.Playing.{TellsRow}
+use Rattle.calls.specs.Housing.{WritesForm}
+use Rattle.calls.proofs.Handed.{Rightly}
+use Rattle.calls.proofs.Judging.{judge-answers, judge_passes, judge-breaches}
+use Rattle.calls.proofs.Solving.{solver_writes}
+use Rattle.calls.proofs.Writing.{lister_writes, listing-wrote, house_writes, converter_writes}
+use Rattle.calls.proofs.Recovering.{recoverer-writes}
+use Rattle.calls.proofs.ReadingBack.{reading_back}
+use Rattle.calls.proofs.Housing.{housing}
+use Rattle.calls.proofs.Numbers.{numbers}
+use Rattle.calls.proofs.Benched.{benched}
+use Rattle.calls.proofs.Demands.{demands}
+
+module _ (sheet : List ℕ) where
+  -- a table that is handed in: it is judged, and listed
+  module _ (t : Handed) (right : Network → Type 0) (rightly : Rightly t right (network_of sheet)) where
+    pub judge-clauses : (v : Values Finding) → v ≡ judgement_values (judging sheet t)
+        → record {
+          refusals : Answers sheet (judges right) no_finding v;
+          passes : Passes sheet right t.minutes v;
+          breaches : Breaches sheet right t.minutes v;
+        }
+    judge-clauses v e =
+        rw e (record {
+          refusals = judge-answers sheet t right (λ _. rightly);
+          passes = λ Γ r. rw (← r.network) (judge_passes sheet t right r.accepted rightly);
+          breaches = λ Γ b r. rw (← r.network) (λ h. judge-breaches sheet t right r.accepted rightly h b);
+        })
+
+    pub list-clauses : (m : List ℕ) (v : Values ℕ) (x : List ℕ)
+        → v ≡ number_values (listing_of sheet t m).answer → x ≡ (listing_of sheet t m).memory
+        → record {
+          refusals : AnswersInto sheet (lists right sheet t.minutes m) m v x;
+          lists : WritesListing sheet right t.minutes (in_place_lem m) v x;
+        }
+    list-clauses m v x e f =
+        rw (e, f) (record {
+          refusals = lister_writes sheet t right m (λ _. rightly);
+          lists = λ Γ r. rw (← r.network) (λ h. listing-wrote sheet t right m r.accepted rightly h);
+        })
+
+  pub solve-clauses : (m : Lent) (v : Values ℕ) (x : List ℕ)
+      → v ≡ number_values (solving_into sheet m).answer → x ≡ (solving_into sheet m).memory
+      → record {
+        refusals : AnswersInto sheet (solves m.room) m.before v x;
+        none : RefusesNone sheet m v;
+        least : WritesLeast sheet m v x;
+      }
+  solve-clauses m v x e f =
+      rw (e, f) (record {
+        refusals = solver_writes sheet m;
+        none = demands.refused sheet m;
+        least = demands.solved sheet m;
+      })
+
+  pub recover-clauses : (printed : List ℕ) (m : Lent) (v : Values ℕ) (x : List ℕ)
+      → v ≡ number_values (recovering_into sheet printed m).answer → x ≡ (recovering_into sheet printed m).memory
+      → record {
+        refusals : AnswersInto sheet (recovers sheet printed m.room) m.before v x;
+        reads_back : ReadsBack sheet printed m v x;
+      }
+  recover-clauses printed m v x e f =
+      rw (e, f) (record {
+        refusals = recoverer-writes sheet printed m;
+        reads_back = reading_back.reads_back sheet printed m;
+      })
+
+  module _ (m : List ℕ) (v : Values ℕ) (x : List ℕ) where
+    pub house-clauses : v ≡ number_values (housed sheet m).answer → x ≡ (housed sheet m).memory
+        → record {
+          refusals : AnswersInto sheet (houses sheet m) m v x;
+          form : WritesForm sheet (in_place_lem m) v x;
+        }
+    house-clauses e f = rw (e, f) (record { refusals = house_writes sheet m; form = housing.writes sheet m })
+
+    pub convert-clauses : v ≡ number_values (converting sheet m).answer → x ≡ (converting sheet m).memory
+        → record { refusals : AnswersInto (read_as_max_lem sheet) (converts sheet m) m v x }
+    convert-clauses e f = rw (e, f) (record { refusals = converter_writes sheet m })
+
+  -- a table of bytes is played, for those who have heard a text
+  pub play-clauses : (b : List ℕ) (m : ℕ) (text : List ℕ) (v : Values ℕ)
+      → v ≡ number_values (bench_due sheet b m text)
+      → record {
+        refusals : Answers sheet (plays (bytes b) (minutes_of b) (misnamed_in text)
+            (unheard_by (minutes_of b) m (heard_in text))) 0 v;
+        row : is_heard_lem text ≡ true → TellsRow sheet (bytes b) (minutes_of b) m (heard_in text) v;
+      }
+  play-clauses b m text v e =
+      rw e (record { refusals = numbers.bench_player sheet b m text; row = benched.due sheet b m text })

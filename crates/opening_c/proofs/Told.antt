@@ -1,0 +1,32 @@
+-- What the header's functions tell of a count that was packed. Assumes nothing.
+use mathlib.Core.Path.{◌≡◌, ◌∙◌, ap}
+use mathlib.Core.List.{List}
+use Prim.Native.Nat.{ℕ}
+use Rattle.calls.specs.Values.{OrRefusal, Values, number_values}
+use Rattle.calls.specs.Call.{Left, Leaves}
+use Rattle.calls.specs.Bench.{packed_count_lem, packed_left}
+use Rattle.calls.specs.Header.{told, shifted, CountHolds}
+
+pub record Tells (a : ℕ) (v : Values ℕ) : Type 0 where
+  pub values : told a ≡ v
+  pub unused : shifted a 40 ≡ 0
+
+pub tells : (a : ℕ) (v : Values ℕ) → a ≡ packed_count_lem v → CountHolds (packed_count_lem v) v → Tells a v
+tells a v e h = record {
+  values = ap told e ∙ h.values;
+  unused = ap (λ (x : ℕ). shifted x 40) e ∙ h.rest;
+}
+
+-- of what a call is defined to leave
+pub left-tells : (l : Left (OrRefusal ℕ)) {a : ℕ} {x : List ℕ} → Leaves (packed_left l) a x
+    → CountHolds (packed_count_lem (number_values l.answer)) (number_values l.answer)
+    → Tells a (number_values l.answer)
+left-tells l h held = tells _ _ h.answer held
+
+-- a call's answer is packed, and what it left stays
+pub packed-left : (l : Left (OrRefusal ℕ)) {w : OrRefusal ℕ} {x : List ℕ} {a : ℕ} → Leaves l w x
+    → a ≡ packed_count_lem (number_values w) → Leaves (packed_left l) a x
+packed-left l h e = record {
+  answer = e ∙ ap (λ (w : OrRefusal ℕ). packed_count_lem (number_values w)) h.answer;
+  memory = h.memory;
+}

@@ -1,0 +1,2 @@
+-- How a call that writes minutes answers C.
+pub mod Packed
