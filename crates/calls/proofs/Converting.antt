@@ -18,8 +18,11 @@ use Rattle.tighten.proofs.Agree.{same-events}
 use Rattle.conversion.specs.FormerSheet.{FormerContents, FormerContains}
 use Rattle.conversion.specs.FormerTables.{FormerSolution, FormerLeast, FormerNone}
 use Rattle.conversion.specs.FormerRules.{read_as_max_lem}
+use Rattle.conversion.specs.FormerFault.{FormerFault}
 use Rattle.conversion.specs.Converted.{resulting, converted}
 use Rattle.conversion.proofs.FormerLayout.{former_iff}
+use Rattle.conversion.proofs.Alongside.{former_fault_iff}
+use Rattle.conversion.proofs.ReadInto.{read_into}
 use Rattle.conversion.proofs.Given.{Given}
 use Rattle.conversion.proofs.Assembled.{converted-same}
 use Rattle.conversion.proofs.Bytes.{same_bytes}
@@ -30,11 +33,11 @@ use Rattle.conversion.proofs.Accepted.{accepted-plain, accepted-unchanged, given
 use Rattle.conversion.proofs.Accepted.{converted_agrees, converted-tables}
 use Rattle.calls.specs.Call.{Left}
 use Rattle.calls.specs.Lent.{in_place_lem}
-use Rattle.calls.specs.Values.{OrRefusal, number_values}
+use Rattle.calls.specs.Values.{OrRefusal, turned_away, number_values}
 use Rattle.calls.specs.Calls.{writing, refusing, convert_tests, converting}
 use Rattle.calls.specs.Answers.{Reads, WroteText}
 use Rattle.calls.specs.Converting.{FormerReads, Conversion, Converting}
-use Rattle.calls.proofs.Call.{Ends, faulty, failed, worked, ends, reads_well_formed}
+use Rattle.calls.proofs.Call.{Ends, faulty, failed, worked, ends, call-refused, reads_well_formed}
 use Rattle.calls.proofs.Writing.{converter-wrote}
 
 -- the network that today's reader makes of the former sheet
@@ -47,7 +50,6 @@ known {sheet = sheet} r = record {
   contents = r.layout.contents;
   keeps = r.layout.keeps;
   written = r.layout.written;
-  source = sheet;
   holds = r.holds;
 }
 
@@ -145,9 +147,23 @@ never sheet m e =
     by_end (failed a r (inr (g, inr f)) q) = f.1
     by_end (worked a h q) = let z : ◌≡◌ {A = ℕ} 0 22 = ap answered q ∙ e in omega arith
 
+-- the fault by the former rules is that of the sheet which is read
+refused : (sheet m : List ℕ) (r : Refusal) → FormerFault sheet r
+    → (number_values (converting sheet m).answer ≡ turned_away 0 r) × ((converting sheet m).memory ≡ m)
+refused sheet m r f =
+    let e = (refused_iff (read_as_max_lem sheet) r).1 ((former_fault_iff sheet r).0 f) in
+    let is = call-refused (refusing (in_place_lem m)) (read_as_max_lem sheet) (convert_tests sheet (in_place_lem m))
+    (λ Γ. writing (in_place_lem m) (converted sheet Γ)) r e in (
+      sym (ap (λ (l : Left (OrRefusal ℕ)). number_values l.answer) is),
+      sym (ap (λ (l : Left (OrRefusal ℕ)). l.memory) is),
+    )
+
 pub conversions : Converting
 conversions = record {
   reads_former = former_iff;
+  read_into = read_into;
+  refuses_former = λ sheet r. ((former_fault_iff sheet r).1, (former_fault_iff sheet r).0);
+  refused = refused;
   read_by = λ sheet Γ r. accepted-plain sheet r.accepted;
   turned_away = λ sheet Γ r some. first-fix-refused (known r) some r.layout.short;
   for_fix = λ sheet r f e none. never-retired sheet none r f e;

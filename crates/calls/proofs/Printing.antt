@@ -20,6 +20,7 @@ use Rattle.listing.proofs.Short.{listing-short, good-times}
 use Rattle.canonical.specs.House.{house_text}
 use Rattle.conversion.specs.FormerRules.{read_as_max_lem}
 use Rattle.conversion.specs.Converted.{resulting, converted}
+use Rattle.conversion.proofs.Alongside.{former_fault_iff}
 use Rattle.conversion.proofs.FormerLayout.{former_iff}
 use Rattle.conversion.proofs.Accepted.{converted-short}
 use Rattle.canonical.proofs.Again.{form-short}
@@ -108,7 +109,7 @@ printing = record {
       let e = (refused_iff sheet r).1 f in
       refused-on (housed sheet (page longest)) r (λ t. t) (rw e);
   convert_refused = λ sheet r f.
-      let e = (refused_iff (read_as_max_lem sheet) r).1 f in
+      let e = (refused_iff (read_as_max_lem sheet) r).1 ((former_fault_iff sheet r).0 f) in
       refused-on (converting sheet (page longest)) r (λ t. t) (rw e);
   none = λ sheet Γ r. rw (← r.network)
       (λ i. none-on sheet r.accepted table (page most_listing) i

@@ -8,14 +8,15 @@ use Rattle.network.specs.Limits as L
 use Rattle.network.specs.Solution.{Solution}
 use Rattle.network.specs.Least.{Least, Inconsistent}
 use Rattle.network.specs.declared.Network.{Network}
-use Rattle.sheet.specs.Reading.{Accepts}
+use Rattle.sheet.specs.Reading.{network_of, Accepts}
 use Rattle.sheet.specs.Fault.{Fault}
 use Rattle.conversion.specs.FormerSheet.{FormerLayout, FormerContains, FirstFix}
 use Rattle.conversion.specs.FormerTables.{FormerSolution, FormerLeast, FormerNone}
 use Rattle.conversion.specs.Rows.{fixes}
 use Rattle.conversion.specs.FormerRules.{read_as_max_lem, heading_line}
+use Rattle.conversion.specs.FormerFault.{FormerFault}
 use Rattle.conversion.specs.Converted.{resulting, converted, SameBytes}
-use Rattle.calls.specs.Values.{number_values}
+use Rattle.calls.specs.Values.{turned_away, number_values}
 use Rattle.calls.specs.Calls.{converting}
 use Rattle.calls.specs.Answers.{Reads, WroteText}
 
@@ -31,8 +32,14 @@ pub record Conversion (sheet : List ℕ) (Γ : Network) (t : List ℕ) : Type 0 
   pub text : t ≡ converted sheet Γ
 
 pub record Converting : Type 0 where
-  -- the converter reads exactly the sheets that have the layout of a former sheet
+  -- the converter reads exactly the sheets that have the layout of a former sheet, into a network that holds what they
+  -- contain, and refuses the others with the fault that they have by the former rules
   pub reads_former : (sheet : List ℕ) → Accepts (read_as_max_lem sheet) ↔ FormerLayout sheet
+  pub read_into : (sheet : List ℕ) (l : FormerLayout sheet)
+      → FormerContains sheet (network_of (read_as_max_lem sheet)) l.contents
+  pub refuses_former : (sheet : List ℕ) (r : Refusal) → Fault (read_as_max_lem sheet) r ↔ FormerFault sheet r
+  pub refused : (sheet m : List ℕ) (r : Refusal) → FormerFault sheet r
+      → (number_values (converting sheet m).answer ≡ turned_away 0 r) × ((converting sheet m).memory ≡ m)
   -- "Sheets that still hold it are no longer read by any call but a converter": today's reader accepts none of them.
   -- One that the former rules accept is refused with 22 and the line of its first `fix` row; a sheet without such a row
   -- is never refused with 22, and the converter never answers it

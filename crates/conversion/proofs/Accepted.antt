@@ -24,7 +24,8 @@ use Rattle.conversion.specs.FormerSheet.{FormerLayout}
 use Rattle.conversion.specs.FormerTables.{FormerSolution}
 use Rattle.conversion.specs.FormerRules.{read_as_max_lem}
 use Rattle.conversion.specs.Converted.{resulting, converted}
-use Rattle.conversion.proofs.FormerLayout.{read-layout, former_iff}
+use Rattle.conversion.proofs.FormerLayout.{former_iff}
+use Rattle.conversion.proofs.ReadInto.{read_into}
 use Rattle.conversion.proofs.Given.{Given}
 use Rattle.conversion.proofs.Text.{becomes, length_results, converted-text}
 use Rattle.conversion.proofs.Results.{results_keep}
@@ -44,8 +45,7 @@ given_of sheet l = record {
   contents = l.contents;
   keeps = l.keeps;
   written = l.written;
-  source = read_as_max_lem sheet;
-  holds = network-contains (read_as_max_lem sheet) (read-layout sheet l);
+  holds = read_into sheet l;
 }
 
 given : (sheet : List ℕ) (Γ : Network) → read (read_as_max_lem sheet) ≡ Ok Γ → Given sheet Γ

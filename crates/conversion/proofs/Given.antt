@@ -9,9 +9,9 @@ use Rattle.prelude.proofs.Mapped.{get_d_map}
 use Rattle.network.specs.declared.Network.{Network}
 use Rattle.layout.specs.Contents.{Contents, no_rule, no_rule_of}
 use Rattle.layout.specs.Keeps.{KeepsOf, Keeps}
-use Rattle.layout.specs.Contains.{Contains}
 use Rattle.layout.specs.Layout.{rule_line, text_by}
-use Rattle.conversion.specs.FormerSheet.{Fix, former_kind_text, FormerContents, kind_at, held_rule, held}
+use Rattle.conversion.specs.FormerSheet.{Fix, former_kind_text, FormerContents, FormerContains, kind_at, held_rule}
+use Rattle.conversion.specs.FormerSheet.{held}
 use Rattle.conversion.specs.Rows.{lines_of, is_fix_lem, fixes_in, fixes}
 use Rattle.conversion.specs.FormerRules.{as_max, heading_line}
 use Rattle.conversion.specs.Converted.{heading}
@@ -23,13 +23,11 @@ use Rattle.conversion.proofs.Held.{held_keeps}
 use Rattle.conversion.proofs.Others.{others-none}
 use Rattle.conversion.proofs.Sections.{front, rear, length_front}
 
--- the names of the network's events are parts of some text
 pub record Given (sheet : List ℕ) (Γ : Network) : Type 0 where
   pub contents : FormerContents
   pub keeps : KeepsOf Fix contents
   pub written : sheet ≡ text_by former_kind_text contents
-  pub source : List ℕ
-  pub holds : Contains source Γ (held contents)
+  pub holds : FormerContains sheet Γ contents
 
 module _ {sheet : List ℕ} {Γ : Network} (g : Given sheet Γ) where
   -- the contents with a `max` for each `fix`
