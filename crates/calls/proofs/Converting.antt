@@ -12,66 +12,88 @@ use Rattle.network.specs.Solution.{Solution}
 use Rattle.network.specs.Least.{Least, Inconsistent}
 use Rattle.network.specs.declared.Network.{Network}
 use Rattle.network.proofs.Least.{SameEvents, same-events-back, no_later_of_same}
-use Rattle.sheet.specs.Reading.{network_of, Accepts}
+use Rattle.sheet.specs.Reading.{network_of}
 use Rattle.sheet.proofs.Fault.{refused_iff}
 use Rattle.tighten.proofs.Agree.{same-events}
-use Rattle.conversion.specs.FormerRules.{read_as_max_lem, FormerSolution, FormerLeast, FormerNone}
+use Rattle.conversion.specs.FormerSheet.{FormerContents, FormerContains}
+use Rattle.conversion.specs.FormerTables.{FormerSolution, FormerLeast, FormerNone}
+use Rattle.conversion.specs.FormerRules.{read_as_max_lem}
+use Rattle.conversion.specs.FormerFault.{FormerFault}
 use Rattle.conversion.specs.Converted.{resulting, converted}
+use Rattle.conversion.proofs.FormerLayout.{former_iff}
+use Rattle.conversion.proofs.Alongside.{former_fault_iff}
+use Rattle.conversion.proofs.ReadInto.{read_into}
+use Rattle.conversion.proofs.Given.{Given}
+use Rattle.conversion.proofs.Assembled.{converted-same}
+use Rattle.conversion.proofs.Bytes.{same_bytes}
 use Rattle.conversion.proofs.Never.{never-retired, former-never-retired}
 use Rattle.conversion.proofs.Refused.{first-fix-refused}
 use Rattle.conversion.proofs.Unchanged.{read_as_max-without}
-use Rattle.conversion.proofs.Accepted.{accepted-plain, accepted-unchanged, converted-accepted, converted_agrees}
-use Rattle.conversion.proofs.Accepted.{converted-tables, stands}
+use Rattle.conversion.proofs.Accepted.{accepted-plain, accepted-unchanged, given_of, converted-accepted}
+use Rattle.conversion.proofs.Accepted.{converted_agrees, converted-tables}
 use Rattle.calls.specs.Call.{Left}
 use Rattle.calls.specs.Lent.{in_place_lem}
-use Rattle.calls.specs.Values.{OrRefusal, number_values}
+use Rattle.calls.specs.Values.{OrRefusal, turned_away, number_values}
 use Rattle.calls.specs.Calls.{writing, refusing, convert_tests, converting}
 use Rattle.calls.specs.Answers.{Reads, WroteText}
-use Rattle.calls.specs.Converting.{Conversion, Converting}
-use Rattle.calls.proofs.Call.{Ends, faulty, failed, worked, ends, reads_well_formed}
+use Rattle.calls.specs.Converting.{FormerReads, Conversion, Converting}
+use Rattle.calls.proofs.Call.{Ends, faulty, failed, worked, ends, call-refused, reads_well_formed}
 use Rattle.calls.proofs.Writing.{converter-wrote}
 
 -- the network that today's reader makes of the former sheet
 abbrev former : List ℕ → Network
 former sheet = network_of (read_as_max_lem sheet)
 
--- a conversion by its sheet alone: the network and the bytes are told by it
-by-sheet {ℓ} : (P : List ℕ → Network → List ℕ → Type ℓ)
-    → ((sheet : List ℕ) → Accepts (read_as_max_lem sheet) → resulting sheet (former sheet) ≤ L.rules
-    → P sheet (former sheet) (converted sheet (former sheet)))
-    → (sheet t : List ℕ) (Γ : Network) → Conversion sheet Γ t → P sheet Γ t
-by-sheet P h sheet t Γ c =
-    let n = c.reads.network in
-    rw (c.text, ← n) (h sheet c.reads.accepted (rw (← n) at c.few))
+-- what is known of a former sheet
+abbrev known : {sheet : List ℕ} {Γ : Network} → FormerReads sheet Γ → Given sheet Γ
+known {sheet = sheet} r = record {
+  contents = r.layout.contents;
+  keeps = r.layout.keeps;
+  written = r.layout.written;
+  holds = r.holds;
+}
+
+-- whichever network holds its contents, it has as many events, signals and rules
+pub counts_former : {sheet : List ℕ} {Γ : Network} (r : FormerReads sheet Γ)
+    → (resulting sheet (former sheet) ≡ resulting sheet Γ) × (converted sheet (former sheet) ≡ converted sheet Γ)
+counts_former {sheet} {Γ} r =
+    let g = r.holds in
+    let h = (given_of sheet r.layout).holds in (
+      omega (arith, g.rules, h.rules),
+      converted-same sheet (former sheet) Γ (h.events ∙ sym g.events) (h.signals ∙ sym g.signals)
+          (h.rules ∙ sym g.rules),
+    )
 
 written : (sheet m t : List ℕ) (Γ : Network) → Conversion sheet Γ t → length t ≤ length m
     → WroteText t m (converting sheet m)
-written sheet m t Γ c =
-    by-sheet (λ sheet Γ t. length t ≤ length m → WroteText t m (converting sheet m))
-    (λ sheet a few. converter-wrote sheet m a few) sheet t Γ c
+written sheet m t Γ c room =
+    let same = counts_former c.reads in
+    let is : t ≡ converted sheet (former sheet) = c.text ∙ sym same.1 in
+    let few : resulting sheet (former sheet) ≤ L.rules = omega (arith, c.few, same.0) in
+    rw is (converter-wrote sheet m ((former_iff sheet).1 c.reads.layout) few (omega (arith, room, ap length is)))
 
 accepted : (sheet t : List ℕ) (Γ : Network) → Conversion sheet Γ t → (Δ : Network) × Reads t Δ
-accepted =
-    by-sheet (λ sheet Γ t. (Δ : Network) × Reads t Δ)
-    (λ sheet a few. (_, record { accepted = converted-accepted sheet (former sheet) a few; network = refl }))
+accepted sheet t Γ c =
+    (network_of t, record { accepted = rw c.text (converted-accepted (known c.reads) c.few); network = refl })
 
 -- the same good tables, of networks in which the same events happen
-record Alike (sheet : List ℕ) (Γ Δ : Network) : Type 0 where
-  good : (σ : List ℕ) → FormerSolution sheet Γ σ ↔ Solution Δ σ
+record Alike (c : FormerContents) (Γ Δ : Network) : Type 0 where
+  good : (σ : List ℕ) → FormerSolution c Γ σ ↔ Solution Δ σ
   events : SameEvents Γ Δ
 
-alike : (sheet t : List ℕ) (Γ Δ : Network) → Conversion sheet Γ t → Reads t Δ → Alike sheet Γ Δ
+alike : (sheet t : List ℕ) (Γ Δ : Network) (c : Conversion sheet Γ t) → Reads t Δ
+    → Alike c.reads.layout.contents Γ Δ
 alike sheet t Γ Δ c reads =
-    by-sheet (λ sheet Γ t. (Δ : Network) → network_of t ≡ Δ → Alike sheet Γ Δ)
-    (λ sheet a few Δ n. rw (← n)
+    let g = known c.reads in
+    let is : network_of (converted sheet Γ) ≡ Δ = sym (ap network_of c.text) ∙ reads.network in
+    rw (← is)
     (record {
-      good = converted-tables sheet (former sheet) a few;
-      events = same-events (converted_agrees sheet (former sheet) a few);
-    }))
-    sheet t Γ c Δ reads.network
+      good = converted-tables g c.few;
+      events = same-events (converted_agrees g c.few);
+    })
 
-least : (sheet : List ℕ) (Γ Δ : Network) → Alike sheet Γ Δ → (σ : List ℕ) → FormerLeast sheet Γ σ ↔ Least Δ σ
-least sheet Γ Δ w σ = (
+least : (c : FormerContents) (Γ Δ : Network) → Alike c Γ Δ → (σ : List ℕ) → FormerLeast c Γ σ ↔ Least Δ σ
+least c Γ Δ w σ = (
   λ l. record {
     solves = (w.good σ).0 l.solves;
     no_later = λ τ g. no_later_of_same w.events σ τ (l.no_later τ ((w.good τ).1 g));
@@ -82,10 +104,10 @@ least sheet Γ Δ w σ = (
   },
 )
 
-none : (sheet : List ℕ) (Γ Δ : Network) → Alike sheet Γ Δ → FormerNone sheet Γ ↔ Inconsistent Δ
-none sheet Γ Δ w = (
-  λ n. record { none = λ τ g. n τ ((w.good τ).1 g) },
-  λ i τ g. i.none τ ((w.good τ).0 g),
+none : (c : FormerContents) (Γ Δ : Network) → Alike c Γ Δ → FormerNone c Γ ↔ Inconsistent Δ
+none c Γ Δ w = (
+  λ n. record { none = λ τ g. n.none τ ((w.good τ).1 g) },
+  λ n. record { none = λ τ g. n.none τ ((w.good τ).0 g) },
 )
 
 -- a sheet that today's reader accepts is read as it stands, and is its own conversion
@@ -93,10 +115,10 @@ itself : (sheet : List ℕ) (Γ : Network) → Reads sheet Γ → Conversion she
 itself sheet Γ reads =
     let plain = accepted-plain sheet reads.accepted in
     let same = read_as_max-without sheet plain in
-    let a : Accepts (read_as_max_lem sheet) = rw same reads.accepted in
-    let n : former sheet ≡ Γ = ap network_of same ∙ reads.network in
+    let l = (former_iff sheet).0 (rw same reads.accepted) in
+    let holds : FormerContains sheet (network_of sheet) l.contents = rw same at (given_of sheet l).holds in
     record {
-      reads = record { accepted = a; network = n };
+      reads = record { layout = l; holds = rw (← reads.network) holds };
       few = omega (arith, (reads_well_formed reads).rules, plain);
       text = sym (accepted-unchanged sheet reads.accepted) ∙ ap (converted sheet) reads.network;
     }
@@ -125,18 +147,33 @@ never sheet m e =
     by_end (failed a r (inr (g, inr f)) q) = f.1
     by_end (worked a h q) = let z : ◌≡◌ {A = ℕ} 0 22 = ap answered q ∙ e in omega arith
 
+-- the fault by the former rules is that of the sheet which is read
+refused : (sheet m : List ℕ) (r : Refusal) → FormerFault sheet r
+    → (number_values (converting sheet m).answer ≡ turned_away 0 r) × ((converting sheet m).memory ≡ m)
+refused sheet m r f =
+    let e = (refused_iff (read_as_max_lem sheet) r).1 ((former_fault_iff sheet r).0 f) in
+    let is = call-refused (refusing (in_place_lem m)) (read_as_max_lem sheet) (convert_tests sheet (in_place_lem m))
+    (λ Γ. writing (in_place_lem m) (converted sheet Γ)) r e in (
+      sym (ap (λ (l : Left (OrRefusal ℕ)). number_values l.answer) is),
+      sym (ap (λ (l : Left (OrRefusal ℕ)). l.memory) is),
+    )
+
 pub conversions : Converting
 conversions = record {
+  reads_former = former_iff;
+  read_into = read_into;
+  refuses_former = λ sheet r. ((former_fault_iff sheet r).1, (former_fault_iff sheet r).0);
+  refused = refused;
   read_by = λ sheet Γ r. accepted-plain sheet r.accepted;
-  turned_away = λ sheet Γ r some. rw (← r.network) (first-fix-refused sheet (former sheet) r.accepted some);
+  turned_away = λ sheet Γ r some. first-fix-refused (known r) some r.layout.short;
   for_fix = λ sheet r f e none. never-retired sheet none r f e;
   never = never;
   written = written;
   accepted = accepted;
   good = λ sheet t Γ Δ c r. (alike sheet t Γ Δ c r).good;
-  least = λ sheet t Γ Δ c r. least sheet Γ Δ (alike sheet t Γ Δ c r);
-  none = λ sheet t Γ Δ c r. none sheet Γ Δ (alike sheet t Γ Δ c r);
-  bytes = λ sheet Γ r. rw (← r.network) (stands sheet (former sheet) r.accepted);
+  least = λ sheet t Γ Δ c r. least c.reads.layout.contents Γ Δ (alike sheet t Γ Δ c r);
+  none = λ sheet t Γ Δ c r. none c.reads.layout.contents Γ Δ (alike sheet t Γ Δ c r);
+  bytes = λ sheet Γ r. same_bytes (known r);
   as_it_stands = read_as_max-without;
   unchanged = λ sheet m Γ r. written sheet m sheet Γ (itself sheet Γ r);
   second_pass = λ sheet t m Γ c.

@@ -20,6 +20,8 @@ use Rattle.listing.proofs.Short.{listing-short, good-times}
 use Rattle.canonical.specs.House.{house_text}
 use Rattle.conversion.specs.FormerRules.{read_as_max_lem}
 use Rattle.conversion.specs.Converted.{resulting, converted}
+use Rattle.conversion.proofs.Alongside.{former_fault_iff}
+use Rattle.conversion.proofs.FormerLayout.{former_iff}
 use Rattle.conversion.proofs.Accepted.{converted-short}
 use Rattle.canonical.proofs.Again.{form-short}
 use Rattle.calls.specs.Values.{OrRefusal, refused_as}
@@ -30,6 +32,7 @@ use Rattle.calls.specs.Recover.{recovering}
 use Rattle.calls.specs.Table.{refused_text, listing_on, table_on_lem, form_on, converted_on}
 use Rattle.calls.specs.Numbers.{minutes}
 use Rattle.calls.specs.Printing.{Printing}
+use Rattle.calls.proofs.Converting.{counts_former}
 use Rattle.calls.proofs.Handed.{cells-few, minutes_rightly}
 use Rattle.calls.proofs.Writing.{wrote, listing-wrote, house-wrote, converter-wrote, converter-many}
 use Rattle.calls.proofs.Solving.{solves-least, refuses_none}
@@ -106,12 +109,13 @@ printing = record {
       let e = (refused_iff sheet r).1 f in
       refused-on (housed sheet (page longest)) r (λ t. t) (rw e);
   convert_refused = λ sheet r f.
-      let e = (refused_iff (read_as_max_lem sheet) r).1 f in
+      let e = (refused_iff (read_as_max_lem sheet) r).1 ((former_fault_iff sheet r).0 f) in
       refused-on (converting sheet (page longest)) r (λ t. t) (rw e);
   none = λ sheet Γ r. rw (← r.network)
       (λ i. none-on sheet r.accepted table (page most_listing) i
       (omega (arith, length-replicate {A = ℕ} L.cells 0)));
-  many = λ sheet Γ r. rw (← r.network) (many-on sheet r.accepted (page longest));
+  many = λ sheet Γ r m.
+      many-on sheet ((former_iff sheet).1 r.layout) (page longest) (omega (arith, m, (counts_former r).0));
   table = λ sheet σ Γ r. rw (← r.network)
       (λ least.
       table_on sheet r.accepted σ table (page most_listing) least
@@ -122,10 +126,10 @@ printing = record {
       rw (form.form, ← n)
       (form-on sheet form.reads.accepted (page longest) (omega (arith, length-replicate {A = ℕ} longest 0)));
   convert = λ sheet t Γ c.
-      let n = c.reads.network in
-      rw (c.text, ← n)
-      (converted-on sheet c.reads.accepted (page longest) (rw (← n) at c.few)
-      (omega (arith, length-replicate {A = ℕ} longest 0)));
+      let same = counts_former c.reads in
+      converted-on sheet ((former_iff sheet).1 c.reads.layout) (page longest) (omega (arith, c.few, same.0))
+      (omega (arith, length-replicate {A = ℕ} longest 0))
+      ∙ same.1 ∙ sym c.text;
   judge_refused = λ sheet bytes r f.
       let e = (refused_iff sheet r).1 f in
       refused-on (recovering sheet bytes table) r (judged sheet) (rw e);

@@ -8,28 +8,44 @@ use Rattle.network.specs.Limits as L
 use Rattle.network.specs.Solution.{Solution}
 use Rattle.network.specs.Least.{Least, Inconsistent}
 use Rattle.network.specs.declared.Network.{Network}
+use Rattle.sheet.specs.Reading.{network_of, Accepts}
 use Rattle.sheet.specs.Fault.{Fault}
+use Rattle.conversion.specs.FormerSheet.{FormerLayout, FormerContains, FirstFix}
+use Rattle.conversion.specs.FormerTables.{FormerSolution, FormerLeast, FormerNone}
 use Rattle.conversion.specs.Rows.{fixes}
-use Rattle.conversion.specs.FormerRules.{read_as_max_lem, heading_line, FirstFix, FormerSolution, FormerLeast}
-use Rattle.conversion.specs.FormerRules.{FormerNone}
+use Rattle.conversion.specs.FormerRules.{read_as_max_lem, heading_line}
+use Rattle.conversion.specs.FormerFault.{FormerFault}
 use Rattle.conversion.specs.Converted.{resulting, converted, SameBytes}
-use Rattle.calls.specs.Values.{number_values}
+use Rattle.calls.specs.Values.{turned_away, number_values}
 use Rattle.calls.specs.Calls.{converting}
 use Rattle.calls.specs.Answers.{Reads, WroteText}
 
--- the sheet is a former sheet that is read as Γ, no more rules result than a sheet may have, and t is what it becomes
+-- the sheet has the layout of a former sheet, and Γ is a network that holds what it contains
+pub record FormerReads (sheet : List ℕ) (Γ : Network) : Type 0 where
+  pub layout : FormerLayout sheet
+  pub holds : FormerContains sheet Γ layout.contents
+
+-- no more rules result of it than a sheet may have, and t is what it becomes
 pub record Conversion (sheet : List ℕ) (Γ : Network) (t : List ℕ) : Type 0 where
-  pub reads : Reads (read_as_max_lem sheet) Γ
+  pub reads : FormerReads sheet Γ
   pub few : resulting sheet Γ ≤ L.rules
   pub text : t ≡ converted sheet Γ
 
 pub record Converting : Type 0 where
+  -- the converter reads exactly the sheets that have the layout of a former sheet, into a network that holds what they
+  -- contain, and refuses the others with the fault that they have by the former rules
+  pub reads_former : (sheet : List ℕ) → Accepts (read_as_max_lem sheet) ↔ FormerLayout sheet
+  pub read_into : (sheet : List ℕ) (l : FormerLayout sheet)
+      → FormerContains sheet (network_of (read_as_max_lem sheet)) l.contents
+  pub refuses_former : (sheet : List ℕ) (r : Refusal) → Fault (read_as_max_lem sheet) r ↔ FormerFault sheet r
+  pub refused : (sheet m : List ℕ) (r : Refusal) → FormerFault sheet r
+      → (number_values (converting sheet m).answer ≡ turned_away 0 r) × ((converting sheet m).memory ≡ m)
   -- "Sheets that still hold it are no longer read by any call but a converter": today's reader accepts none of them.
   -- One that the former rules accept is refused with 22 and the line of its first `fix` row; a sheet without such a row
   -- is never refused with 22, and the converter never answers it
   pub read_by : (sheet : List ℕ) (Γ : Network) → Reads sheet Γ → fixes sheet ≡ 0
-  pub turned_away : (sheet : List ℕ) (Γ : Network) → Reads (read_as_max_lem sheet) Γ → (fixes sheet ≡ 0 → ⊥)
-      → (c : ℕ) × FirstFix sheet Γ c × Fault sheet (refusal RetiredKind (suc (suc (heading_line Γ) + c)))
+  pub turned_away : (sheet : List ℕ) (Γ : Network) (r : FormerReads sheet Γ) → (fixes sheet ≡ 0 → ⊥)
+      → (i : ℕ) × FirstFix r.layout.contents i × Fault sheet (refusal RetiredKind (suc (suc (heading_line Γ) + i)))
   pub for_fix : (sheet : List ℕ) (r : Refusal) → Fault sheet r → number_of r.cause ≡ 22 → fixes sheet ≡ 0 → ⊥
   pub never : (sheet m : List ℕ) → (number_values (converting sheet m).answer).number ≡ 22 → ⊥
   -- where there is room the converted sheet is written, and everything behind it is unaltered
@@ -38,16 +54,15 @@ pub record Converting : Type 0 where
   -- today's reader accepts it
   pub accepted : (sheet t : List ℕ) (Γ : Network) → Conversion sheet Γ t → (Δ : Network) × Reads t Δ
   -- and its good tables are the former sheet's: so it has the same least table, or none
-  pub good : (sheet t : List ℕ) (Γ Δ : Network) → Conversion sheet Γ t → Reads t Δ → (σ : List ℕ)
-      → FormerSolution sheet Γ σ ↔ Solution Δ σ
-  pub least : (sheet t : List ℕ) (Γ Δ : Network) → Conversion sheet Γ t → Reads t Δ → (σ : List ℕ)
-      → FormerLeast sheet Γ σ ↔ Least Δ σ
-  pub none : (sheet t : List ℕ) (Γ Δ : Network) → Conversion sheet Γ t → Reads t Δ
-      → FormerNone sheet Γ ↔ Inconsistent Δ
+  pub good : (sheet t : List ℕ) (Γ Δ : Network) (c : Conversion sheet Γ t) → Reads t Δ → (σ : List ℕ)
+      → FormerSolution c.reads.layout.contents Γ σ ↔ Solution Δ σ
+  pub least : (sheet t : List ℕ) (Γ Δ : Network) (c : Conversion sheet Γ t) → Reads t Δ → (σ : List ℕ)
+      → FormerLeast c.reads.layout.contents Γ σ ↔ Least Δ σ
+  pub none : (sheet t : List ℕ) (Γ Δ : Network) (c : Conversion sheet Γ t) → Reads t Δ
+      → FormerNone c.reads.layout.contents Γ ↔ Inconsistent Δ
   -- "every other byte but the count of rules stays"; and as only rows are `fix` rows, as many rows result as 17 asks
   -- about
-  pub bytes : (sheet : List ℕ) (Γ : Network) → Reads (read_as_max_lem sheet) Γ
-      → SameBytes sheet Γ (converted sheet Γ)
+  pub bytes : (sheet : List ℕ) (Γ : Network) → FormerReads sheet Γ → SameBytes sheet Γ (converted sheet Γ)
   -- a sheet without `fix` is read as it stands, so that it is refused as every call refuses it; one that is accepted
   -- comes back byte for byte
   pub as_it_stands : (sheet : List ℕ) → fixes sheet ≡ 0 → read_as_max_lem sheet ≡ sheet

@@ -12,7 +12,7 @@ use Rattle.network.specs.declared.Network.{Network}
 use Rattle.sheet.specs.Fault.{Fault}
 use Rattle.listing.specs.Listing.{header, listing}
 use Rattle.readback.specs.Form.{Misfit, Unread}
-use Rattle.conversion.specs.FormerRules.{read_as_max_lem}
+use Rattle.conversion.specs.FormerFault.{FormerFault}
 use Rattle.conversion.specs.Converted.{resulting}
 use Rattle.calls.specs.Values.{turned_away, refused_as}
 use Rattle.calls.specs.Calls.{judgement}
@@ -21,18 +21,18 @@ use Rattle.calls.specs.Table.{refused_text, verdict_text, table_text, form_text,
 use Rattle.calls.specs.ReadingBack.{Printable}
 use Rattle.calls.specs.Answers.{Reads}
 use Rattle.calls.specs.Housing.{Form}
-use Rattle.calls.specs.Converting.{Conversion}
+use Rattle.calls.specs.Converting.{FormerReads, Conversion}
 
 pub record Printing : Type 0 where
-  -- "or `refused N line L` with the number and the line": the sheet's own refusal, then 13 and 17. What `convert` reads
-  -- is the sheet with each `fix` row read as a `max` row
+  -- "or `refused N line L` with the number and the line": the sheet's own refusal, by the former rules that of what
+  -- `convert` reads, then 13 and 17
   pub table_refused : (sheet : List ℕ) (r : Refusal) → Fault sheet r → table_text sheet ≡ refused_text (turned_away 0 r)
   pub house_refused : (sheet : List ℕ) (r : Refusal) → Fault sheet r → form_text sheet ≡ refused_text (turned_away 0 r)
-  pub convert_refused : (sheet : List ℕ) (r : Refusal) → Fault (read_as_max_lem sheet) r
+  pub convert_refused : (sheet : List ℕ) (r : Refusal) → FormerFault sheet r
       → converted_text sheet ≡ refused_text (turned_away 0 r)
   pub none : (sheet : List ℕ) (Γ : Network) → Reads sheet Γ → Inconsistent Γ
       → table_text sheet ≡ refused_text (refused_as 13)
-  pub many : (sheet : List ℕ) (Γ : Network) → Reads (read_as_max_lem sheet) Γ → L.rules < resulting sheet Γ
+  pub many : (sheet : List ℕ) (Γ : Network) → FormerReads sheet Γ → L.rules < resulting sheet Γ
       → converted_text sheet ≡ refused_text (refused_as 17)
   -- "the solver's listing": that of the least good table
   pub table : (sheet σ : List ℕ) (Γ : Network) → Reads sheet Γ → Least Γ σ → table_text sheet ≡ listing sheet Γ σ

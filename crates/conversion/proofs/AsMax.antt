@@ -80,11 +80,11 @@ again s t h n =
       | inr e ↦ rw (as_max-other (first_line s) e) (first-again s t h n)
     ]
 
-read_as_max-none : read_as_max_lem [] ≡ []
+pub read_as_max-none : read_as_max_lem [] ≡ []
 unfolding read_as_max_lem
 read_as_max-none = refl
 
-read_as_max-first : (s : List ℕ) → 1 ≤ length s
+pub read_as_max-first : (s : List ℕ) → 1 ≤ length s
     → read_as_max_lem s ≡ as_max (first_line s) ++ read_as_max_lem (behind s)
 unfolding read_as_max_lem
 read_as_max-first s h = ap (λ (ls : List (List ℕ)). lines (map as_max ls)) (lines_of_first s h)

@@ -29,3 +29,9 @@ module _ (sheet : List ℕ) (Γ : Network) where
   length-converted =
       let row = heading (resulting sheet Γ) in
       omega (arith, ap length converted-is, length-append (front ++ row) rest, length-append front row)
+
+-- of a network only its counts are told
+pub converted-same : (sheet : List ℕ) (Γ Δ : Network) → Γ.events ≡ Δ.events → Γ.signals ≡ Δ.signals
+    → Γ.rules ≡ Δ.rules → converted sheet Γ ≡ converted sheet Δ
+unfolding converted
+converted-same sheet Γ Δ e s r = rw (e, s, r)

@@ -16,11 +16,11 @@ use Rattle.conversion.proofs.Sections.{lines-append, front, rear, joined}
 use Rattle.conversion.proofs.FiveFields.{rear_other}
 use Rattle.conversion.proofs.Others.{others-doubled}
 use Rattle.conversion.proofs.Assembled.{converted-is}
-use Rattle.conversion.proofs.Divided.{Given, heading_at, rows, lines-are, fixes-are, length-rows}
+use Rattle.conversion.proofs.Given.{Given, now, kept, heading_at, rows, lines-are, fixes-are, length-rows}
 
 module _ {sheet : List ℕ} {Γ : Network} (g : Given sheet Γ) where
   abbrev c : Contents
-  c = g.contents
+  c = now g
 
   abbrev its : List (List ℕ)
   its = rows g
@@ -35,7 +35,7 @@ module _ {sheet : List ℕ} {Γ : Network} (g : Given sheet Γ) where
       ap₂ (λ (n : ℕ) (ls : List (List ℕ)). drop 1 (drop n ls)) (heading_at g) (lines-are g)
       ∙ ap (drop 1) (drop-append_seam (front c) tail) in
       let rest : lines (map doubled (its ++ rear c)) ≡ lines (map doubled its) ++ lines (rear c) =
-      rw (map-append doubled its (rear c), others-doubled (rear c) (rear_other c g.keeps))
+      rw (map-append doubled its (rear c), others-doubled (rear c) (rear_other c (kept g)))
       (lines-append (map doubled its) (rear c)) in
       sym (converted-is sheet Γ)
       ∙ ap₂ (λ (f b : List (List ℕ)). lines f ++ heading (resulting sheet Γ) ++ lines (map doubled b)) before behind

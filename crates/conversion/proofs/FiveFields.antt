@@ -14,20 +14,19 @@ use Rattle.prelude.proofs.Checks.{◌&◌}
 use Rattle.prelude.proofs.Tests.{and_both}
 use Rattle.prelude.proofs.Lists.{each_in, each_mono}
 use Rattle.prelude.proofs.Mapped.{each_map}
-use Rattle.prelude.proofs.Parts.{each_none, each_cons, each_append}
+use Rattle.prelude.proofs.Parts.{each_none, each_cons, each_one, each_append}
 use Rattle.text.specs.Decimal.{decimal}
 use Rattle.text.specs.Lines.{plain, line}
 use Rattle.text.proofs.Numbers.{plain-decimal}
 use Rattle.text.proofs.Written.{Plain}
 use Rattle.names.specs.Names.{is_name_lem, Literal}
-use Rattle.layout.specs.Contents.{Reaction, Case, Contents, no_signal, no_rule, no_reaction, no_case}
+use Rattle.layout.specs.Contents.{Reaction, Case, ContentsOf, no_signal, no_rule_of, no_reaction, no_case}
 use Rattle.layout.specs.Contents.{signal_letters}
-use Rattle.layout.specs.Keeps.{KeepsLabel, KeepsReaction, KeepsCase, Keeps}
-use Rattle.layout.specs.Layout.{kind_text, label_text, signal_line, rule_fields, rule_line, reaction_line, case_line}
+use Rattle.layout.specs.Keeps.{KeepsLabel, KeepsReaction, KeepsCase, KeepsOf}
+use Rattle.layout.specs.Layout.{label_text, signal_line, rule_fields, rule_line_by, reaction_line, case_line}
 use Rattle.layout.proofs.Plain.{plain-letter, plain-name}
 use Rattle.layout.proofs.Numbers.{plain-signed_text}
 use Rattle.layout.proofs.Labels.{plain-label_text}
-use Rattle.layout.proofs.KindWords.{plain-kind}
 use Rattle.layout.proofs.Kept.{KeptSignals, letter_is, letters-are}
 use Rattle.conversion.specs.Converted.{heading}
 use Rattle.conversion.proofs.Lines.{IsLine}
@@ -61,7 +60,10 @@ section-other word p ls e =
 pub heading_other : (n : ℕ) → IsOther (heading n)
 heading_other n = pair (ascii "rules") (decimal n) refl (plain-decimal n)
 
-module _ (c : Contents) (k : Keeps c) where
+pub heading-one : (n : ℕ) → Each IsOther (heading n ∷ []) []
+heading-one n = each_one IsOther [] (heading n) (heading_other n)
+
+module _ {K : Type 0} {d : K} (c : ContentsOf K) (k : KeepsOf d c) where
   signals-kept : KeptSignals c.names c.signals
   signals-kept = record { each = k.signals; letters_once = k.letters_once; events_once = k.events_once }
 
@@ -119,14 +121,15 @@ module _ (c : Contents) (k : Keeps c) where
       each_append IsOther [] (reaction_lines c.reactions) (case_lines c.cases)
       (reactions-other c.reactions k.reactions) (cases_other c.cases k.cases)
 
-  pub rule-plain : Each (λ x. Plain (kind_text x.kind ∷ rule_fields x)) c.rules no_rule
-  rule-plain =
-      each_mono (λ x w.
-      plain-kind x.kind & name_in x.from w.from & name_in x.to w.to & plain-signed_text x.limit
-      & label_in x.label w.label & tt) k.rules
+  -- the lines of the rules, whose kinds have these words
+  module _ (word : K → List ℕ) (p : (x : K) → every plain (word x) ≡ true) where
+    pub rule-plain : Each (λ x. Plain (word x.kind ∷ rule_fields x)) c.rules (no_rule_of d)
+    rule-plain =
+        each_mono (λ x w.
+        p x.kind & name_in x.from w.from & name_in x.to w.to & plain-signed_text x.limit & label_in x.label w.label
+        & tt) k.rules
 
-  pub rules-written : Each IsLine (map rule_line c.rules) []
-  rules-written =
-      each_map rule_line IsLine no_rule [] c.rules
-      (each_mono (λ x p. record { one = kind_text x.kind; others = rule_fields x; plain_bytes = p; is = refl })
-      rule-plain)
+    pub rules-written : Each IsLine (map (rule_line_by word) c.rules) []
+    rules-written =
+        each_map (rule_line_by word) IsLine (no_rule_of d) [] c.rules
+        (each_mono (λ x p. record { one = word x.kind; others = rule_fields x; plain_bytes = p; is = refl }) rule-plain)

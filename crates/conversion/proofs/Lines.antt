@@ -33,7 +33,7 @@ module _ (b : ℕ) (s : List ℕ) where
   pub lines_of_byte : eqb b line_feed ≡ false → lines_of (b ∷ s) ≡ into_line b (lines_of s)
   lines_of_byte e = rw (e, lines_of)
 
-  is_in_byte : eqb b line_feed ≡ false → is_in line_feed (b ∷ s) ≡ is_in line_feed s
+  pub is_in_byte : eqb b line_feed ≡ false → is_in line_feed (b ∷ s) ≡ is_in line_feed s
   is_in_byte e = rw (ne_eqb line_feed b (λ z. eqb-false b line_feed e (sym z)))
 
 lines_into : (b : ℕ) (ls : List (List ℕ)) → lines (into_line b ls) ≡ b ∷ lines ls
@@ -54,6 +54,15 @@ cut_at s = suc (length (up_to line_feed s))
 
 abbrev pub behind : List ℕ → List ℕ
 behind s = drop (cut_at s) s
+
+-- what stands before its line feed is what stands before that of the first line
+pub up_to_first : (t : List ℕ) → up_to line_feed (first_line t) ≡ up_to line_feed t
+up_to_first [] = refl
+up_to_first (b ∷ t) =
+    elim (either (eqb b line_feed)) [
+      | inl e ↦ rw (up_to_feed b t e) (up_to_feed b [] e)
+      | inr e ↦ rw (up_to_byte b t e) (up_to_byte b (first_line t) e ∙ ap (λ (x : List ℕ). b ∷ x) (up_to_first t))
+    ]
 
 -- the first line stays the first before other lines; without a line feed only where nothing follows
 pub first-again : (s t : List ℕ) → 1 ≤ length s → (is_in line_feed s ≡ false → t ≡ [])

@@ -5,14 +5,11 @@ use mathlib.Core.Logic.{inl, inr}
 use mathlib.Core.Bool.{false}
 use mathlib.Core.List.{List, [], ◌∷◌}
 use Prim.Native.Nat.{ℕ, zero, suc, ◌≤◌}
-use native.Mathlib.Numerals.{add-one}
 use native.Mathlib.Omega.{arith}
-use lib.Dec.{eqb}
 use lib.ListN.{length, drop}
-use lib.Seq.{drop-drop}
 use Rattle.prelude.specs.Checks.{FirstFails}
-use Rattle.prelude.proofs.Tests.{either, clash}
-use Rattle.text.specs.Lines.{line_feed, up_to, fields, after_line}
+use Rattle.prelude.proofs.Tests.{clash}
+use Rattle.text.specs.Lines.{line_feed, up_to, fields}
 use Rattle.text.proofs.Lines.{up_to_lt_of_is_in}
 use Rattle.refusal.specs.Refusal.{number_of}
 use Rattle.refusal.specs.declared.Cause.{Cause}
@@ -26,7 +23,8 @@ use Rattle.sheet.specs.Place.{Expected, Horizon, Heading, Entry, NoMore, tests_a
 use Rattle.sheet.specs.Fault.{Fault}
 use Rattle.conversion.specs.Rows.{lines_of, first_line, are_fix, is_fix_lem, fixes_in, fixes}
 use Rattle.conversion.specs.FormerRules.{read_as_max_lem}
-use Rattle.conversion.proofs.Lines.{up_to_feed, up_to_byte, behind, lines_of_first}
+use Rattle.conversion.proofs.Lines.{up_to_first, behind, lines_of_first}
+use Rattle.conversion.proofs.LineRead.{after-behind}
 use Rattle.conversion.proofs.Fixes.{none_cons}
 use Rattle.conversion.proofs.NoFix.{fixes-read_as_max}
 use Rattle.conversion.proofs.Retired.{others-fail, fix_of_fails}
@@ -44,18 +42,7 @@ none_at : (s : List ℕ) → fixes s ≡ 0 → (k : ℕ) → fixes (drop (place 
 none_at s none zero = none
 none_at s none (suc k) =
     let at = (place s k).at in
-    let next : drop (after_line s at) s ≡ behind (drop at s) =
-    sym (drop-drop _ at s) ∙ ap (λ (n : ℕ). drop n (drop at s)) (add-one (length (up_to line_feed (drop at s)))) in
-    ap fixes next ∙ none_behind (drop at s) (none_at s none k)
-
--- what stands before its line feed is what stands before that of the first line
-up_to_first : (t : List ℕ) → up_to line_feed (first_line t) ≡ up_to line_feed t
-up_to_first [] = refl
-up_to_first (b ∷ t) =
-    elim (either (eqb b line_feed)) [
-      | inl e ↦ rw (up_to_feed b t e) (up_to_feed b [] e)
-      | inr e ↦ rw (up_to_byte b t e) (up_to_byte b (first_line t) e ∙ ap (λ (x : List ℕ). b ∷ x) (up_to_first t))
-    ]
+    ap fixes (after-behind s at) ∙ none_behind (drop at s) (none_at s none k)
 
 module _ (s : List ℕ) (Γ : Network) (at : ℕ) (none : fixes (drop at s) ≡ 0) (c : Cause) (n : number_of c ≡ 22) where
   -- the line of a rule: it has its line feed, so it is a line, and no `fix` row

@@ -24,6 +24,7 @@ use Rattle.line.specs.Tests.{is_retired}
 use Rattle.layout.specs.Contents.{Rule, Contents, no_rule}
 use Rattle.layout.specs.Keeps.{Keeps}
 use Rattle.layout.specs.Layout.{kind_text, rule_line, rule_fields, text_of}
+use Rattle.layout.proofs.KindWords.{plain-kind}
 use Rattle.conversion.specs.Rows.{lines_of, is_fix_lem, fixes_in, fixes}
 use Rattle.conversion.specs.FormerRules.{as_max, read_as_max_lem}
 use Rattle.conversion.specs.Converted.{heading}
@@ -82,10 +83,10 @@ fixes-text c k =
     let rules = map rule_line c.rules in
     let count = length c.rules in
     let others : (ls : List (List ℕ)) → Each IsOther ls [] → Each Stays ls [] = λ ls e. each_mono other-none e in
-    ap fixes_in (lines_of_text c k)
+    ap fixes_in (lines_of_text c k kind_text plain-kind)
     ∙ none_each (front c ++ heading count ∷ (rules ++ rear c))
     (each_append Stays [] (front c) (heading count ∷ (rules ++ rear c)) (others (front c) (front-other c k))
     (each_cons Stays [] (heading count) (rules ++ rear c) (other-none (heading count) (heading_other count))
     (each_append Stays [] rules (rear c)
-    (each_map rule_line Stays no_rule [] c.rules (each_mono rule_fix (rule-plain c k)))
+    (each_map rule_line Stays no_rule [] c.rules (each_mono rule_fix (rule-plain c k kind_text plain-kind)))
     (others (rear c) (rear_other c k)))))

@@ -1,11 +1,13 @@
 -- A former sheet with a `fix` row, which today's reader is given as it stands, is refused with 22 and the line of its
 -- first `fix` row (`first-fix-refused`). Assumes nothing.
 use mathlib.Core.Path.{◌≡◌, refl, sym, ◌∙◌, ap}
+use mathlib.Core.Bool.{true}
 use mathlib.Core.List.{List, [], ◌++◌, append_assoc}
-use Prim.Native.Nat.{ℕ, suc, ◌+◌, ◌≤◌, ◌<◌, zero-le}
+use Prim.Native.Nat.{ℕ, suc, ◌+◌, ◌≤◌, zero-le}
 use native.Mathlib.Omega.{arith}
-use lib.ListN.{length}
-use Rattle.std.specs.Prelude.{Ok, Err}
+use lib.ListN.{length, get_or, length-map}
+use Rattle.std.specs.Prelude.{Err}
+use Rattle.prelude.proofs.Tests.{zero-is-one, clash}
 use Rattle.text.specs.Lines.{after_line}
 use Rattle.text.proofs.Numbers.{magnitude-decimal}
 use Rattle.refusal.specs.Refusal.{refusal}
@@ -19,28 +21,25 @@ use Rattle.sheet.specs.Fault.{Fault}
 use Rattle.sheet.specs.Reading.{Progress, and_then, answered, longest, read, read_end}
 use Rattle.sheet.specs.Reading.{read_entries_lem, read_section_lem, read_optional_lem}
 use Rattle.sheet.proofs.Fault.{refused_iff}
-use Rattle.sheet.proofs.WellFormed.{accepts}
 use Rattle.sheet.proofs.Whole.{to_signals, to_rules, in_length}
 use Rattle.layout.specs.Contents.{Contents}
 use Rattle.layout.specs.Layout.{lines}
-use Rattle.layout.proofs.Accepted.{accepted_iff}
 use Rattle.layout.proofs.CountLine.{count-line-reads}
 use Rattle.layout.proofs.Text.{on}
-use Rattle.conversion.specs.Rows.{fixes}
-use Rattle.conversion.specs.FormerRules.{read_as_max_lem, heading_line, FirstFix}
+use Rattle.conversion.specs.Rows.{is_fix_lem, fixes}
+use Rattle.conversion.specs.FormerSheet.{FormerKind, Today, Fix, kind_at, FirstFix}
+use Rattle.conversion.specs.FormerRules.{heading_line}
 use Rattle.conversion.specs.Converted.{heading}
-use Rattle.conversion.proofs.Accepted.{given}
+use Rattle.conversion.proofs.FormerRow.{former_row, is_fix_kind}
 use Rattle.conversion.proofs.BeforeRules.{number_at, front_read}
 use Rattle.conversion.proofs.Lines.{lines_lines_of}
-use Rattle.conversion.proofs.Divided.{Given, rows, rows_are, lines-are, fixes-are, length-rows}
-use Rattle.conversion.proofs.Length.{length-read_as_max}
-use Rattle.conversion.proofs.RuleHolds.{row_is}
+use Rattle.conversion.proofs.Given.{Given, now, kept, rows, rows_are, lines-are, fixes-are, length-rows, row-kind}
 use Rattle.conversion.proofs.Sections.{front, rear, lines-joined}
 use Rattle.conversion.proofs.RowsStop.{Stops, rows-stop}
 
 module _ {sheet : List ℕ} {Γ : Network} (g : Given sheet Γ) (some : fixes sheet ≡ 0 → ⊥) where
   abbrev c : Contents
-  c = g.contents
+  c = now g
 
   abbrev its : List (List ℕ)
   its = rows g
@@ -61,12 +60,12 @@ module _ {sheet : List ℕ} {Γ : Network} (g : Given sheet Γ) (some : fixes sh
   -- the rows behind the heading, whose numbers count from 1
   rules_stop : Stops its (to_rules sheet) (suc (suc (heading_line Γ)))
   rules_stop =
-      let f = front_read sheet c g.keeps (heading count ++ left) text in
+      let f = front_read sheet c (kept g) (heading count ++ left) text in
       let Δ = f.network in
       let entries = λ (fs : List (List ℕ)).
       read_entries_lem sheet Rules (second_number fs) Δ (after_line sheet f.at) (suc f.number) in
       let r = count-line-reads sheet (heading_of_lem Δ.events Rules) f.at f.number entries refl count left zero-le
-      g.keeps.few_rules f.behind in
+      (kept g).few_rules f.behind in
       let line : suc f.number ≡ suc (suc (heading_line Γ)) =
       omega (
         arith,
@@ -77,9 +76,9 @@ module _ {sheet : List ℕ} {Γ : Network} (g : Given sheet Γ) (some : fixes sh
         g.holds.events,
         g.holds.signals,
       ) in
-      let few : 0 + count ≤ L.rules = omega (arith, g.keeps.few_rules) in
+      let few : 0 + count ≤ L.rules = omega (arith, (kept g).few_rules) in
       let stop = rows-stop sheet c.horizon c.names c.signals its c.rules [] Δ (after_line sheet f.at) (suc f.number)
-      (lines (rear c)) (rows_are g) (λ e. some (fixes-are g ∙ e)) f.held g.keeps.rules few r.0 in
+      (lines (rear c)) (rows_are g) (λ e. some (fixes-are g ∙ e)) f.held (kept g).rules few r.0 in
       let p = read_entries_lem sheet Rules count Δ (after_line sheet f.at) (suc f.number) in
       let goes : to_rules sheet ≡ p =
       on (to_signals sheet) (read_section_lem sheet Rules) Δ f.at f.number p f.goes
@@ -96,27 +95,27 @@ module _ {sheet : List ℕ} {Γ : Network} (g : Given sheet Γ) (some : fixes sh
       ap answered (in_length sheet short ∙ ap behind rules_stop.stops)
       ∙ ap (λ (n : ℕ). Err (refusal C.RetiredKind n)) same
 
-  -- among the rows of the rules, and so of the sheet
-  first_fix : FirstFix sheet Γ rules_stop.c
+  -- the rule of that row
+  first_fix : FirstFix g.contents rules_stop.c
   first_fix =
       let s = rules_stop in
-      let within : s.c < Γ.rules = omega (arith, s.inside, length-rows g, g.holds.rules) in
+      let kind : (d : ℕ) → d ≤ s.c → is_fix_lem (get_or its d []) ≡ is_fix_kind (kind_at g.contents d) =
+      λ d h. row-kind g d (omega (arith, s.inside, length-rows g)) in
       record {
-        inside = within;
-        fix = rw (row_is g s.c within) s.fix;
-        none_above = λ d h. let l : d < Γ.rules = omega arith in rw (row_is g d l) (s.none_above d h);
+        inside = omega (arith, s.inside, length-map g.contents.rules former_row);
+        fix = is_fix (kind_at g.contents s.c) (sym (kind s.c (omega arith)) ∙ s.fix);
+        none_above = λ d h e.
+            clash (is_fix_lem (get_or its d [])) (kind d (omega arith) ∙ ap is_fix_kind e) (s.none_above d h);
       }
+    where
+      is_fix : (k : FormerKind) → is_fix_kind k ≡ true → k ≡ Fix
+      is_fix (Today k) e = zero-is-one cc
+      is_fix Fix e = refl
 
-pub first-fix-refused : (sheet : List ℕ) (Γ : Network) → read (read_as_max_lem sheet) ≡ Ok Γ
-    → (fixes sheet ≡ 0 → ⊥)
-    → (c : ℕ) × FirstFix sheet Γ c × Fault sheet (refusal C.RetiredKind (suc (suc (heading_line Γ) + c)))
-first-fix-refused sheet Γ a some =
-    let s = read_as_max_lem sheet in
-    let g = given sheet Γ a in
-    let row = (rules_stop g some).c in
-    let short : length sheet ≤ longest =
-    omega (arith, ((accepted_iff s).0 (accepts s Γ a).0).short, length-read_as_max sheet) in (
-      row,
-      first_fix g some,
-      (refused_iff sheet (refusal C.RetiredKind (suc (suc (heading_line Γ) + row)))).0 (refused g some short),
-    )
+  pub first-fix-refused : length sheet ≤ longest
+      → (i : ℕ) × FirstFix g.contents i × Fault sheet (refusal C.RetiredKind (suc (suc (heading_line Γ) + i)))
+  first-fix-refused short = (
+    rules_stop.c,
+    first_fix,
+    (refused_iff sheet (refusal C.RetiredKind (suc (suc (heading_line Γ) + rules_stop.c)))).0 (refused short),
+  )

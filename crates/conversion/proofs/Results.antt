@@ -11,6 +11,7 @@ use Rattle.prelude.specs.Lists.{Each}
 use Rattle.prelude.proofs.Parts.{each_none, each_cons, each_one, each_append, each_first, each-second}
 use Rattle.prelude.proofs.Tests.{clash}
 use Rattle.network.specs.Limits as L
+use Rattle.network.specs.declared.Kind.TheVariants.{Max}
 use Rattle.network.specs.declared.Network.{Network}
 use Rattle.layout.specs.Contents.{Rule, Contents, no_rule, signal_letters}
 use Rattle.layout.specs.Labelled.{Complete}
@@ -18,7 +19,8 @@ use Rattle.layout.specs.Keeps.{KeepsRule, Keeps}
 use Rattle.conversion.specs.Rows.{is_fix_lem}
 use Rattle.conversion.proofs.Written.{as_min, rows_of}
 use Rattle.conversion.proofs.Expanded.{expanded}
-use Rattle.conversion.proofs.Divided.{Given, rows}
+use Rattle.conversion.proofs.Held.{with_rules-keep}
+use Rattle.conversion.proofs.Given.{Given, now, kept, rows}
 use Rattle.conversion.proofs.Text.{results, becomes}
 
 module _ (P : Rule → Type 0) where
@@ -59,10 +61,10 @@ module _ (P : Rule → Type 0) where
 -- the `min` of a rule has its ends, limit and label
 module _ {sheet : List ℕ} {Γ : Network} (g : Given sheet Γ) where
   abbrev c : Contents
-  c = g.contents
+  c = now g
 
   abbrev k : Keeps c
-  k = g.keeps
+  k = kept g
 
   results_kept : Each (KeepsRule c.names (signal_letters c.signals)) (results g) no_rule
   results_kept =
@@ -73,35 +75,11 @@ module _ {sheet : List ℕ} {Γ : Network} (g : Given sheet Γ) where
         other = λ _. record { from = w.from; to = w.to; limit = w.limit; label = w.label };
       })
 
-  results_complete : Each (λ r. Complete (becomes g) r.label) (results g) no_rule
+  results_complete : Each (λ r. Complete c r.label) (results g) no_rule
   results_complete =
-      to_results (λ r. Complete (becomes g) r.label) (rows g) c.rules (λ i h.
+      to_results (λ r. Complete c r.label) (rows g) c.rules (λ i h.
       let w = k.labelled.rules.each i h in
-      record { one = record { has = w.has }; other = λ _. record { has = w.has } })
+      record { one = w; other = λ _. w })
 
   pub results_keep : length (results g) ≤ L.rules → Keeps (becomes g)
-  results_keep few = record {
-    horizon = k.horizon;
-    some_event = k.some_event;
-    events = k.events;
-    names = k.names;
-    names_once = k.names_once;
-    few_signals = k.few_signals;
-    signals = k.signals;
-    letters_once = k.letters_once;
-    events_once = k.events_once;
-    few_rules = few;
-    rules = results_kept;
-    few_reactions = k.few_reactions;
-    reactions = k.reactions;
-    reactions_once = k.reactions_once;
-    cases_follow = k.cases_follow;
-    few_cases = k.few_cases;
-    cases = k.cases;
-    cases_once = k.cases_once;
-    labelled = record {
-      start = k.labelled.start;
-      events = record { each = λ i h. record { has = (k.labelled.events.each i h).has } };
-      rules = results_complete;
-    };
-  }
+  results_keep few = with_rules-keep Max c (results g) k few results_kept results_complete

@@ -1,47 +1,32 @@
--- A rule of a former sheet, by its row: in a case it holds, with a difference equal to its limit where the row is a
--- `fix`, exactly where the rules that result of it hold (`both`, `limits_of`). Assumes nothing.
+-- A rule of a former sheet, by its kind: in a case it holds exactly where the rule that stands for it does and, where
+-- it is a `fix`, its difference equals its limit (`as_held`, `by_held`); and so exactly where the rules that result of
+-- it hold (`both`, `limits_of`). Assumes nothing.
 use mathlib.Core.Path.{◌≡◌, refl, sym, ◌∙◌, ap, subst}
 use mathlib.Core.Logic.{◌↔◌}
 use mathlib.Core.Bool.{true}
-use mathlib.Core.List.{List, [], map}
-use Prim.Native.Nat.{ℕ, suc, ◌+◌, ◌<◌}
+use mathlib.Core.List.{List, []}
+use Prim.Native.Nat.{ℕ, ◌<◌}
 use native.Mathlib.Omega.{arith}
-use borrow.Author.Tests.{le-leb, leb-true}
-use lib.IntN.{ℤ, pos, negsuc}
-use lib.ListN.{length, get_or, drop, length-map}
-use lib.Seq.{get_or-take, get_or-drop}
+use lib.ListN.{length, get_or, length-map}
+use Rattle.prelude.proofs.Mapped.{get_d_map}
 use Rattle.network.specs.Build.{constraint}
-use Rattle.network.specs.Constraint.{at_most, at_least, admits, covers}
+use Rattle.network.specs.Constraint.{admits, covers}
 use Rattle.network.specs.Strategy.{time}
 use Rattle.network.specs.Solution.{Holds}
 use Rattle.network.specs.declared.Kind.{Kind}
 use Rattle.network.specs.declared.Kind.TheVariants.{Max, Min}
 use Rattle.network.specs.declared.Constraint.{Constraint}
 use Rattle.network.specs.declared.Network.{Network}
-use Rattle.layout.specs.Contents.{Rule, Contents, no_rule}
+use Rattle.layout.specs.Contents.{Rule, Contents, no_rule, no_rule_of}
 use Rattle.layout.specs.Contains.{Means}
-use Rattle.layout.specs.Layout.{rule_line}
 use Rattle.layout.proofs.Framed.{means_one}
-use Rattle.conversion.specs.Rows.{lines_of, is_fix_lem}
-use Rattle.conversion.specs.FormerRules.{heading_line, row_at, Equals}
-use Rattle.conversion.proofs.Sections.{front}
-use Rattle.conversion.proofs.Written.{as_min, fix_max}
+use Rattle.conversion.specs.FormerSheet.{Fix, kind_at, held_kind, held_rule}
+use Rattle.conversion.specs.FormerTables.{Equals, FormerHolds}
+use Rattle.conversion.specs.Rows.{is_fix_lem}
+use Rattle.conversion.proofs.FormerKinds.{Balanced, equals_iff, kind-held, kind_of_held}
+use Rattle.conversion.proofs.Given.{Given, now, kept, rows, row-read, row-kind}
 use Rattle.conversion.proofs.Results.{Both}
-use Rattle.conversion.proofs.Divided.{Given, heading_at, rows, row_read}
-
--- the difference equals the limit where it is at most and at least the limit
-abbrev Balanced : ℕ → ℕ → ℤ → Type 0
-Balanced a b w = (at_most a b w ≡ true) × (at_least a b w ≡ true)
-
-equals_iff : (a b : ℕ) (w : ℤ) → Equals a b w ↔ Balanced a b w
-equals_iff a b (pos w) = (
-  λ e. (le-leb b (a + w) (omega arith), le-leb (a + w) b (omega arith)),
-  λ p. omega (arith, leb-true b (a + w) p.0, leb-true (a + w) b p.1),
-)
-equals_iff a b (negsuc w) = (
-  λ e. (le-leb (b + suc w) a (omega arith), le-leb a (b + suc w) (omega arith)),
-  λ p. omega (arith, leb-true (b + suc w) a p.0, leb-true a (b + suc w) p.1),
-)
+use Rattle.conversion.proofs.Written.{as_min, fix_max}
 
 -- a constraint with the kind `min`, which covers the same cases
 abbrev least : Constraint → Constraint
@@ -53,7 +38,7 @@ covers-least Γ x s = refl
 
 module _ {sheet : List ℕ} {Γ : Network} (g : Given sheet Γ) where
   abbrev c : Contents
-  c = g.contents
+  c = now g
 
   abbrev pub rule : ℕ → Rule
   rule i = get_or c.rules i no_rule
@@ -64,18 +49,8 @@ module _ {sheet : List ℕ} {Γ : Network} (g : Given sheet Γ) where
   pub inside : (i : ℕ) → i < Γ.rules → i < length c.rules
   inside i l = omega (arith, g.holds.rules)
 
-  -- rule i stands on its row
-  pub row_is : (i : ℕ) → i < Γ.rules → row_at sheet Γ i ≡ row i
-  row_is i l =
-      let ls = lines_of sheet in
-      let n = length (front c) in
-      let at : suc (heading_line Γ) + i ≡ n + (1 + i) = omega (arith, heading_at g) in
-      ap (λ (j : ℕ). get_or ls j []) at ∙ sym (get_or-drop n ls (1 + i) []) ∙ sym (get_or-drop 1 (drop n ls) i [])
-      ∙ sym (get_or-take (length (map rule_line c.rules)) (drop 1 (drop n ls)) i []
-      (omega (arith, g.holds.rules, length-map c.rules rule_line)))
-
-  row-kind : (i : ℕ) → i < Γ.rules → is_fix_lem (row i) ≡ true → (rule i).kind ≡ Max
-  row-kind i l = fix_max (row i) (rule i) (row_read g i (inside i l))
+  read-max : (i : ℕ) → i < Γ.rules → is_fix_lem (row i) ≡ true → (rule i).kind ≡ Max
+  read-max i l = fix_max (row i) (rule i) (row-read g i (inside i l))
 
   pub means : (i : ℕ) (l : i < Γ.rules) → Means c.names c.signals (constraint Γ i) (rule i)
   means i l = g.holds.means i (inside i l)
@@ -91,7 +66,7 @@ module _ {sheet : List ℕ} {Γ : Network} (g : Given sheet Γ) where
     Hold x = (e : Constraint) → Means c.names c.signals e x → Holds Γ σ s e
 
     pub hold : (e : Constraint) (x : Rule) → Means c.names c.signals e x → Holds Γ σ s e → Hold x
-    hold e x m w f n = subst (Holds Γ σ s) (means_one g.keeps.names_once m n) w
+    hold e x m w f n = subst (Holds Γ σ s) (means_one (kept g).names_once m n) w
 
     -- the times of the ends of constraint i
     abbrev from : ℕ → ℕ
@@ -106,6 +81,32 @@ module _ {sheet : List ℕ} {Γ : Network} (g : Given sheet Γ) where
     -- its difference equals its limit, where it covers s
     abbrev limits : ℕ → Type 0
     limits i = covers Γ (constraint Γ i) s ≡ true → Equals (from i) (to i) (constraint Γ i).bound
+
+    -- the kind of the constraint that holds rule i
+    constraint-kind : (i : ℕ) → i < Γ.rules → (constraint Γ i).kind ≡ held_kind (kind_at g.contents i)
+    constraint-kind i l =
+        let xs = g.contents.rules in
+        (means i l).kind
+        ∙ ap (λ (x : Rule). x.kind) (get_d_map held_rule (no_rule_of Fix) no_rule xs i
+        (omega (arith, inside i l, length-map xs held_rule)))
+
+    pub as_held : (i : ℕ) → i < Γ.rules → FormerHolds g.contents Γ σ s i
+        → Holds Γ σ s (constraint Γ i) × (is_fix_lem (row i) ≡ true → limits i)
+    as_held i l h =
+        let k = kind_at g.contents i in
+        let w = (constraint Γ i).bound in (
+          record {
+            holds = λ v. rw (constraint-kind i l) (kind-held k (from i) (to i) w (h v)).0;
+          },
+          λ q v. (kind-held k (from i) (to i) w (h v)).1 (sym (row-kind g i (inside i l)) ∙ q),
+        )
+
+    pub by_held : (i : ℕ) → i < Γ.rules → Holds Γ σ s (constraint Γ i) → (is_fix_lem (row i) ≡ true → limits i)
+        → FormerHolds g.contents Γ σ s i
+    by_held i l h e v =
+        let w = (constraint Γ i).bound in
+        kind_of_held (kind_at g.contents i) (from i) (to i) w (rw (constraint-kind i l) at (h.holds v))
+        (λ q. e (row-kind g i (inside i l) ∙ q) v)
 
     pub both : (i : ℕ) → i < Γ.rules → Holds Γ σ s (constraint Γ i) → (is_fix_lem (row i) ≡ true → limits i)
         → Both Hold (row i) (rule i)
@@ -123,7 +124,7 @@ module _ {sheet : List ℕ} {Γ : Network} (g : Given sheet Γ) where
     limits_of i l w q v =
         let e = constraint Γ i in
         let most =
-        subst (λ (k : Kind). admits k (from i) (to i) e.bound ≡ true) ((means i l).kind ∙ row-kind i l q)
+        subst (λ (k : Kind). admits k (from i) (to i) e.bound ≡ true) ((means i l).kind ∙ read-max i l q)
         ((w.one e (means i l)).holds v) in
         let least-holds = (w.other q (least e) (means-least i l)).holds (covers-least Γ e s ∙ v) in
         (equals i).1 (most, least-holds)

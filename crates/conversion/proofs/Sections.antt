@@ -1,5 +1,5 @@
--- The text of contents by its lines: those in front of the heading of the rules, the heading, the rules, and what
--- stands behind them. Assumes nothing.
+-- The text of contents by its lines, whatever kinds its rules have: those in front of the heading of the rules, the
+-- heading, the rules, and what stands behind them. Assumes nothing.
 use mathlib.Core.Path.{◌≡◌, refl, sym, ◌∙◌, ap, ap₂}
 use mathlib.Core.Option.{Option, none, some}
 use mathlib.Core.List.{List, [], ◌∷◌, ◌++◌, append_assoc, map}
@@ -10,9 +10,9 @@ use lib.ListN.{length, length-append, length-map}
 use Rattle.prelude.specs.Bytes.{ascii}
 use Rattle.text.specs.Decimal.{decimal}
 use Rattle.text.specs.Lines.{line}
-use Rattle.layout.specs.Contents.{Reaction, Case, Contents}
-use Rattle.layout.specs.Layout.{lines, section, signal_line, rule_line, reaction_line, reactions_text}
-use Rattle.layout.specs.Layout.{case_line, cases_text, text_of}
+use Rattle.layout.specs.Contents.{Reaction, Case, ContentsOf}
+use Rattle.layout.specs.Layout.{lines, section, signal_line, rule_line_by, reaction_line, reactions_text}
+use Rattle.layout.specs.Layout.{case_line, cases_text, text_by}
 use Rattle.conversion.specs.Converted.{heading}
 
 pub lines-append : (ls ms : List (List ℕ)) → lines (ls ++ ms) ≡ lines ls ++ lines ms
@@ -39,7 +39,7 @@ cases-lines : (o : Option (List Case)) → lines (case_lines o) ≡ cases_text o
 cases-lines none = refl
 cases-lines (some ks) = refl
 
-module _ (c : Contents) where
+module _ {K : Type 0} (c : ContentsOf K) where
   -- in front of the rules, and behind them
   abbrev pub front : List (List ℕ)
   front =
@@ -71,12 +71,13 @@ lines-joined f n r b =
     ∙ sym (append_assoc (lines f) (heading n) (lines r ++ lines b))
     ∙ sym (append_assoc (lines f ++ heading n) (lines r) (lines b))
 
-pub text-joined : (c : Contents) → text_of c ≡ joined (front c) (length c.rules) (map rule_line c.rules) (rear c)
-text-joined c =
+pub text-joined : {K : Type 0} (word : K → List ℕ) (c : ContentsOf K)
+    → text_by word c ≡ joined (front c) (length c.rules) (map (rule_line_by word) c.rules) (rear c)
+text-joined word c =
     let h = line (ascii "horizon") (decimal c.horizon ∷ []) in
     let es = headed "events" (map (λ n. line n []) c.names) in
     let ss = headed "signals" (map signal_line c.signals) in
-    let rules = map rule_line c.rules in
+    let rules = map (rule_line_by word) c.rules in
     let before : h ++ lines es ++ lines ss ≡ lines (front c) =
     append_assoc h (lines es) (lines ss) ∙ sym (ap (λ (t : List ℕ). h ++ t) (lines-append es ss)) in
     let after : lines (rear c) ≡ reactions_text c.reactions ++ cases_text c.cases =
@@ -86,4 +87,4 @@ text-joined c =
     ∙ ap₂ (λ (x y : List ℕ). x ++ section "rules" rules ++ y) before (sym after)
     ∙ ap (λ (t : List ℕ). t ++ lines (rear c))
     (sym (append_assoc (lines (front c)) (heading (length rules)) (lines rules)))
-    ∙ ap (λ (n : ℕ). joined (front c) n rules (rear c)) (length-map c.rules rule_line)
+    ∙ ap (λ (n : ℕ). joined (front c) n rules (rear c)) (length-map c.rules (rule_line_by word))

@@ -7,20 +7,17 @@ use native.Mathlib.Omega.{arith}
 use lib.ListN.{length}
 use Rattle.network.specs.declared.Network.{Network}
 use Rattle.layout.specs.Contents.{Rule, Contents}
-use Rattle.layout.specs.Layout.{lines, text_of}
+use Rattle.layout.specs.Layout.{lines, kind_text, text_of}
+use Rattle.conversion.specs.FormerSheet.{with_rules}
 use Rattle.conversion.specs.Converted.{resulting, converted, heading}
 use Rattle.conversion.proofs.Sections.{front, rear, text-joined}
 use Rattle.conversion.proofs.Expanded.{expanded, rows-doubled, length_expanded}
-use Rattle.conversion.proofs.Divided.{Given, rows, rows_are, fixes-are, length-rows}
+use Rattle.conversion.proofs.Given.{Given, now, rows, rows_are, fixes-are, length-rows}
 use Rattle.conversion.proofs.Bytes.{converted_joined}
-
--- the contents with other rules
-abbrev pub with_rules : Contents → List Rule → Contents
-with_rules c xs = record c { rules = xs }
 
 module _ {sheet : List ℕ} {Γ : Network} (g : Given sheet Γ) where
   abbrev c : Contents
-  c = g.contents
+  c = now g
 
   -- the rules that result, and the contents with these
   abbrev pub results : List Rule
@@ -38,4 +35,4 @@ module _ {sheet : List ℕ} {Γ : Network} (g : Given sheet Γ) where
       converted_joined g
       ∙ ap₂ (λ (n : ℕ) (t : List ℕ). lines (front c) ++ heading n ++ t ++ lines (rear c)) (sym length_results)
       (rows-doubled (rows g) c.rules (rows_are g))
-      ∙ sym (text-joined becomes)
+      ∙ sym (text-joined kind_text becomes)

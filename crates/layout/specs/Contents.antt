@@ -1,4 +1,5 @@
--- What a sheet contains (01, The sheet; 02, points 3 and 6), and nothing of how it is written or read.
+-- What a sheet contains (01, The sheet; 02, points 3 and 6), and nothing of how it is written or read. It is told once
+-- for whatever kinds K of rules there are, and then for today's.
 use Rattle.std.specs.Prelude.{false, List, [], map, ℕ, ℤ, pos}
 use Rattle.std.proofs.Math.Option.{Option, get_or}
 use Rattle.network.specs.declared.Kind.{Kind}
@@ -10,8 +11,8 @@ pub record Signal : Type 0 where
   pub letter : ℕ
   pub event : List ℕ
 
-pub record Rule : Type 0 where
-  pub kind : Kind
+pub record RuleOf (K : Type 0) : Type 0 where
+  pub kind : K
   pub from : List ℕ
   pub to : List ℕ
   pub limit : ℤ
@@ -27,19 +28,25 @@ pub record Case : Type 0 where
   pub label : List Literal
 
 -- the section of reactions "may follow the rules", and that of cases "may follow `reactions`"
-pub record Contents : Type 0 where
+pub record ContentsOf (K : Type 0) : Type 0 where
   pub horizon : ℕ
   pub names : List (List ℕ)
   pub signals : List Signal
-  pub rules : List Rule
+  pub rules : List (RuleOf K)
   pub reactions : Option (List Reaction)
   pub cases : Option (List Case)
 
+abbrev pub Rule : Type 0
+Rule = RuleOf Kind
+
+abbrev pub Contents : Type 0
+Contents = ContentsOf Kind
+
 -- the reactions and the cases that are listed: none where the section is absent
-abbrev pub listed_reactions : Contents → List Reaction
+abbrev pub listed_reactions : {K : Type 0} → ContentsOf K → List Reaction
 listed_reactions c = get_or c.reactions []
 
-abbrev pub listed_cases : Contents → List Case
+abbrev pub listed_cases : {K : Type 0} → ContentsOf K → List Case
 listed_cases c = get_or c.cases []
 
 -- the letters and the events of signals, the letters of reactions, the events of cases
@@ -59,8 +66,11 @@ case_events ks = map (λ k. k.event) ks
 abbrev pub no_signal : Signal
 no_signal = record { letter = 0; event = [] }
 
+abbrev pub no_rule_of : {K : Type 0} → K → RuleOf K
+no_rule_of k = record { kind = k; from = []; to = []; limit = pos 0; label = [] }
+
 abbrev pub no_rule : Rule
-no_rule = record { kind = Max; from = []; to = []; limit = pos 0; label = [] }
+no_rule = no_rule_of Max
 
 abbrev pub no_reaction : Reaction
 no_reaction = record { letter = 0; minutes = 0 }

@@ -5,11 +5,13 @@ use Rattle.std.proofs.Math.Option.{none}
 use Rattle.prelude.specs.Lists.{In, Distinct, Each}
 use Rattle.network.specs.Limits as L
 use Rattle.network.specs.WellFormed.{InLimits}
+use Rattle.network.specs.declared.Kind.TheVariants.{Max}
 use Rattle.names.specs.Names.{is_letter_lem, is_name_lem, Literal, letters_of}
-use Rattle.layout.specs.Contents.{Signal, Rule, Reaction, Case, Contents, no_signal, no_rule, no_reaction, no_case}
+use Rattle.layout.specs.Contents.{Signal, RuleOf, Reaction, Case, ContentsOf, Contents}
+use Rattle.layout.specs.Contents.{no_signal, no_rule_of, no_reaction, no_case}
 use Rattle.layout.specs.Contents.{signal_letters, signal_events, reaction_letters, case_events}
 use Rattle.layout.specs.Contents.{listed_reactions, listed_cases}
-use Rattle.layout.specs.Labelled.{Labelled}
+use Rattle.layout.specs.Labelled.{LabelledOf}
 
 pub record KeepsSignal (names : List (List ℕ)) (x : Signal) : Type 0 where
   pub letter : is_letter_lem x.letter ≡ true
@@ -20,7 +22,7 @@ pub record KeepsLabel (letters : List ℕ) (ls : List Literal) : Type 0 where
   pub known : Each (λ b. In b letters 0) (letters_of ls) 0
   pub once : Distinct (letters_of ls) 0
 
-pub record KeepsRule (names : List (List ℕ)) (letters : List ℕ) (x : Rule) : Type 0 where
+pub record KeepsRule {K : Type 0} (names : List (List ℕ)) (letters : List ℕ) (x : RuleOf K) : Type 0 where
   pub from : In x.from names []
   pub to : In x.to names []
   pub limit : InLimits x.limit
@@ -36,7 +38,8 @@ pub record KeepsCase (names : List (List ℕ)) (letters : List ℕ) (k : Case) :
   pub event : In k.event names []
   pub label : KeepsLabel letters k.label
 
-pub record Keeps (c : Contents) : Type 0 where
+-- of contents with kinds like k; whichever kind a rule has, the rest of it keeps the same
+pub record KeepsOf {K : Type 0} (k : K) (c : ContentsOf K) : Type 0 where
   pub horizon : c.horizon ≤ L.horizon
   pub some_event : 1 ≤ length c.names
   pub events : length c.names ≤ L.events
@@ -47,7 +50,7 @@ pub record Keeps (c : Contents) : Type 0 where
   pub letters_once : Distinct (signal_letters c.signals) 0
   pub events_once : Distinct (signal_events c.signals) []
   pub few_rules : length c.rules ≤ L.rules
-  pub rules : Each (KeepsRule c.names (signal_letters c.signals)) c.rules no_rule
+  pub rules : Each (KeepsRule c.names (signal_letters c.signals)) c.rules (no_rule_of k)
   -- "r from 0 to 4"
   pub few_reactions : length (listed_reactions c) ≤ L.signals
   pub reactions : Each (KeepsReaction (signal_letters c.signals)) (listed_reactions c) no_reaction
@@ -59,4 +62,7 @@ pub record Keeps (c : Contents) : Type 0 where
   pub cases : Each (KeepsCase c.names (signal_letters c.signals)) (listed_cases c) no_case
   -- "an event's second line is refused with 7"
   pub cases_once : Distinct (case_events (listed_cases c)) []
-  pub labelled : Labelled c
+  pub labelled : LabelledOf k c
+
+abbrev pub Keeps : Contents → Type 0
+Keeps = KeepsOf Max

@@ -128,11 +128,14 @@ module _ (sheet : List ℕ) (Γ : Network) where
       ∷ (distinct (letters_of (label_of label)), C.RepeatedLetter)
       ∷ []
 
-  -- `kind,from,to,limit,label`
-  unfoldable pub rule_tests : List (List ℕ) → Tests
-  rule_tests fs =
+  -- `kind,from,to,limit,label`, where the kind has these tests
+  abbrev pub rule_tests_by : (List ℕ → Tests) → List (List ℕ) → Tests
+  rule_tests_by kinds fs =
       (eqb (length fs) 5, C.WrongFields)
-      ∷ (kind_tests (field 0 fs) ++ (limit_tests (field 3 fs) ++ ends_tests (field 1 fs) (field 2 fs) (field 4 fs)))
+      ∷ (kinds (field 0 fs) ++ (limit_tests (field 3 fs) ++ ends_tests (field 1 fs) (field 2 fs) (field 4 fs)))
+
+  unfoldable pub rule_tests : List (List ℕ) → Tests
+  rule_tests fs = rule_tests_by kind_tests fs
 
 module _ (Γ : Network) where
   -- the letters of a label

@@ -10,12 +10,16 @@ use Rattle.line.specs.Tests.{Tests}
 use Rattle.sheet.specs.Reading.{longest}
 use Rattle.sheet.specs.Place.{tests}
 
--- each line above passes all its tests; of the line's own, the one that names the cause fails, and those before it hold
-pub record FirstFault (sheet : List ℕ) (r : Refusal) : Type 0 where
+-- where the lines have these tests: each line above passes all of its own; of the line's, the one that names the cause
+-- fails, and those before it hold
+pub record FirstFaultBy (tests_of : ℕ → Tests) (r : Refusal) : Type 0 where
   pub above : ℕ
   pub line : r.line ≡ suc above
-  pub pass : (j : ℕ) → j < above → Hold (tests sheet j)
-  pub fault : FirstFails (tests sheet above) r.cause
+  pub pass : (j : ℕ) → j < above → Hold (tests_of j)
+  pub fault : FirstFails (tests_of above) r.cause
+
+abbrev pub FirstFault : List ℕ → Refusal → Type 0
+FirstFault sheet r = FirstFaultBy (tests sheet) r
 
 -- one of the tests fails and names c; of all these the cause of the first fault has the lowest turn (`fault-lowest`)
 abbrev pub Fails : Tests → Cause → Type 0
@@ -23,5 +27,9 @@ Fails [] c = ⊥
 Fails (t ∷ ts) c = ((t.0 ≡ false) × (t.1 ≡ c)) ⊎ Fails ts c
 
 -- "The sheet is longer than 4,096 bytes", of which no line is to blame; or the first line at fault
+abbrev pub FaultBy : (ℕ → Tests) → List ℕ → Refusal → Type 0
+FaultBy tests_of sheet r =
+    ((longest < length sheet) × (r ≡ refusal TooLong 0)) ⊎ ((length sheet ≤ longest) × FirstFaultBy tests_of r)
+
 abbrev pub Fault : List ℕ → Refusal → Type 0
-Fault sheet r = ((longest < length sheet) × (r ≡ refusal TooLong 0)) ⊎ ((length sheet ≤ longest) × FirstFault sheet r)
+Fault sheet r = FaultBy (tests sheet) sheet r
