@@ -8,6 +8,7 @@ ghost use Rattle.sheet.specs.Stage.{Stage, whole};
 ghost use Rattle.sheet.specs.Turn.{Room, Testable, tests_behind};
 
 use line::entry::Entry;
+use line::heading::Word;
 use line::{Section, entry, heading, whole};
 use names::lookup::Defined;
 use network::Network;
@@ -82,7 +83,7 @@ pub(crate) fn read_horizon(sheet: &[u8]) -> Result<Reached, Refusal>
 {
     let line = on_line(
         1,
-        heading::section_line(sheet, b"horizon", 0, Network::HORIZON),
+        heading::section_line(sheet, Word::Horizon, 0, Network::HORIZON),
     )?;
     Ok(Reached {
         network: Network::empty(line.count),
