@@ -1,6 +1,6 @@
 -- Laws of a rule's refusal, test by test, as its reader tries them: its kind and its limit, then its ends and its
 -- label. Assumes nothing.
-use mathlib.Core.Path.{◌≡◌, ◌∙◌, ap}
+use mathlib.Core.Path.{◌≡◌, ◌∙◌}
 use mathlib.Core.Bool.{true, false, ◌&&◌}
 use mathlib.Core.Option.{none, some}
 use Rattle.std.proofs.Math.Option
@@ -12,11 +12,10 @@ use mir.Val.{to_z, of_z}
 use mir.ValLaws.{to_z-of_z}
 use lib.IntN.{ℤ}
 use lib.ListN.{length}
-use Rattle.prelude.specs.Bytes.{ascii, same}
+use Rattle.prelude.specs.Bytes.{ascii}
 use Rattle.prelude.specs.Checks.{first_failing_lem}
-use Rattle.prelude.proofs.Bytes.{same_true}
-use Rattle.prelude.proofs.Tests.{false_of_not-true}
 use Rattle.text.specs.Lines.{field}
+use Rattle.text.proofs.Lines.{same_length}
 use Rattle.text.specs.Number.{magnitude, value_of}
 use Rattle.refusal.specs.declared.Cause.{Cause}
 use Rattle.refusal.specs.declared.Cause.TheVariants as C
@@ -33,18 +32,15 @@ use Rattle.line.proofs.Checks.{all_hold, fails_before, fails_behind}
 use Rattle.line.proofs.Numbers.{value-fits}
 
 -- a kind has three letters, also the one that is retired
-other-length : (f g : List ℕ) → (length f ≡ length g → ⊥) → same f g ≡ false
-other-length f g n = false_of_not-true (same f g) (λ e. n (ap length (same_true f g e)))
-
 pub no_kind : (f : List ℕ) → (length f ≡ 3 → ⊥) → first_failing_lem (kind_tests f) ≡ some C.WrongFields
 unfolding kind_tests
 no_kind f n =
     rw (
       kind_of,
       is_retired,
-      other-length f (ascii "max") n,
-      other-length f (ascii "min") n,
-      other-length f (ascii "fix") n,
+      same_length f (ascii "max") n,
+      same_length f (ascii "min") n,
+      same_length f (ascii "fix") n,
     )
 
 -- a limit that passed fits an i32

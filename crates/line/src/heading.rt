@@ -1,7 +1,9 @@
 // The line that a section begins with: by its fields, and at the start of what remains of the sheet.
-ghost use Rattle.std.specs.Prelude.{◌≡◌, ◌≤◌};
+ghost use Rattle.std.specs.Prelude.{◌≡◌, ◌≢◌, ◌≤◌, MatchOption};
+ghost use Rattle.prelude.specs.Bytes.{ascii};
 ghost use Rattle.network.specs.Limits as L;
-ghost use Rattle.line.specs.Sections.{heading_of_lem};
+ghost use Rattle.line.specs.Sections.{heading_of_lem, spelled};
+ghost use Rattle.line.specs.declared.heading.Word.{Word};
 ghost use Rattle.line.specs.Answers.{section_by, section_at, heading_at};
 
 use super::Section;
@@ -9,6 +11,29 @@ use crate::field;
 use network::Network;
 use refusal::Cause;
 use text::split::Fields;
+
+// The words of the sections, the horizon's included.
+#[derive(Clone, Copy, PartialEq, Eq)]
+pub enum Word {
+    Horizon,
+    Section(Section),
+}
+
+// The word that a field is.
+#[tactic(auto, using(crate::proofs::Words::no_word))]
+fn word_of(f: &[u8]) -> Option<Word>
+    ensures { MatchOption result ((w : Word) → f.now ≢ ascii (spelled w)) (λ w. f.now ≡ ascii (spelled w)) }
+{
+    match f {
+        b"horizon" => Some(Word::Horizon),
+        b"events" => Some(Word::Section(Section::Events)),
+        b"signals" => Some(Word::Section(Section::Signals)),
+        b"rules" => Some(Word::Section(Section::Rules)),
+        b"reactions" => Some(Word::Section(Section::Reactions)),
+        b"cases" => Some(Word::Section(Section::Cases)),
+        _ => None,
+    }
+}
 
 // What such a line says: its count, and how long it is without its line feed. (A type beside Line: one with a parameter
 // for what it says would name neither an entry nor a count.)
@@ -20,19 +45,19 @@ pub struct CountLine {
 
 // The count of a section, from lo to hi, on a line with its word. (Word and limits are three parameters: a struct for
 // them would be made at each call and opened at once.)
-fn section_fields(line: &[u8], word: &[u8], lo: u16, hi: u16) -> Result<u16, Cause>
-    ensures { result ≡ section_by line.now word.now lo hi }
+fn section_fields(line: &[u8], word: Word, lo: u16, hi: u16) -> Result<u16, Cause>
+    ensures { result ≡ section_by line.now (ascii (spelled word)) lo hi }
 {
     let fields = Fields::<2>::of(line).ok_or(Cause::WrongFields)?;
-    if fields.at(0) != word {
+    if word_of(fields.at(0)) != Some(word) {
         return Err(Cause::WrongFields);
     }
     field::count_of(fields.at(1), lo, hi)
 }
 
 // The line of a section that begins here.
-pub fn section_line(rest: &[u8], word: &[u8], lo: u16, hi: u16) -> Result<CountLine, Cause>
-    ensures { result ≡ section_at rest.now word.now lo hi }
+pub fn section_line(rest: &[u8], word: Word, lo: u16, hi: u16) -> Result<CountLine, Cause>
+    ensures { result ≡ section_at rest.now (ascii (spelled word)) lo hi }
 {
     let line = field::line_of(rest)?;
     let count = section_fields(line, word, lo, hi)?;
@@ -48,11 +73,11 @@ pub fn heading_of(section: Section, n: usize, rest: &[u8]) -> Result<CountLine, 
     requires { n ≤ L.events }
     ensures { result ≡ heading_at rest.now (heading_of_lem n section) }
 {
-    match section {
-        Section::Events => section_line(rest, b"events", 1, Network::EVENTS as u16),
-        Section::Signals => section_line(rest, b"signals", 0, Network::SIGNALS as u16),
-        Section::Rules => section_line(rest, b"rules", 0, Network::RULES as u16),
-        Section::Reactions => section_line(rest, b"reactions", 0, Network::SIGNALS as u16),
-        Section::Cases => section_line(rest, b"cases", 0, n as u16),
-    }
+    let (least, most) = match section {
+        Section::Events => (1, Network::EVENTS),
+        Section::Signals | Section::Reactions => (0, Network::SIGNALS),
+        Section::Rules => (0, Network::RULES),
+        Section::Cases => (0, n),
+    };
+    section_line(rest, Word::Section(section), least, most as u16)
 }

@@ -66,9 +66,7 @@ module _ {sheet : List ℕ} {s : Section} {p : Progress} where
             (stage_keeps sheet s m Γ at k w.stage (passes sheet at k (tests_of sheet s m Γ) passed));
       }
 
-  pub reads_end : {left : ℕ} {Γ : Network} {at k : ℕ} → EntriesLeft sheet s p left Γ at k → left ≤ 0 → Go Γ at k ≡ p
-  reads_end {left} {Γ} {at} {k} w h = none_left left w.rest h
-    where
-      none_left : (left : ℕ) → read_entries_lem sheet s left Γ at k ≡ p → left ≤ 0 → Go Γ at k ≡ p
-      none_left zero e h = e
-      none_left (suc m) e h = absurd (omega arith)
+  pub reads_end : (left : ℕ) (Γ : Network) (at k : ℕ) → EntriesLeft sheet s p left Γ at k → left ≤ 0
+      → (p ≡ Go Γ at k) × Before sheet s 0 Γ at k
+  reads_end zero Γ at k w h = (sym w.rest, w.stage)
+  reads_end (suc m) Γ at k w h = absurd (omega arith)

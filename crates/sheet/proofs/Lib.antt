@@ -1,6 +1,8 @@
--- Laws of the sheet's definitions, in reading order: a line's tests, and the reading by lines and sections;
--- what each line keeps; the lines of a section; the whole sheet; its first line at fault; and examples.
+-- Laws of the sheet's definitions, in reading order: a line's tests; what is left of the sheet behind a line; the
+-- reading by lines and sections; what each line keeps; the lines of a section; the whole sheet; its first line at
+-- fault; and examples.
 pub mod Passing
+pub mod Left
 pub mod ReadLine
 pub mod Whole
 pub mod Arrays

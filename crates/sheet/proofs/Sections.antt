@@ -43,9 +43,9 @@ module _ (sheet : List ℕ) (at k : ℕ) (h : Heading) (rest : List ℕ) (is : r
       pub ends : ends_at sheet at ≡ true
       pub least : h.least ≤ m
       pub most : m ≤ h.most
-      pub inside : at + n + 1 ≤ length sheet
+      pub inside : at + (n + 1) ≤ length sheet
       pub count : second_number (fields (line_at sheet at)) ≡ m
-      pub after : after_line sheet at ≡ at + n + 1
+      pub after : after_line sheet at ≡ at + (n + 1)
       pub goes_on : read_line sheet at k (heading_tests h) next ≡ next (fields (line_at sheet at))
 
     pub section-read : (l : CountLine) → heading_at rest h ≡ Ok l → SectionRead l.count l.length
@@ -57,7 +57,7 @@ module _ (sheet : List ℕ) (at k : ℕ) (h : Heading) (rest : List ℕ) (is : r
         let c = counted h (fields (line_at sheet at)) pass.accepted in
         let count = ap (λ (l : CountLine). l.count) w.1 in
         let size = ap (λ (l : CountLine). l.length) w.1 in
-        let after : after_line sheet at ≡ at + n + 1 = omega arith in
+        let after : after_line sheet at ≡ at + (n + 1) = omega arith in
         record {
           ends = pass.ends;
           least = omega (arith, c.least);
@@ -75,9 +75,9 @@ module _ (sheet : List ℕ) (s : Section) (at k : ℕ) (rest : List ℕ) (is : r
 
   -- its line passes, with count m and of length n, and then m lines are read
   pub record SectionGoes (m n : ℕ) : Type 0 where
-    pub inside : at + n + 1 ≤ length sheet
-    pub goes : read_entries_lem sheet s m Γ (at + n + 1) (k + 1) ≡ read_section_lem sheet s Γ at k
-    pub stage : Stage sheet (whole s) Γ at k → Stage sheet (to_come s m) Γ (at + n + 1) (k + 1)
+    pub inside : at + (n + 1) ≤ length sheet
+    pub goes : read_entries_lem sheet s m Γ (at + (n + 1)) (k + 1) ≡ read_section_lem sheet s Γ at k
+    pub stage : Stage sheet (whole s) Γ at k → Stage sheet (to_come s m) Γ (at + (n + 1)) (k + 1)
 
   pub section_goes : (l : CountLine) → heading_at rest (heading_of_lem Γ.events s) ≡ Ok l
       → SectionGoes l.count l.length

@@ -8,6 +8,7 @@ ghost use Rattle.sheet.specs.Stage.{Stage, whole};
 ghost use Rattle.sheet.specs.Turn.{Room, Testable, tests_behind};
 
 use line::entry::Entry;
+use line::heading::Word;
 use line::{Section, entry, heading, whole};
 use names::lookup::Defined;
 use network::Network;
@@ -82,7 +83,7 @@ pub(crate) fn read_horizon(sheet: &[u8]) -> Result<Reached, Refusal>
 {
     let line = on_line(
         1,
-        heading::section_line(sheet, b"horizon", 0, Network::HORIZON),
+        heading::section_line(sheet, Word::Horizon, 0, Network::HORIZON),
     )?;
     Ok(Reached {
         network: Network::empty(line.count),
@@ -91,8 +92,8 @@ pub(crate) fn read_horizon(sheet: &[u8]) -> Result<Reached, Refusal>
     })
 }
 
-// A sheet that is short enough to be read. A section's reader gets what is left of it, from the section's line on, and
-// the whole, of which the names of events are parts.
+// A sheet that is short enough to be read. A section's line and the lines behind it are read from what is left of it,
+// which begins at the place that is reached; the whole is there for the names of events, which are parts of it.
 #[derive(Clone, Copy)]
 pub(crate) struct Reader<'a> {
     pub sheet: &'a [u8],
@@ -103,15 +104,17 @@ impl Reader<'_> {
     ghost use Rattle.sheet.specs.Reading.{read_entries_lem, read_section_lem, read_optional_lem};
     ghost use Rattle.sheet.specs.Stage.{MayBeAbsent, to_come};
 
-    // So many lines of a section. They are counted, since where the next one begins is known only once a line is read.
+    // So many lines of a section, from what is left of the sheet. They are counted, since where the next one begins is
+    // known only once a line is read.
     fn read_entries(
         &self,
         section: Section,
+        mut left: &[u8],
         reached: &mut Reached,
         count: usize,
     ) -> Result<(), Refusal>
-        requires { Stage self.now.sheet.now (to_come section count) reached.old.network reached.old.at
-            reached.old.line }
+        requires { (left.now ≡ drop reached.old.at self.now.sheet.now)
+            × Stage self.now.sheet.now (to_come section count) reached.old.network reached.old.at reached.old.line }
         ensures { MatchResult result
             (λ _. (read_entries_lem self.now.sheet.now section count reached.old.network reached.old.at
             reached.old.line ≡ Ok reached.new)
@@ -120,22 +123,20 @@ impl Reader<'_> {
             reached.old.line ≡ Err r) }
     {
         for done in 0..count {
-            let place = reached.at;
             let number = reached.line;
             let defined = Defined {
                 sheet: self.sheet,
                 network: &reached.network,
             };
-            let line = on_line(
-                number,
-                entry::entry_at(section, &self.sheet[place..], &defined),
-            )?;
-            add(&mut reached.network, line.entry, place, line.length);
+            let line = on_line(number, entry::entry_at(section, left, &defined))?;
+            add(&mut reached.network, line.entry, reached.at, line.length);
             let last = done + 1 == count;
             if last {
                 on_line(number, test_behind(line.entry, &reached.network))?;
             }
-            reached.at = place + line.length + 1;
+            let taken = line.length + 1;
+            left = &left[taken..];
+            reached.at += taken;
             reached.line = number + 1;
         }
         Ok(())
@@ -155,9 +156,15 @@ impl Reader<'_> {
     {
         let read = heading::heading_of(section, reached.network.events, left);
         let line = on_line(reached.line, read)?;
-        reached.at += line.length + 1;
+        let taken = line.length + 1;
+        reached.at += taken;
         reached.line += 1;
-        self.read_entries(section, &mut reached, usize::from(line.count))?;
+        self.read_entries(
+            section,
+            &left[taken..],
+            &mut reached,
+            usize::from(line.count),
+        )?;
         Ok(reached)
     }
 

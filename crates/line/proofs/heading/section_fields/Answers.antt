@@ -3,10 +3,11 @@ use mathlib.Core.Path.{◌≡◌, sym, ◌∙◌, ap}
 use mathlib.Core.Bool.{not}
 use borrow.Author.Tests.{not-true, not-false}
 use lib.ListN.{length}
-use Rattle.prelude.specs.Bytes.{same}
-use Rattle.prelude.proofs.Bytes.{equal_is}
+use Rattle.prelude.specs.Bytes.{ascii, same}
 use Rattle.text.specs.Lines.{fields}
 use Rattle.refusal.specs.declared.Cause.TheVariants as C
+use Rattle.line.specs.Sections.{spelled}
+use Rattle.line.proofs.Words.{is-word}
 use Rattle.line.proofs.Refusals.{exits-none, word_count, word-other, word-passes}
 use Rattle.line.proofs.heading.section_fields.Goals.{In_ok-fields}
 use Rattle.line.proofs.heading.section_fields.Goals as goal
@@ -23,25 +24,28 @@ returns-in_err-fields c =
     let args = c.args in
     let none = exits-none c.from_residual.result c.in_err-fields.field-0.0 C.WrongFields c.of.result
     c.from_residual.ensures.1 c.in_err-fields.ensures.value in
-    none.1 ∙ sym (rw (word_count args.word.now args.lo args.hi (fields args.line.now) (rw none.0 at c.of.ensures)))
+    none.1 ∙ sym (rw (word_count (ascii (spelled args.word)) args.lo args.hi (fields args.line.now) (rw none.0 at c.of.ensures)))
 
 pub returns-then-ne : goal.returns-then-ne
 returns-then-ne c =
     let args = c.args in
     let d = (goal.at.returns-then-ne c).In_ok-fields in
-    let differs = not-true (same c.at.result.now args.word.now)
-    (ap not (sym (equal_is c.at.result.now args.word.now)) ∙ sym c.ne.ensures ∙ c.if-ne.true) in
-    sym (rw (word-other args.word.now args.lo args.hi (fields args.line.now)
-    (rw (c.at.ensures.is, line_is d) at differs)))
+    let f = c.at.result.now in
+    let word = ascii (spelled args.word) in
+    let differs = not-true (same f word)
+    (ap not (sym (is-word f c.word_of.result c.word_of.ensures args.word)) ∙ sym c.ne.ensures ∙ c.if-ne.true) in
+    sym (rw (word-other word args.lo args.hi (fields args.line.now) (rw (c.at.ensures.is, line_is d) at differs)))
 
 pub returns : goal.returns
 returns c =
     let args = c.args in
     let d = (goal.at.returns c).In_ok-fields in
-    let equal = not-false (same c.at.result.now args.word.now)
-    (ap not (sym (equal_is c.at.result.now args.word.now)) ∙ sym c.ne.ensures ∙ c.if-ne.false) in
+    let f = c.at.result.now in
+    let word = ascii (spelled args.word) in
+    let equal = not-false (same f word)
+    (ap not (sym (is-word f c.word_of.result c.word_of.ensures args.word)) ∙ sym c.ne.ensures ∙ c.if-ne.false) in
     rw (
-      word-passes args.word.now args.lo args.hi (fields args.line.now) (two d)
+      word-passes word args.lo args.hi (fields args.line.now) (two d)
           (rw (c.at.ensures.is, line_is d) at equal),
       ← line_is d,
       ← c.at-2.ensures.is,

@@ -1,5 +1,7 @@
--- The invariant: the lines that are left give what all of them give, and the sheet is at its stage (`EntriesLeft`).
--- Assumes nothing.
+-- The invariant: what is left of the sheet begins at the place that is reached; the lines that are left give what all of
+-- them give, and the sheet is at its stage (`EntriesLeft`). Assumes nothing.
+use mathlib.Core.Path.{◌≡◌}
+use lib.ListN.{drop}
 use Prim.Native.Nat.{◌-◌}
 use Rattle.sheet.specs.Reading.{read_entries_lem}
 use Rattle.sheet.proofs.EntriesLeft.{EntriesLeft}
@@ -9,5 +11,5 @@ abbrev pub invariant-loop-done : goal.invariant-loop-done
 invariant-loop-done l =
     let first = l.initial.reached in
     let sheet = l.self.sheet.now in
-    EntriesLeft sheet l.section (read_entries_lem sheet l.section l.count first.network first.at first.line)
+    (l.left ≡ drop l.reached.at sheet) × EntriesLeft sheet l.section (read_entries_lem sheet l.section l.count first.network first.at first.line)
     (l.count - l.done) l.reached.network l.reached.at l.reached.line
