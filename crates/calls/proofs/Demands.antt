@@ -20,7 +20,7 @@ use Rattle.calls.proofs.Solving.{refuses_13, solves-least}
 use Rattle.calls.proofs.Writing.{wrote, listing-wrote}
 use Rattle.calls.proofs.Numbers.{numbers}
 use Rattle.calls.proofs.Benched.{benched}
-use Rattle.calls.proofs.Former.{plain-contents, former_iff}
+use Rattle.calls.proofs.Former.{plain-contents, former_iff, former-first}
 
 pub demands : Demands
 demands = record {
@@ -37,7 +37,8 @@ demands = record {
   judged = λ sheet σ Γ r l. judged Γ σ l;
   breach_first = λ sheet σ Γ b r. breach_iff Γ σ b;
   agree = λ sheet σ Γ r. hyperarcs_agree Γ σ (reads_well_formed r);
-  plain = λ sheet σ Γ r p u. former_iff Γ σ p u (reads_well_formed r).some_event;
+  plain = λ sheet σ Γ r. former_iff Γ σ;
+  plain_first = λ sheet σ Γ b r p u. former-first Γ σ p u b;
   plain_sheet = λ sheet Γ r l. plain-contents (rw r.network at (network-contains sheet l)) l.keeps;
   least = λ sheet Γ r e. solve-least Γ (reads_well_formed r) e;
   none = λ sheet Γ r. (

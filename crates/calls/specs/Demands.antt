@@ -34,7 +34,7 @@ use Rattle.calls.specs.Values.{done, refused_as, number_values}
 use Rattle.calls.specs.Calls.{counts_of, summary, summary_values, judgement, solving, listed}
 use Rattle.calls.specs.Bench.{passed, breach_values, judgement_values}
 use Rattle.calls.specs.Answers.{Reads, WroteText}
-use Rattle.calls.specs.Former.{Prompt, Unlabelled, Former}
+use Rattle.calls.specs.Former.{Prompt, Unlabelled, Former, FormerFirst}
 use Rattle.calls.specs.Numbers.{Numbers}
 use Rattle.calls.specs.Benched.{Benched}
 
@@ -77,6 +77,9 @@ pub record Demands : Type 0 where
   -- without labels of events and with reactions of 1 the good tables are document 01's: so a sheet without the
   -- sections of requests 3 and 6 has the good tables that it had before them
   pub plain : (sheet σ : List ℕ) (Γ : Network) → Reads sheet Γ → Prompt Γ → Unlabelled Γ → Solution Γ σ ↔ Former Γ σ
+  -- and of a bad table the first breach is the one of document 01's points
+  pub plain_first : (sheet σ : List ℕ) (Γ : Network) (b : Breach) → Reads sheet Γ → Prompt Γ → Unlabelled Γ
+      → First Γ σ b ↔ FormerFirst Γ σ b
   pub plain_sheet : (sheet : List ℕ) (Γ : Network) → Reads sheet Γ → (l : Layout sheet)
       → l.contents.reactions ≡ none → Prompt Γ × Unlabelled Γ
   -- demand 3: the run ends in "a good table in which each event, in each case, is no later than in any other good
