@@ -20,6 +20,7 @@ use Rattle.calls.proofs.Solving.{refuses_13, solves-least}
 use Rattle.calls.proofs.Writing.{wrote, listing-wrote}
 use Rattle.calls.proofs.Numbers.{numbers}
 use Rattle.calls.proofs.Benched.{benched}
+use Rattle.calls.proofs.Labels.{rule-holds, event_happens}
 use Rattle.calls.proofs.Former.{plain-contents, former_iff, former-first}
 
 pub demands : Demands
@@ -28,6 +29,8 @@ demands = record {
   counted = λ sheet Γ r. rw (← r.network, r.accepted);
   accepted = accepted_iff;
   contains = λ sheet Γ r l. rw (← r.network) (network-contains sheet l);
+  rule_holds = λ sheet Γ r l s i. rule-holds (rw r.network at (network-contains sheet l)) l.keeps s i;
+  event_happens = λ sheet Γ r l s u. event_happens (rw r.network at (network-contains sheet l)) l.keeps s u;
   at_fault = refused_iff;
   start_labelled = λ Γ _. start_fails Γ;
   incomplete = complete_fails;

@@ -2,13 +2,13 @@
 -- of a network without labels of events each of the three points is document 01's, and with them the good tables and the
 -- first breach of a bad one. A signal has the reaction 1 unless a line says otherwise, and an event no label. Assumes
 -- nothing.
-use mathlib.Core.Path.{◌≡◌, refl, sym, ◌∙◌, ap}
+use mathlib.Core.Path.{◌≡◌, sym, ◌∙◌, ap}
 use mathlib.Core.Logic.{◌↔◌, inl, inr}
 use mathlib.Core.Bool.{true}
 use mathlib.Core.Bool.{and-true as and-true-right}
 use mathlib.Core.Option.{Option, get_or, none}
 use mathlib.Core.List.{List, []}
-use Prim.Native.Nat.{ℕ, ◌≤◌, ◌<◌}
+use Prim.Native.Nat.{ℕ, ◌<◌}
 use native.Mathlib.Omega.{arith}
 use lib.ListN.{length, length-map}
 use Rattle.prelude.specs.Lists.{In}

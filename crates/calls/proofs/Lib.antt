@@ -2,7 +2,7 @@
 -- judge, the solver, the writers, the reader of listings and the player in the papers' numbers; what holds of reading
 -- a listing back; which numbers and lines each call answers; what the header's functions give back; what holds of
 -- playing, of the house form, of networks that say the same and of reactions, and of what is printed, word by word;
--- the demands; and the trial sheets.
+-- what labels mean; the demands; and the trial sheets.
 pub mod Call
 pub mod Settled
 pub mod Answers
@@ -36,5 +36,6 @@ pub mod OnPages
 pub mod PrintedVerdict
 pub mod Printing
 pub mod Benched
+pub mod Labels
 pub mod Demands
 pub mod Trials

@@ -1,15 +1,18 @@
 -- The three demands, as statements about every sheet, table and lent buffer. They speak of the definitions that the
 -- calls' contracts are equations with: `summary`, `judgement`, `solving` and `listed` (Calls), in `Numbers` and
 -- `Benched` those of all calls, and of their answers in the papers' numbers.
-use Rattle.std.specs.Prelude.{◌≡◌, ◌↔◌, true, List, ℕ, ◌≤◌, length, Err}
+use Rattle.std.specs.Prelude.{◌≡◌, ◌↔◌, true, List, [], ℕ, ◌≤◌, ◌<◌, length, get_or, Err}
 use Rattle.std.proofs.Math.Option.{none}
 use Rattle.refusal.specs.Refusal.{turn_of}
 use Rattle.prelude.specs.Checks.{FirstFails}
+use Rattle.prelude.specs.Lists.{Each}
 use Rattle.refusal.specs.declared.Cause.{Cause}
 use Rattle.refusal.specs.declared.Cause.TheVariants.{StartLabelled, IncompleteLabel, RetiredKind}
 use Rattle.refusal.specs.declared.Refusal.{Refusal}
 use Rattle.fixpoint.specs.Run.{Rests}
-use Rattle.network.specs.Build.{no_label, event_label, cells}
+use Rattle.network.specs.Build.{no_label, event_label, constraint, cells}
+use Rattle.network.specs.Scenario.{satisfies}
+use Rattle.network.specs.Happens.{happens}
 use Rattle.network.specs.Complete.{AllComplete, WellLabelled}
 use Rattle.network.specs.Solution.{Solution}
 use Rattle.network.specs.Least.{Least}
@@ -20,6 +23,7 @@ use Rattle.line.specs.Labelling.{Read, whole_tests}
 use Rattle.sheet.specs.Reading.{read, Accepts}
 use Rattle.sheet.specs.Place.{tests}
 use Rattle.sheet.specs.Fault.{FirstFault, Fails, Fault}
+use Rattle.layout.specs.Contents.{no_rule, no_case, listed_cases}
 use Rattle.layout.specs.Layout.{Layout}
 use Rattle.layout.specs.Contains.{Contains}
 use Rattle.checker.specs.Verdict.{verdict}
@@ -34,6 +38,7 @@ use Rattle.calls.specs.Values.{done, refused_as, number_values}
 use Rattle.calls.specs.Calls.{counts_of, summary, summary_values, judgement, solving, listed}
 use Rattle.calls.specs.Bench.{passed, breach_values, judgement_values}
 use Rattle.calls.specs.Answers.{Reads, WroteText}
+use Rattle.calls.specs.Labels.{LabelHolds}
 use Rattle.calls.specs.Former.{Prompt, Unlabelled, Former, FormerFirst}
 use Rattle.calls.specs.Numbers.{Numbers}
 use Rattle.calls.specs.Benched.{Benched}
@@ -49,6 +54,15 @@ pub record Demands : Type 0 where
   -- its network holds what it contains: ends, limits and labels of the rules as they are written, the reactions and the
   -- labels of events
   pub contains : (sheet : List ℕ) (Γ : Network) → Reads sheet Γ → (l : Layout sheet) → Contains sheet Γ l.contents
+  -- what a label means: a rule's holds in a case exactly if each of its letters has there the truth that its sign asks,
+  -- and an event happens exactly where that of its line among the cases holds, if it has a line
+  pub rule_holds : (sheet : List ℕ) (Γ : Network) → Reads sheet Γ → (l : Layout sheet) (s i : ℕ) → i < Γ.rules
+      → (satisfies s (constraint Γ i).label ≡ true)
+      ↔ LabelHolds l.contents.signals s (get_or l.contents.rules i no_rule).label
+  pub event_happens : (sheet : List ℕ) (Γ : Network) → Reads sheet Γ → (l : Layout sheet) (s u : ℕ)
+      → (happens Γ s u ≡ true)
+      ↔ Each (λ k. k.event ≡ get_or l.contents.names u [] → LabelHolds l.contents.signals s k.label)
+      (listed_cases l.contents) no_case
   -- and it is refused with its first line at fault, on which the first test that fails decides
   pub at_fault : (sheet : List ℕ) (r : Refusal) → (read sheet ≡ Err r) ↔ Fault sheet r
   -- of the last line of the section `cases`, behind its own tests: "20, the start is given a label other than `-`;
