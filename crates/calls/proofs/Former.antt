@@ -1,7 +1,7 @@
 -- Where every signal has the reaction 1, and is given, it is known at a minute exactly where it was given before it; so
--- of a network without labels of events each of the three points is document 01's, and with them the good tables and the
--- first breach of a bad one. A signal has the reaction 1 unless a line says otherwise, and an event no label. Assumes
--- nothing.
+-- of a network without labels of events each of the three points is document 01's, and with them the good tables and
+-- the first breach of a bad one. A signal has the reaction 1 unless a line says otherwise, and an event no label.
+-- Assumes nothing.
 use mathlib.Core.Path.{◌≡◌, sym, ◌∙◌, ap}
 use mathlib.Core.Logic.{◌↔◌, inl, inr}
 use mathlib.Core.Bool.{true}

@@ -1,5 +1,5 @@
--- A label holds in a case exactly where each of its letters has there the truth that its sign asks: so of a rule, and of
--- an event by its line among the cases. Assumes nothing.
+-- A label holds in a case exactly where each of its letters has there the truth that its sign asks: so of a rule, and
+-- of an event by its line among the cases. Assumes nothing.
 use mathlib.Core.Path.{◌≡◌, refl, sym, ◌∙◌, ap}
 use mathlib.Core.Logic.{◌↔◌, inl, inr}
 use mathlib.Core.Bool.{true}
@@ -20,7 +20,7 @@ use Rattle.network.proofs.Labels.{happens-unlabelled}
 use Rattle.names.specs.Names.{Literal, letters_of}
 use Rattle.names.specs.Defined.{mask_of}
 use Rattle.names.proofs.Satisfies.{Agrees, satisfies-label}
-use Rattle.layout.specs.Contents.{Contents, no_signal, no_rule, no_case, no_literal, signal_letters}
+use Rattle.layout.specs.Contents.{Case, Contents, no_signal, no_rule, no_case, no_literal, signal_letters}
 use Rattle.layout.specs.Contents.{listed_cases}
 use Rattle.layout.specs.Keeps.{KeepsLabel, Keeps}
 use Rattle.layout.specs.Contains.{Contains}
@@ -85,20 +85,23 @@ module _ {sheet : List ℕ} {Γ : Network} {c : Contents} (h : Contains sheet Γ
       mask-holds (get_or c.rules i no_rule).label (k.rules.each i at).label (constraint Γ i).label (h.means i at).label
 
   -- an event has one line at most, and without one it happens in every case
-  pub event_happens : (u : ℕ)
-      → (happens Γ s u ≡ true)
-      ↔ Each (λ x. x.event ≡ get_or c.names u [] → LabelHolds c.signals s x.label) (listed_cases c) no_case
-  unfolding happens
-  event_happens u = (
-    λ t. record { each = λ i l e. (line i l e).0 t },
-    λ f. elim (keyed_or_not same same_true same_of_eq (λ x. x.event) no_case [] (get_or c.names u []) (listed_cases c)) [
-      | inl w ↦ (line w.place w.place_lt (sym w.is)).1 (f.each w.place w.place_lt (sym w.is))
-      | inr none ↦ happens-unlabelled Γ s u (h.unlabelled u none)
-    ],
-  )
-    where
-      line : (i : ℕ) → i < length (listed_cases c) → (get_or (listed_cases c) i no_case).event ≡ get_or c.names u []
-          → (satisfies s (event_label Γ u) ≡ true) ↔ LabelHolds c.signals s (get_or (listed_cases c) i no_case).label
-      line i l e =
-          mask-holds (get_or (listed_cases c) i no_case).label (k.cases.each i l).label (event_label Γ u)
-          (h.labelled u i l (sym e))
+  module _ (u : ℕ) where
+    abbrev ks : List Case
+    ks = listed_cases c
+
+    line-holds : (i : ℕ) → i < length ks → (get_or ks i no_case).event ≡ get_or c.names u []
+        → (satisfies s (event_label Γ u) ≡ true) ↔ LabelHolds c.signals s (get_or ks i no_case).label
+    line-holds i l e =
+        mask-holds (get_or ks i no_case).label (k.cases.each i l).label (event_label Γ u) (h.labelled u i l (sym e))
+
+    pub event_happens
+        : (happens Γ s u ≡ true)
+        ↔ Each (λ x. x.event ≡ get_or c.names u [] → LabelHolds c.signals s x.label) ks no_case
+    unfolding happens
+    event_happens = (
+      λ t. record { each = λ i l e. (line-holds i l e).0 t },
+      λ f. elim (keyed_or_not same same_true same_of_eq (λ x. x.event) no_case [] (get_or c.names u []) ks) [
+        | inl w ↦ (line-holds w.place w.place_lt (sym w.is)).1 (f.each w.place w.place_lt (sym w.is))
+        | inr none ↦ happens-unlabelled Γ s u (h.unlabelled u none)
+      ],
+    )

@@ -97,6 +97,9 @@ module _ (Γ : Network) {One One' Two Two' : ℕ → ℕ → Type 0} {Three Thre
   }
 
 module _ (Γ : Network) (σ : List ℕ) where
+  one_first : (a b : Breach) → First Γ σ a → First Γ σ b → a ≡ b
+  one_first = first_unique Γ (OnTime Γ σ) (λ s c. Holds Γ σ s (constraint Γ c)) (Alike Γ σ)
+
   -- a strategy that keeps the three points has no first breach
   none_first : (b : Breach) → Kept Γ σ → First Γ σ b → ⊥
   none_first (Late s u) k f = f.breaks (k.on_time s u f.scenario f.event)
@@ -108,4 +111,4 @@ module _ (Γ : Network) (σ : List ℕ) where
     where
       by-verdict : (v : Verdict) → verdict Γ σ ≡ v → First Γ σ b → v ≡ Breached b
       by-verdict Pass e f = absurd (none_first b (kept_of_pass Γ σ e) f)
-      by-verdict (Breached a) e f = ap Breached (first_unique Γ (OnTime Γ σ) (λ s c. Holds Γ σ s (constraint Γ c)) (Alike Γ σ) a b (breach_first Γ σ a e) f)
+      by-verdict (Breached a) e f = ap Breached (one_first a b (breach_first Γ σ a e) f)
