@@ -21,7 +21,8 @@ use Rattle.calls.proofs.Solving.{refuses_13, solves-least}
 use Rattle.calls.proofs.Writing.{wrote_into, listing-wrote}
 use Rattle.calls.proofs.Numbers.{numbers}
 use Rattle.calls.proofs.Benched.{benched}
-use Rattle.calls.proofs.Former.{plain-contents, former_iff}
+use Rattle.calls.proofs.Labels.{rule-holds, event_happens}
+use Rattle.calls.proofs.Former.{plain-contents, former_iff, former-first}
 
 pub demands : Demands
 demands = record {
@@ -31,6 +32,8 @@ demands = record {
   counts = summary_counts;
   accepted = accepted_iff;
   contains = λ sheet Γ r l. rw (← r.network) (network-contains sheet l);
+  rule_holds = λ sheet Γ r l s i. rule-holds (rw r.network at (network-contains sheet l)) l.keeps s i;
+  event_happens = λ sheet Γ r l s u. event_happens (rw r.network at (network-contains sheet l)) l.keeps s u;
   at_fault = refused_iff;
   start_labelled = λ Γ _. start_fails Γ;
   incomplete = complete_fails;
@@ -40,7 +43,8 @@ demands = record {
   judged = λ sheet σ Γ r l. judged Γ σ l;
   breach_first = λ sheet σ Γ b r. breach_iff Γ σ b;
   agree = λ sheet σ Γ r. hyperarcs_agree Γ σ (reads_well_formed r);
-  plain = λ sheet σ Γ r p u. former_iff Γ σ p u (reads_well_formed r).some_event;
+  plain = λ sheet σ Γ r. former_iff Γ σ;
+  plain_first = λ sheet σ Γ b r p u. former-first Γ σ p u b;
   plain_sheet = λ sheet Γ r l. plain-contents (rw r.network at (network-contains sheet l)) l.keeps;
   least = λ sheet Γ r e. solve-least Γ (reads_well_formed r) e;
   none = λ sheet Γ r. (

@@ -1,13 +1,14 @@
 -- Where every signal has the reaction 1, and is given, it is known at a minute exactly where it was given before it; so
--- the good tables of a network without labels of events are document 01's. A signal has the reaction 1 unless a line
--- says otherwise, and an event no label. Assumes nothing.
-use mathlib.Core.Path.{◌≡◌, refl, sym, ◌∙◌, ap}
+-- of a network without labels of events each of the three points is document 01's, and with them the good tables and
+-- the first breach of a bad one. A signal has the reaction 1 unless a line says otherwise, and an event no label.
+-- Assumes nothing.
+use mathlib.Core.Path.{◌≡◌, sym, ◌∙◌, ap}
 use mathlib.Core.Logic.{◌↔◌, inl, inr}
 use mathlib.Core.Bool.{true}
 use mathlib.Core.Bool.{and-true as and-true-right}
 use mathlib.Core.Option.{Option, get_or, none}
 use mathlib.Core.List.{List, []}
-use Prim.Native.Nat.{ℕ, ◌≤◌, ◌<◌}
+use Prim.Native.Nat.{ℕ, ◌<◌}
 use native.Mathlib.Omega.{arith}
 use lib.ListN.{length, length-map}
 use Rattle.prelude.specs.Lists.{In}
@@ -19,7 +20,7 @@ use Rattle.network.specs.Scenario.{satisfies}
 use Rattle.network.specs.Happens.{happens, given}
 use Rattle.network.specs.Constraint.{covers}
 use Rattle.network.specs.Strategy.{time, known}
-use Rattle.network.specs.Solution.{Indistinct, Solution}
+use Rattle.network.specs.Solution.{OnTime, Holds, Indistinct, Alike, Solution}
 use Rattle.network.specs.declared.Constraint.{Constraint}
 use Rattle.network.specs.declared.Network.{Network}
 use Rattle.network.proofs.Strategy.{reaction_of-least, from-known, is_known}
@@ -28,8 +29,15 @@ use Rattle.layout.specs.Contents.{Reaction, Case, Contents, no_reaction, reactio
 use Rattle.layout.specs.Contents.{listed_cases, case_events}
 use Rattle.layout.specs.Keeps.{Keeps}
 use Rattle.layout.specs.Contains.{Contains}
-use Rattle.calls.specs.Former.{Prompt, Unlabelled, NoneBefore, Former}
+use Rattle.checker.specs.First.{First}
+use Rattle.checker.specs.declared.Breach.{Breach}
+use Rattle.checker.proofs.First.{first_alike}
+use Rattle.calls.specs.Former.{Prompt, Unlabelled, NoneBefore, FormerOnTime, FormerHolds, FormerAlike, Former}
+use Rattle.calls.specs.Former.{FormerFirst}
 use Rattle.calls.specs.Reacting.{AllOne}
+
+swap : {A B : Type 0} → A ↔ B → B ↔ A
+swap e = (e.1, e.0)
 
 -- lines that give 1 leave each signal its reaction of 1
 pub prompt-by_ones : {sheet : List ℕ} {Γ : Network} {c : Contents} → Contains sheet Γ c → AllOne c → Prompt Γ
@@ -87,27 +95,51 @@ module _ (Γ : Network) (σ : List ℕ) (prompt : Prompt Γ) where
     none_before s r m i p l e b =
         clash (known Γ σ s p m) ((heard-before s p m l (everywhere s (observation Γ p))).1 b) (i.unknown p l e)
 
-    pub former_iff : 1 ≤ Γ.events → Solution Γ σ ↔ Former Γ σ
-    former_iff some = (
+    -- point by point
+    on_time_iff : (s u : ℕ) → OnTime Γ σ s u ↔ FormerOnTime Γ σ s u
+    on_time_iff s u = (
+      λ h. let p = h.placed (everywhere s u) in record { in_horizon = p.in_horizon; origin = p.origin },
+      λ f. record {
+        absent = λ e. clash (happens Γ s u) (everywhere s u) e;
+        placed = λ _. record {
+          in_horizon = f.in_horizon;
+          origin = f.origin;
+          waits = record { waited = λ p l m. absurd (mentions-none p (rw (unlabelled u) at m)) };
+        };
+      },
+    )
+
+    holds_iff : (s c : ℕ) → Holds Γ σ s (constraint Γ c) ↔ FormerHolds Γ σ s c
+    holds_iff s c =
+        let same = covers-plain (constraint Γ c) s in (
+          λ h e. h.holds (same ∙ e),
+          λ f. record { holds = λ e. f (sym same ∙ e) },
+        )
+
+    alike_iff : (s r u : ℕ) → Alike Γ σ s r u ↔ FormerAlike Γ σ s r u
+    alike_iff s r u = (
+      λ h n. h.alike (everywhere s u) (everywhere r u) (unknown-after s r _ n),
+      λ f. record { alike = λ _ _ i. f (none_before s r _ i) },
+    )
+
+    pub former_iff : Solution Γ σ ↔ Former Γ σ
+    former_iff = (
       λ h. record {
         sized = h.sized;
-        in_horizon = λ s u hs hu. ((h.on_time s u hs hu).placed (everywhere s u)).in_horizon;
-        origin = λ s hs. ((h.on_time s 0 hs some).placed (everywhere s 0)).origin refl;
-        viable = λ s c hs hc e. (h.viable s c hs hc).holds (covers-plain (constraint Γ c) s ∙ e);
-        dynamic = λ s r u hs hr hu b.
-            (h.dynamic s r u hs hr hu).alike (everywhere s u) (everywhere r u) (unknown-after s r _ b);
+        on_time = λ s u l m. (on_time_iff s u).0 (h.on_time s u l m);
+        viable = λ s c l m. (holds_iff s c).0 (h.viable s c l m);
+        dynamic = λ s r u l k m. (alike_iff s r u).0 (h.dynamic s r u l k m);
       },
       λ f. record {
         sized = f.sized;
-        on_time = λ s u hs hu. record {
-          absent = λ e. clash (happens Γ s u) (everywhere s u) e;
-          placed = λ _. record {
-            in_horizon = f.in_horizon s u hs hu;
-            origin = λ z. rw z (f.origin s hs);
-            waits = record { waited = λ p l m. absurd (mentions-none p (rw (unlabelled u) at m)) };
-          };
-        };
-        viable = λ s c hs hc. record { holds = λ e. f.viable s c hs hc (sym (covers-plain (constraint Γ c) s) ∙ e) };
-        dynamic = λ s r u hs hr hu. record { alike = λ _ _ i. f.dynamic s r u hs hr hu (none_before s r _ i) };
+        on_time = λ s u l m. (on_time_iff s u).1 (f.on_time s u l m);
+        viable = λ s c l m. (holds_iff s c).1 (f.viable s c l m);
+        dynamic = λ s r u l k m. (alike_iff s r u).1 (f.dynamic s r u l k m);
       },
+    )
+
+    pub former-first : (b : Breach) → First Γ σ b ↔ FormerFirst Γ σ b
+    former-first b = (
+      first_alike Γ on_time_iff holds_iff alike_iff b,
+      first_alike Γ (λ s u. swap (on_time_iff s u)) (λ s c. swap (holds_iff s c)) (λ s r u. swap (alike_iff s r u)) b,
     )

@@ -1,15 +1,18 @@
 -- The three demands, as statements about every sheet, table and lent buffer. They speak of the definitions that the
 -- calls' contracts are equations with: `summary`, `judgement`, `solving_into` and `listed` (Calls), in `Numbers` and
 -- `Benched` those of all calls. What is said here of a call's definition each call's contract says of its answer.
-use Rattle.std.specs.Prelude.{◌≡◌, ◌↔◌, true, List, ℕ, ◌≤◌, length, Err}
+use Rattle.std.specs.Prelude.{◌≡◌, ◌↔◌, true, List, [], ℕ, ◌≤◌, ◌<◌, length, get_or, Err}
 use Rattle.std.proofs.Math.Option.{none}
 use Rattle.refusal.specs.Refusal.{turn_of}
 use Rattle.prelude.specs.Checks.{FirstFails}
+use Rattle.prelude.specs.Lists.{Each}
 use Rattle.refusal.specs.declared.Cause.{Cause}
 use Rattle.refusal.specs.declared.Cause.TheVariants.{StartLabelled, IncompleteLabel, RetiredKind}
 use Rattle.refusal.specs.declared.Refusal.{Refusal}
 use Rattle.fixpoint.specs.Run.{Rests}
-use Rattle.network.specs.Build.{no_label, event_label, cells}
+use Rattle.network.specs.Build.{no_label, event_label, constraint, cells}
+use Rattle.network.specs.Scenario.{satisfies}
+use Rattle.network.specs.Happens.{happens}
 use Rattle.network.specs.Complete.{AllComplete, WellLabelled}
 use Rattle.network.specs.Solution.{Solution}
 use Rattle.network.specs.Least.{Least}
@@ -20,6 +23,7 @@ use Rattle.line.specs.Labelling.{Read, whole_tests}
 use Rattle.sheet.specs.Reading.{read, Accepts}
 use Rattle.sheet.specs.Place.{tests}
 use Rattle.sheet.specs.Fault.{FirstFault, Fails, Fault}
+use Rattle.layout.specs.Contents.{no_rule, no_case, listed_cases}
 use Rattle.layout.specs.Layout.{Layout}
 use Rattle.layout.specs.Contains.{Contains}
 use Rattle.checker.specs.Verdict.{verdict}
@@ -38,7 +42,8 @@ use Rattle.calls.specs.Reader.{AcceptsLayout, RefusesFault, CountsContents}
 use Rattle.calls.specs.Judges.{Passes, Breaches}
 use Rattle.calls.specs.Solves.{RefusesNone, WritesLeast}
 use Rattle.calls.specs.Lists.{WritesListing}
-use Rattle.calls.specs.Former.{Prompt, Unlabelled, Former}
+use Rattle.calls.specs.Labels.{LabelHolds}
+use Rattle.calls.specs.Former.{Prompt, Unlabelled, Former, FormerFirst}
 use Rattle.calls.specs.Numbers.{minutes, Numbers}
 use Rattle.calls.specs.Benched.{Benched}
 
@@ -55,6 +60,15 @@ pub record Demands : Type 0 where
   -- its network holds what it contains: ends, limits and labels of the rules as they are written, the reactions and the
   -- labels of events
   pub contains : (sheet : List ℕ) (Γ : Network) → Reads sheet Γ → (l : Layout sheet) → Contains sheet Γ l.contents
+  -- what a label means: a rule's holds in a case exactly if each of its letters has there the truth that its sign asks,
+  -- and an event happens exactly where that of its line among the cases holds, if it has a line
+  pub rule_holds : (sheet : List ℕ) (Γ : Network) → Reads sheet Γ → (l : Layout sheet) (s i : ℕ) → i < Γ.rules
+      → (satisfies s (constraint Γ i).label ≡ true)
+      ↔ LabelHolds l.contents.signals s (get_or l.contents.rules i no_rule).label
+  pub event_happens : (sheet : List ℕ) (Γ : Network) → Reads sheet Γ → (l : Layout sheet) (s u : ℕ)
+      → (happens Γ s u ≡ true)
+      ↔ Each (λ k. k.event ≡ get_or l.contents.names u [] → LabelHolds l.contents.signals s k.label)
+      (listed_cases l.contents) no_case
   -- and it is refused with its first line at fault, on which the first test that fails decides
   pub at_fault : (sheet : List ℕ) (r : Refusal) → (read sheet ≡ Err r) ↔ Fault sheet r
   -- of the last line of the section `cases`, behind its own tests: "20, the start is given a label other than `-`;
@@ -83,6 +97,9 @@ pub record Demands : Type 0 where
   -- without labels of events and with reactions of 1 the good tables are document 01's: so a sheet without the
   -- sections of requests 3 and 6 has the good tables that it had before them
   pub plain : (sheet σ : List ℕ) (Γ : Network) → Reads sheet Γ → Prompt Γ → Unlabelled Γ → Solution Γ σ ↔ Former Γ σ
+  -- and of a bad table the first breach is the one of document 01's points
+  pub plain_first : (sheet σ : List ℕ) (Γ : Network) (b : Breach) → Reads sheet Γ → Prompt Γ → Unlabelled Γ
+      → First Γ σ b ↔ FormerFirst Γ σ b
   pub plain_sheet : (sheet : List ℕ) (Γ : Network) → Reads sheet Γ → (l : Layout sheet)
       → l.contents.reactions ≡ none → Prompt Γ × Unlabelled Γ
   -- demand 3: the run ends in "a good table in which each event, in each case, is no later than in any other good

@@ -1,6 +1,7 @@
--- A good table in document 01's words: every signal counts from the minute after it is given on, and every event
--- happens in every case. It stands beside `Solution` so that a reader sees what requests 3 and 6 left as it was: of a
--- network whose reactions are 1 and whose events have no labels the good tables are these (`plain` in `Demands`).
+-- The three points of a good table in document 01's words: every signal counts from the minute after it is given on,
+-- and every event happens in every case. They stand beside `Solution` so that a reader sees what the sections of
+-- reactions and of cases left as it was: of a network whose reactions are 1 and whose events have no labels these are
+-- the good tables, and of a bad one this is the first breach (`plain` and `plain_first` in `Demands`).
 use Rattle.std.specs.Prelude.{◌≡◌, true, false, List, ℕ, ◌≤◌, ◌<◌, length}
 use Rattle.network.specs.Limits as L
 use Rattle.network.specs.Build.{no_label, observation, event_label, constraint, scenarios, cells}
@@ -9,6 +10,8 @@ use Rattle.network.specs.Constraint.{admits}
 use Rattle.network.specs.Strategy.{time, reaction}
 use Rattle.network.specs.declared.Constraint.{Constraint}
 use Rattle.network.specs.declared.Network.{Network}
+use Rattle.checker.specs.First.{FirstOf}
+use Rattle.checker.specs.declared.Breach.{Breach}
 
 -- every signal has the reaction 1, and no event a label
 abbrev pub Prompt : Network → Type 0
@@ -25,19 +28,30 @@ module _ (Γ : Network) (σ : List ℕ) where
   abbrev pub NoneBefore : ℕ → ℕ → ℕ → Type 0
   NoneBefore s r m = (p : ℕ) → p < Γ.signals → agree s r p ≡ false → at s (observation Γ p) < m → ⊥
 
+  -- point 1 in one cell: "Each minute is at most H, and the start is at minute 0"
+  pub record FormerOnTime (s u : ℕ) : Type 0 where
+    pub in_horizon : at s u ≤ Γ.horizon
+    pub origin : u ≡ 0 → at s u ≡ 0
+
   -- the rule keeps its limit in s
   abbrev pub KeptIn : ℕ → Constraint → Type 0
   KeptIn s c = admits c.kind (at s c.from) (at s c.to) c.bound ≡ true
 
+  -- point 2 for one rule and case: it "holds in each case that agrees with its label"
+  abbrev pub FormerHolds : ℕ → ℕ → Type 0
+  FormerHolds s c = satisfies s (constraint Γ c).label ≡ true → KeptIn s (constraint Γ c)
+
+  -- point 3 for two cases and an event: "then u has the same minute in s and in r"
+  abbrev pub FormerAlike : ℕ → ℕ → ℕ → Type 0
+  FormerAlike s r u = NoneBefore s r (at s u) → at s u ≡ at r u
+
   -- a good table, point by point
   pub record Former : Type 0 where
     pub sized : length σ ≡ cells Γ
-    -- "Each minute is at most H, and the start is at minute 0"
-    pub in_horizon : (s u : ℕ) → s < scenarios Γ → u < Γ.events → at s u ≤ Γ.horizon
-    pub origin : (s : ℕ) → s < scenarios Γ → at s 0 ≡ 0
-    -- each rule "holds in each case that agrees with its label"
-    pub viable : (s c : ℕ) → s < scenarios Γ → c < Γ.rules → satisfies s (constraint Γ c).label ≡ true
-        → KeptIn s (constraint Γ c)
-    -- "then u has the same minute in s and in r"
-    pub dynamic : (s r u : ℕ) → s < scenarios Γ → r < scenarios Γ → u < Γ.events → NoneBefore s r (at s u)
-        → at s u ≡ at r u
+    pub on_time : (s u : ℕ) → s < scenarios Γ → u < Γ.events → FormerOnTime s u
+    pub viable : (s c : ℕ) → s < scenarios Γ → c < Γ.rules → FormerHolds s c
+    pub dynamic : (s r u : ℕ) → s < scenarios Γ → r < scenarios Γ → u < Γ.events → FormerAlike s r u
+
+  -- the first breach of these points
+  abbrev pub FormerFirst : Breach → Type 0
+  FormerFirst b = FirstOf Γ FormerOnTime FormerHolds FormerAlike b

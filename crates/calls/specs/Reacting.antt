@@ -1,7 +1,7 @@
 -- What holds of reactions (02, point 3), besides what the demands say of every network: "An accepted sheet without the
 -- section is answered as before, and lines that give 1 change no table, verdict or event due".
 use Rattle.std.specs.Prelude.{◌≡◌, ◌↔◌, true, List, ℕ, ◌+◌, ◌≤◌, ◌<◌}
-use Rattle.prelude.specs.Lists.{Each}
+use Rattle.prelude.specs.Lists.{In, Each}
 use Rattle.network.specs.Limits as L
 use Rattle.network.specs.Build.{observation}
 use Rattle.network.specs.Happens.{given}
@@ -21,6 +21,11 @@ use Rattle.calls.specs.Former.{Prompt}
 -- each line of the section gives 1; so it is where the section is absent
 abbrev pub AllOne : Contents → Type 0
 AllOne c = Each (λ y. y.minutes ≡ L.fastest) (listed_reactions c) no_reaction
+
+-- each line of c that gives other than 1 stands among d's too
+abbrev pub SlowAmong : Contents → Contents → Type 0
+SlowAmong c d =
+    Each (λ y. (y.minutes ≡ L.fastest → ⊥) → In y (listed_reactions d) no_reaction) (listed_reactions c) no_reaction
 
 -- two sheets have the same contents besides their reactions, and besides whether a section without lines is there
 pub record Besides (c d : Contents) : Type 0 where
@@ -57,11 +62,10 @@ pub record Reacting : Type 0 where
   -- hyperarcs and the player
   pub before : (Γ : Network) → Prompt Γ → (σ : List ℕ) (s p m : ℕ) → p < Γ.signals → given Γ s p ≡ true
       → (known Γ σ s p m ≡ true) ↔ (time Γ.events σ s (observation Γ p) < m)
-  -- sheets with the same contents besides reactions, and with the same reactions, are answered the same: a line that
-  -- gives 1 changes nothing, whatever the others give
-  pub alike : (sheet other : List ℕ) (Γ Δ : Network) → Reads sheet Γ → Reads other Δ
-      → (l : Layout sheet) (k : Layout other) → Besides l.contents k.contents
-      → ((p : ℕ) → p < Γ.signals → reaction Γ p ≡ reaction Δ p) → SameAnswers sheet other
+  -- sheets with the same contents besides reactions, and with the same lines that give other than 1, in any order, are
+  -- answered the same: a line that gives 1 changes nothing, whatever the others give
+  pub alike : (sheet other : List ℕ) (l : Layout sheet) (k : Layout other) → Besides l.contents k.contents
+      → SlowAmong l.contents k.contents → SlowAmong k.contents l.contents → SameAnswers sheet other
   -- so are a sheet with lines that all give 1 and one without the section
   pub unchanged : (sheet other : List ℕ) (l : Layout sheet) (k : Layout other) → Besides l.contents k.contents
       → AllOne l.contents → AllOne k.contents → SameAnswers sheet other

@@ -17,7 +17,7 @@ use Rattle.network.specs.declared.Network.{Network}
 use Rattle.checker.specs.Verdict.{is_on_time, does_hold, is_alike, first_late_lem, first_broken_lem, unheard_from}
 use Rattle.checker.specs.Verdict.{first_unheard_lem}
 use Rattle.checker.specs.Verdict.{first_breach, verdict_of, verdict}
-use Rattle.checker.specs.First.{First, FirstLate, FirstRule, FirstUnheard}
+use Rattle.checker.specs.First.{First}
 use Rattle.checker.specs.declared.Breach.{Breach}
 use Rattle.checker.specs.declared.Breach.TheVariants.{Late, Rule, Unheard}
 use Rattle.checker.specs.declared.Verdict.TheVariants.{Pass, Breach as Breached}
@@ -89,14 +89,14 @@ module _ (Γ : Network) (σ : List ℕ) where
   late_is_first : (b : Breach) → first_late_lem Γ σ ≡ some b → First Γ σ b
   late_is_first b e =
       let w = late.first b e in
-      let first : FirstLate Γ σ w.outer w.inner =
+      let first : First Γ σ (Late w.outer w.inner) =
       record { scenario = w.outer_lt; event = w.inner_lt; breaks = w.breaks; before = w.before } in
       rw (← w.named) first
 
   broken_is_first : (b : Breach) → OnTimes → first_broken_lem Γ σ ≡ some b → First Γ σ b
   broken_is_first b on_time e =
       let w = broken.first b e in
-      let first : FirstRule Γ σ w.outer w.inner =
+      let first : First Γ σ (Rule w.outer w.inner) =
       record { scenario = w.outer_lt; place = w.inner_lt; breaks = w.breaks; before = w.before; on_time = on_time }
       in
       rw (← w.named) first
@@ -105,7 +105,7 @@ module _ (Γ : Network) (σ : List ℕ) where
   first-unheard b on_time viable e =
       let from = some_of_first_below (unheard_from Γ σ) (scenarios Γ) b e in
       let w = (unheard from.index).first b from.answer in
-      let first : FirstUnheard Γ σ from.index w.outer w.inner =
+      let first : First Γ σ (Unheard from.index w.outer w.inner) =
       record {
         scenario = from.index_lt;
         other = w.outer_lt;

@@ -1,19 +1,13 @@
 -- A letter stands in a label with its sign exactly where the label's sum for that sign has the weight of its signal.
 -- Assumes nothing.
-use mathlib.Core.Path.{◌≡◌, refl, sym, ◌∙◌, ap}
-use mathlib.Core.Logic.{inl, inr}
-use mathlib.Core.Bool as B
-use mathlib.Core.Bool.{Bool, true, false, beq}
+use mathlib.Core.Path.{◌≡◌, sym, ◌∙◌}
+use mathlib.Core.Bool.{Bool, true, false}
 use mathlib.Core.Option.{some}
-use mathlib.Core.List.{List, [], ◌∷◌}
+use mathlib.Core.List.{List}
 use Prim.Native.Nat.{ℕ, ◌≤◌, ◌<◌}
 use native.Mathlib.Omega.{arith}
-use borrow.Author.Tests.{eq-eqb}
-use lib.Dec.{eqb}
 use lib.ListN.{length, get_or}
 use Rattle.prelude.specs.Lists.{In}
-use Rattle.prelude.proofs.Parts.{in_cons, in_later}
-use Rattle.prelude.proofs.Tests.{clash, or-true, and_both, beq-refl}
 use Rattle.network.specs.Limits as L
 use Rattle.network.specs.Build.{letter}
 use Rattle.network.specs.Scenario.{truth}
@@ -22,8 +16,8 @@ use Rattle.network.specs.declared.Network.{Network}
 use Rattle.network.proofs.Labels.{truth-below}
 use Rattle.names.specs.Names.{Literal}
 use Rattle.names.specs.Defined.{place_of, weights, mask_of}
-use Rattle.names.proofs.Labels.{place_is, is_at, asks, SumIs, sum_is}
-use Rattle.names.proofs.Satisfies.{at_place}
+use Rattle.names.proofs.Labels.{place_is, asks, SumIs, sum_is}
+use Rattle.names.proofs.Satisfies.{asks-in, asks-by}
 use Rattle.layout.specs.Contents.{Contents, signal_letters, no_literal}
 use Rattle.layout.specs.Keeps.{KeepsLabel}
 use Rattle.layout.proofs.Stands.{Stands}
@@ -36,32 +30,14 @@ literal-is a b v w p q = rw (p, q)
 module _ (k : ℕ) (letters : List ℕ) where
   asks_in : (v : Bool) (p : ℕ) (ls : List Literal) → asks k letters v p ls ≡ true
       → In (record { letter = get_or letters p 0; value = v }) ls no_literal
-  asks_in v p [] e = clash false e refl
-  asks_in v p (l ∷ ls) e =
-      elim (or-true (is_at k letters v p l) (asks k letters v p ls) e) [
-        | inl h ↦
-            let w = at_place k letters v p l h in
-            let a = sym (place_is k letters l.letter p w.0).letter in
-            record {
-              place = 0;
-              place_lt = omega arith;
-              is = literal-is l.letter (get_or letters p 0) l.value v a w.1;
-            }
-        | inr h ↦ in_later (asks_in v p ls h)
-      ]
-
-  at_here : (l : Literal) (p : ℕ) → place_of k letters l.letter ≡ some p → is_at k letters l.value p l ≡ true
-  at_here l p h =
-      rw (h, is_at) (and_both (beq l.value l.value) (eqb p p) (beq-refl l.value) (eq-eqb p p refl))
-
-  in_asks : (l : Literal) (p : ℕ) (ls : List Literal) → In l ls no_literal → place_of k letters l.letter ≡ some p
-      → asks k letters l.value p ls ≡ true
-  in_asks l p [] i h = absurd (omega (arith, i.place_lt))
-  in_asks l p (x ∷ ls) i h =
-      elim (in_cons i) [
-        | inl e ↦ rw (ap (is_at k letters l.value p) e ∙ at_here l p h)
-        | inr j ↦ rw (in_asks l p ls j h) (B.or-true (is_at k letters l.value p x))
-      ]
+  asks_in v p ls e =
+      let w = asks-by k letters no_literal v p ls e in
+      let a = sym (place_is k letters w.literal.letter p w.place).letter in
+      record {
+        place = w.member.place;
+        place_lt = w.member.place_lt;
+        is = w.member.is ∙ literal-is w.literal.letter (get_or letters p 0) w.literal.value v a w.value;
+      }
 
 module _ {sheet : List ℕ} {Γ : Network} {c : Contents} (s : Stands sheet Γ c)
     (few : length c.signals ≤ L.signals) (ls : List Literal) (m : KeepsLabel (signal_letters c.signals) ls) where
@@ -89,4 +65,4 @@ module _ {sheet : List ℕ} {Γ : Network} {c : Contents} (s : Stands sheet Γ c
   in_truth l p i e =
       let h = (place_is Γ.signals Γ.letters l.letter p e).below in
       let n = s.holds.signals in
-      (sums l.value).truths p (omega (arith, few)) ∙ in_asks Γ.signals Γ.letters l p ls i e
+      (sums l.value).truths p (omega (arith, few)) ∙ asks-in Γ.signals Γ.letters no_literal l p ls i e
