@@ -23,6 +23,7 @@ use Rattle.calls.specs.Lists.{WritesListing}
 use Rattle.calls.specs.ReadingBack.{ReadsBack}
 use Rattle.calls.specs.Playing.{TellsRow}
 use Rattle.calls.specs.Housing.{WritesForm}
+use Rattle.calls.specs.Converting.{RefusesFormer, WritesConverted}
 use Rattle.calls.proofs.Handed.{Rightly}
 use Rattle.calls.proofs.Judging.{judge-answers, judge_passes, judge-breaches}
 use Rattle.calls.proofs.Solving.{solver_writes}
@@ -30,6 +31,7 @@ use Rattle.calls.proofs.Writing.{lister_writes, listing-wrote, house_writes, con
 use Rattle.calls.proofs.Recovering.{recoverer-writes}
 use Rattle.calls.proofs.ReadingBack.{reading_back}
 use Rattle.calls.proofs.Housing.{housing}
+use Rattle.calls.proofs.Converting.{conversions}
 use Rattle.calls.proofs.Numbers.{numbers}
 use Rattle.calls.proofs.Benched.{benched}
 use Rattle.calls.proofs.Demands.{demands}
@@ -97,8 +99,17 @@ module _ (sheet : List ℕ) where
     house-clauses e f = rw (e, f) (record { refusals = house_writes sheet m; form = housing.writes sheet m })
 
     pub convert-clauses : v ≡ number_values (converting sheet m).answer → x ≡ (converting sheet m).memory
-        → record { refusals : AnswersInto (read_as_max_lem sheet) (converts sheet m) m v x }
-    convert-clauses e f = rw (e, f) (record { refusals = converter_writes sheet m })
+        → record {
+          refusals : AnswersInto (read_as_max_lem sheet) (converts sheet m) m v x;
+          former : RefusesFormer sheet v;
+          converted : WritesConverted sheet (in_place_lem m) v x;
+        }
+    convert-clauses e f =
+        rw (e, f) (record {
+          refusals = converter_writes sheet m;
+          former = λ r g. (conversions.refused sheet m r g).0;
+          converted = conversions.writes sheet m;
+        })
 
   -- a table of bytes is played, for those who have heard a text
   pub play-clauses : (b : List ℕ) (m : ℕ) (text : List ℕ) (v : Values ℕ)

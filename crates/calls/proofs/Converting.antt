@@ -31,12 +31,13 @@ use Rattle.conversion.proofs.Refused.{first-fix-refused}
 use Rattle.conversion.proofs.Unchanged.{read_as_max-without}
 use Rattle.conversion.proofs.Accepted.{accepted-plain, accepted-unchanged, given_of, converted-accepted}
 use Rattle.conversion.proofs.Accepted.{converted_agrees, converted-tables}
+use Rattle.conversion.specs.Converted.{SameBytes}
 use Rattle.calls.specs.Call.{Left}
 use Rattle.calls.specs.Lent.{in_place_lem}
 use Rattle.calls.specs.Values.{OrRefusal, turned_away, number_values}
 use Rattle.calls.specs.Calls.{writing, refusing, convert_tests, converting}
 use Rattle.calls.specs.Answers.{Reads, WroteText}
-use Rattle.calls.specs.Converting.{FormerReads, Conversion, Converting}
+use Rattle.calls.specs.Converting.{FormerReads, Conversion, ConvertedTo, RefusesFormer, WritesConverted, Converting}
 use Rattle.calls.proofs.Call.{Ends, faulty, failed, worked, ends, call-refused, reads_well_formed}
 use Rattle.calls.proofs.Writing.{converter-wrote}
 
@@ -158,8 +159,33 @@ refused sheet m r f =
       sym (ap (λ (l : Left (OrRefusal ℕ)). l.memory) is),
     )
 
+-- what the sheet becomes, with all that is said of it
+becomes : (sheet t : List ℕ) (Γ : Network) (c : Conversion sheet Γ t) → SameBytes sheet Γ t
+    → ConvertedTo sheet Γ c.reads t
+becomes sheet t Γ c same =
+    let own = accepted sheet t Γ c in
+    let w = alike sheet t Γ own.0 c own.1 in
+    record {
+      bytes = same;
+      network = own.0;
+      accepted = own.1;
+      good = w.good;
+      least = least c.reads.layout.contents Γ own.0 w;
+      none = none c.reads.layout.contents Γ own.0 w;
+    }
+
+writes : (sheet m : List ℕ)
+    → let l = converting sheet m in WritesConverted sheet (in_place_lem m) (number_values l.answer) l.memory
+writes sheet m Γ reads few =
+    let c : Conversion sheet Γ (converted sheet Γ) = record { reads = reads; few = few; text = refl } in (
+      converted sheet Γ,
+      becomes sheet (converted sheet Γ) Γ c (same_bytes (known reads)),
+      written sheet m (converted sheet Γ) Γ c,
+    )
+
 pub conversions : Converting
 conversions = record {
+  writes = writes;
   reads_former = former_iff;
   read_into = read_into;
   refuses_former = λ sheet r. ((former_fault_iff sheet r).1, (former_fault_iff sheet r).0);

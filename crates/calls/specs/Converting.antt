@@ -16,9 +16,10 @@ use Rattle.conversion.specs.Rows.{fixes}
 use Rattle.conversion.specs.FormerRules.{read_as_max_lem, heading_line}
 use Rattle.conversion.specs.FormerFault.{FormerFault}
 use Rattle.conversion.specs.Converted.{resulting, converted, SameBytes}
-use Rattle.calls.specs.Values.{turned_away, number_values}
+use Rattle.calls.specs.Values.{Values, turned_away, number_values}
+use Rattle.calls.specs.Lent.{Lent, in_place_lem}
 use Rattle.calls.specs.Calls.{converting}
-use Rattle.calls.specs.Answers.{Reads, WroteText}
+use Rattle.calls.specs.Answers.{Reads, WroteInto, WroteText}
 
 -- the sheet has the layout of a former sheet, and Γ is a network that holds what it contains
 pub record FormerReads (sheet : List ℕ) (Γ : Network) : Type 0 where
@@ -30,6 +31,26 @@ pub record Conversion (sheet : List ℕ) (Γ : Network) (t : List ℕ) : Type 0 
   pub reads : FormerReads sheet Γ
   pub few : resulting sheet Γ ≤ L.rules
   pub text : t ≡ converted sheet Γ
+
+-- t is what the sheet becomes: the same bytes but for the count and the `fix` rows, a sheet of today with exactly the
+-- former sheet's good tables, so with the same least one, or none
+pub record ConvertedTo (sheet : List ℕ) (Γ : Network) (reads : FormerReads sheet Γ) (t : List ℕ) : Type 0 where
+  pub bytes : SameBytes sheet Γ t
+  pub network : Network
+  pub accepted : Reads t network
+  pub good : (σ : List ℕ) → FormerSolution reads.layout.contents Γ σ ↔ Solution network σ
+  pub least : (σ : List ℕ) → FormerLeast reads.layout.contents Γ σ ↔ Least network σ
+  pub none : FormerNone reads.layout.contents Γ ↔ Inconsistent network
+
+-- the call refuses with the fault that the sheet has by the former rules
+abbrev pub RefusesFormer : List ℕ → Values ℕ → Type 0
+RefusesFormer sheet v = (r : Refusal) → FormerFault sheet r → v ≡ turned_away 0 r
+
+-- and otherwise, where there is room for the rules that result and for the text, it has written the converted sheet
+abbrev pub WritesConverted : List ℕ → Lent → Values ℕ → List ℕ → Type 0
+WritesConverted sheet m v after =
+    (Γ : Network) (reads : FormerReads sheet Γ) → resulting sheet Γ ≤ L.rules
+    → (t : List ℕ) × ConvertedTo sheet Γ reads t × (length t ≤ m.room → WroteInto t m v after)
 
 pub record Converting : Type 0 where
   -- the converter reads exactly the sheets that have the layout of a former sheet, into a network that holds what they
@@ -48,6 +69,8 @@ pub record Converting : Type 0 where
       → (i : ℕ) × FirstFix r.layout.contents i × Fault sheet (refusal RetiredKind (suc (suc (heading_line Γ) + i)))
   pub for_fix : (sheet : List ℕ) (r : Refusal) → Fault sheet r → number_of r.cause ≡ 22 → fixes sheet ≡ 0 → ⊥
   pub never : (sheet m : List ℕ) → (number_values (converting sheet m).answer).number ≡ 22 → ⊥
+  pub writes : (sheet m : List ℕ)
+      → let l = converting sheet m in WritesConverted sheet (in_place_lem m) (number_values l.answer) l.memory
   -- where there is room the converted sheet is written, and everything behind it is unaltered
   pub written : (sheet m t : List ℕ) (Γ : Network) → Conversion sheet Γ t → length t ≤ length m
       → WroteText t m (converting sheet m)

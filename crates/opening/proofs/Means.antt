@@ -25,6 +25,7 @@ use Rattle.calls.specs.Lists.{WritesListing}
 use Rattle.calls.specs.ReadingBack.{ReadsBack}
 use Rattle.calls.specs.Playing.{TellsRow}
 use Rattle.calls.specs.Housing.{WritesForm}
+use Rattle.calls.specs.Converting.{RefusesFormer, WritesConverted}
 use Rattle.calls.specs.declared.Counts.{Counts}
 use Rattle.calls.proofs.Numbers.{numbers}
 use Rattle.calls.proofs.Demands.{demands}
@@ -132,6 +133,9 @@ module _ (sheet : List ℕ) where
         → record {
           outcome : Leaves (converting sheet m) r x;
           refusals : AnswersInto (read_as_max_lem sheet) (converts sheet m) m (number_values r) x;
+          former : RefusesFormer sheet (number_values r);
+          converted : WritesConverted sheet (in_place_lem m) (number_values r) x;
         }
     convert_means h =
-        record { outcome = h; refusals = (convert-clauses sheet m _ x (ap number_values h.answer) h.memory).refusals }
+        let w = convert-clauses sheet m _ x (ap number_values h.answer) h.memory in
+        record { outcome = h; refusals = w.refusals; former = w.former; converted = w.converted }

@@ -22,6 +22,7 @@ ghost use Rattle.calls.specs.Lists.{WritesListing};
 ghost use Rattle.calls.specs.ReadingBack.{ReadsBack};
 ghost use Rattle.calls.specs.Playing.{TellsRow};
 ghost use Rattle.calls.specs.Housing.{WritesForm};
+ghost use Rattle.calls.specs.Converting.{RefusesFormer, WritesConverted};
 ghost use Rattle.opening.specs.Prologue.{handed_in_lem, of_unread, of_unanswered};
 
 use calls::Counts;
@@ -155,6 +156,8 @@ pub fn convert_sheet(sheet: &[u8], out: &mut [u8]) -> Result<usize, Refusal>
     ensures outcome { Leaves (converting sheet.now out.old) result out.new }
     ensures refusals { AnswersInto (read_as_max_lem sheet.now) (converts sheet.now out.old) out.old
         (number_values result) out.new }
+    ensures former { RefusesFormer sheet.now (number_values result) }
+    ensures converted { WritesConverted sheet.now (in_place_lem out.old) (number_values result) out.new }
 {
     let former = conversion::read(sheet)?;
     if Network::RULES < former.rules {

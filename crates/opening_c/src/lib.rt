@@ -23,6 +23,7 @@ ghost use Rattle.calls.specs.Lists.{WritesListing};
 ghost use Rattle.calls.specs.ReadingBack.{ReadsBack};
 ghost use Rattle.calls.specs.Playing.{TellsRow};
 ghost use Rattle.calls.specs.Housing.{WritesForm};
+ghost use Rattle.calls.specs.Converting.{RefusesFormer, WritesConverted};
 ghost use Rattle.opening_c.specs.Packed.{HasRoom, packed_table_lem};
 
 mod answer;
@@ -131,6 +132,8 @@ pub extern "C" fn opening_convert(sheet: &[u8], out: &mut [u8]) -> u64
     ensures outcome { Leaves (B.packed_left (converting sheet.now out.old)) result out.new }
     ensures refusals { AnswersInto (read_as_max_lem sheet.now) (converts sheet.now out.old) out.old (told result)
         out.new }
+    ensures former { RefusesFormer sheet.now (told result) }
+    ensures converted { WritesConverted sheet.now (in_place_lem out.old) (told result) out.new }
     ensures unused { shifted result 40 ≡ 0 }
 {
     packed_written(opening::convert_sheet(sheet, out))
