@@ -30,15 +30,15 @@ use Rattle.conversion.proofs.AsMax.{fix_front}
 pub fix_length : (l : List ℕ) → is_fix_lem l ≡ true → length l ≡ 3 + length (drop 3 l)
 fix_length l e = ap length (fix_front l e) ∙ length-append (ascii "fix") (drop 3 l)
 
-pub length-as_max : (l : List ℕ) → length (as_max l) ≡ length l
-length-as_max l =
+pub length_as_max : (l : List ℕ) → length (as_max l) ≡ length l
+length_as_max l =
     elim (either (is_fix_lem l)) [
       | inl e ↦ rw e (length-append (ascii "max") (drop 3 l) ∙ sym (fix_length l e))
       | inr e ↦ rw e
     ]
 
-pub length-doubled : (l : List ℕ) → is_fix_lem l ≡ true → length (doubled l) ≡ length l + length l
-length-doubled l e =
+pub length_doubled : (l : List ℕ) → is_fix_lem l ≡ true → length (doubled l) ≡ length l + length l
+length_doubled l e =
     rw e
     (omega (
       arith,
@@ -55,7 +55,7 @@ length-lines (l ∷ ls) =
       arith,
       length-append (as_max l) (lines (map as_max ls)),
       length-append l (lines ls),
-      length-as_max l,
+      length_as_max l,
       length-lines ls,
     )
 

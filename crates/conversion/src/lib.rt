@@ -85,6 +85,7 @@ fn push_with_kind(page: &mut Page<ROOM>, kind: &[u8], row: &[u8])
 }
 
 // A line as today's reader is given it.
+#[tactic(auto, using(crate::proofs::Length::fix_length, crate::proofs::Length::length_as_max))]
 fn push_as_max(page: &mut Page<ROOM>, line: &[u8])
     requires { length page.old + length (as_max line.now) ≤ longest }
     ensures { page.new ≡ page.old ++ as_max line.now }
@@ -97,6 +98,7 @@ fn push_as_max(page: &mut Page<ROOM>, line: &[u8])
 }
 
 // A line as the converter writes it.
+#[tactic(auto, using(crate::proofs::Length::fix_length, crate::proofs::Length::length_doubled))]
 fn push_doubled(page: &mut Page<ROOM>, line: &[u8])
     requires { length page.old + length (doubled line.now) ≤ longest }
     ensures { page.new ≡ page.old ++ doubled line.now }
