@@ -1,0 +1,6 @@
+-- There is room for each signal that is left. Assumes nothing.
+use Rattle.std.proofs.Common.{◌+◌, ◌≤◌, length}
+use Rattle.trials.proofs.due.heard.Given as goal
+
+abbrev pub invariant-loop-p : goal.invariant-loop-p
+invariant-loop-p l = length l.history + l.p ≤ 4
