@@ -35,6 +35,7 @@ pub mod Words
 pub mod OnPages
 pub mod PrintedVerdict
 pub mod Printing
+pub mod FirstBytes
 pub mod Benched
 pub mod Demands
 pub mod Trials
