@@ -8,13 +8,13 @@ abbrev pub opened_remaining : {R E : Type 0} → (R → Option (List ℕ)) → R
 opened_remaining remaining (Ok file) = remaining file
 opened_remaining remaining (Err e) = Some []
 
--- a reader gave its first bytes, as many as there is room for
+-- of a reader that had `old`, n bytes were read into the memory: the first that it had, as many as there is room for
+abbrev pub Fills : ℕ → Option (List ℕ) → ℕ → List ℕ → Type 0
+Fills room old n memory = IfSome old (λ bytes. take n memory ≡ take room bytes)
+
+-- and it has those behind them left
 abbrev pub GivesFirst : ℕ → Option (List ℕ) → Option (List ℕ) → Type 0
 GivesFirst room old new = IfSome old (λ bytes. new ≡ Some (drop room bytes))
-
--- and these are the first n in the memory
-abbrev pub Fills : Option (List ℕ) → ℕ → List ℕ → Type 0
-Fills old n memory = IfSome old (λ bytes. take n memory ≡ take (length memory) bytes)
 
 -- all of a text was written, or where a write failed, as many of its first bytes as were written before
 abbrev pub Prints : {E : Type 0} → Option (List ℕ) → Option (List ℕ) → Result (Unit {0}) E → List ℕ → Type 0

@@ -16,7 +16,7 @@ pub fn read_full<R: Read>(input: &mut R, buf: &mut [u8]) -> io::Result<usize>
     ensures counted { IfOk result (λ n. IsPrefixLen n buf.new) }
     ensures bytes { IfOk result (λ n. Consumes (R.remaining input.old) (R.remaining input.new) (take n buf.new)) }
     ensures end { IfOk result (λ n. n < length buf.old → IsAtEnd (R.remaining input.new)) }
-    ensures whole { IfOk result (λ n. Fills (R.remaining input.old) n buf.new) }
+    ensures whole { IfOk result (λ n. Fills (length buf.old) (R.remaining input.old) n buf.new) }
     ensures rest { OnOk result (GivesFirst (length buf.old) (R.remaining input.old) (R.remaining input.new)) }
     ensures failed { OnErr result ((n : ℕ) × (n ≤ length buf.new)
         × Consumes (R.remaining input.old) (R.remaining input.new) (take n buf.new)) }
@@ -53,7 +53,7 @@ pub fn write_full<W: Write>(output: &mut W, text: &[u8]) -> io::Result<()>
 // Reads a file that was to be opened into buf, as far as there is room; one that can't be opened counts as empty.
 pub fn read_opened<R: Read>(opened: &mut io::Result<R>, buf: &mut [u8]) -> io::Result<usize>
     ensures counted { IfOk result (λ n. IsPrefixLen n buf.new) }
-    ensures whole { IfOk result (λ n. Fills (opened_remaining R.remaining opened.old) n buf.new) }
+    ensures whole { IfOk result (λ n. Fills (length buf.old) (opened_remaining R.remaining opened.old) n buf.new) }
     ensures rest { OnOk result (GivesFirst (length buf.old) (opened_remaining R.remaining opened.old)
         (opened_remaining R.remaining opened.new)) }
     ensures absent { IsErr opened.old → result ≡ Ok 0 }

@@ -1,4 +1,7 @@
 // The base: what is read of a sheet, and the verdict on a table that is handed in, with its listing.
+ghost use Rattle.std.specs.Prelude.{◌≤◌, IfOk, IfSome};
+ghost use Rattle.calls.specs.Values.{number_values};
+
 use calls::Counts;
 use refusal::Refusal;
 use std::fmt::Display;
@@ -16,6 +19,35 @@ pub fn print_brief<T: Display + Copy>(
             let line = refusal.line;
             print!(rt; "r{number}.{line}")
         }
+    }
+}
+
+// How much a call wrote into memory that has this room. A refusal is printed behind the word.
+pub fn count(
+    rt: &impl Print,
+    word: &str,
+    written: Result<usize, Refusal>,
+    room: usize,
+) -> io::Result<Option<usize>>
+    requires { (number_values written).value ≤ room }
+    ensures { IfOk result (λ counted. IfSome counted (λ n. n ≤ room)) }
+{
+    match written {
+        Ok(n) => Ok(Some(n)),
+        Err(refusal) => {
+            println!(rt; "{word}{refusal}")?;
+            Ok(None)
+        }
+    }
+}
+
+// The listing of a table, or the refusal.
+pub fn list(rt: &impl Print, sheet: &[u8], table: &[u16]) -> io::Result<()> {
+    let mut page = [0u8; opening::LISTING_BYTES];
+    let listed = opening::write_listing(sheet, table, &mut page);
+    match count(rt, "listed ", listed, page.len())? {
+        Some(n) => rt.write_all(&page[..n]),
+        None => Ok(()),
     }
 }
 
@@ -63,7 +95,10 @@ fn verdict(rt: &impl Print, sheet: &[u8], bytes: &[u8], table: &[u16]) -> io::Re
         let line = answer / 256;
         return println!(rt; "refused {number} line {line}");
     }
-    report::judge(rt, sheet, table)
+    match opening::judge_table(sheet, table) {
+        Ok(verdict) => println!(rt; "{verdict}"),
+        Err(refusal) => println!(rt; "{refusal}"),
+    }
 }
 
 // The verdict on a table, and its listing; the bytes are those that it is handed in as, or none where it was read from
@@ -71,5 +106,5 @@ fn verdict(rt: &impl Print, sheet: &[u8], bytes: &[u8], table: &[u16]) -> io::Re
 pub fn judge(rt: &impl Print, sheet: &[u8], bytes: &[u8], table: &[u16]) -> io::Result<()> {
     print!(rt; "judged ")?;
     verdict(rt, sheet, bytes, table)?;
-    report::print_listing(rt, "listed ", sheet, table)
+    list(rt, sheet, table)
 }
