@@ -36,6 +36,7 @@ pub mod Words
 pub mod OnPages
 pub mod PrintedVerdict
 pub mod Printing
+pub mod FirstBytes
 pub mod Benched
 pub mod Labels
 pub mod Demands

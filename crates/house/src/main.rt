@@ -3,13 +3,6 @@
 
 use std::io;
 
-// One byte more than the longest sheet shows that a sheet is too long; no form is longer than a sheet may be.
 fn main(rt: HostRuntime) -> io::Result<()> {
-    let mut sheet = [0u8; opening::SHEET_BYTES + 1];
-    let mut page = [0u8; opening::SHEET_BYTES];
-    let n = files::read_full(&mut rt.stdin(), &mut sheet)?;
-    match report::house(&rt, "", &sheet[..n], &mut page)? {
-        Some(bytes) => rt.write_all(&page[..bytes]),
-        None => Ok(()),
-    }
+    report::house(&mut rt.stdin(), &mut rt.stdout())
 }

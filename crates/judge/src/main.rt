@@ -2,17 +2,10 @@
 // table of the listing, or `refused N line L`.
 #![tactic(auto)]
 
-use std::io;
+use std::{fs, io};
 
-// One byte more than the longest sheet or listing shows that a file is too long.
 fn main(rt: HostRuntime) -> io::Result<()> {
-    let mut sheet = [0u8; opening::SHEET_BYTES + 1];
-    let mut printed = [0u8; opening::PRINTED_BYTES + 1];
-    let mut table = [0u16; opening::TABLE_MINUTES];
-    let n = files::read(&rt, "sheet.csv", &mut sheet)?;
-    let k = files::read(&rt, "listing.csv", &mut printed)?;
-    match report::recover(&rt, "", &sheet[..n], &printed[..k], &mut table)? {
-        Some(minutes) => report::judge(&rt, &sheet[..n], &table[..minutes]),
-        None => Ok(()),
-    }
+    let mut sheet_file = fs::open(&rt, "sheet.csv");
+    let mut listing_file = fs::open(&rt, "listing.csv");
+    report::judge(&mut sheet_file, &mut listing_file, &mut rt.stdout())
 }

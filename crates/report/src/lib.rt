@@ -1,111 +1,164 @@
-// What the programs print alike, and the calls as they use them: a refusal is printed, and the part of the
-// lent memory that was written is counted. A write that fails ends what is printed, and its error is handed on.
+// The programs, each from what it reads to what it prints. A program's `main` says only where that comes from and goes
+// to. A read or a write that fails ends a program, and its error is handed on.
 #![tactic(auto)]
 
-ghost use Rattle.std.specs.Prelude.{◌≡◌, IfOk, IfSome, OnErr, IsErr};
-ghost use Rattle.std.specs.Counts.{IsPrefixLen};
-ghost use Rattle.std.specs.Result.{result_ok};
+ghost use Rattle.std.specs.Prelude.{ℕ, ◌≤◌, IfSome, length, replicate};
+ghost use Rattle.calls.specs.Values.{number_values, turned_away};
+ghost use Rattle.calls.specs.Bench.{judgement_values};
+ghost use Rattle.listing.specs.Most.{most_listing};
+ghost use Rattle.calls.specs.Table.{refused_text, or_refused, verdict_text, listing_on};
+ghost use Rattle.calls.specs.Table.{table_text, form_text, converted_text, judge_text};
+ghost use Rattle.files.specs.Whole.{opened_remaining, Prints};
+ghost use Rattle.report.specs.Run.{left, IsRead, ReadsFirst};
 
+mod print;
+
+use checker::Verdict;
 use refusal::Refusal;
 use std::io;
+use std::io::{Read, Write};
+
+// One byte more than the longest sheet or listing shows that one is too long.
+const SHEET_ROOM: usize = opening::SHEET_BYTES + 1;
+
+const LISTING_ROOM: usize = opening::PRINTED_BYTES + 1;
+
+// `refused N line L`
+fn print_refusal<W: Write>(output: &mut W, refusal: Refusal) -> io::Result<()>
+    ensures { Prints (W.contents output.old) (W.contents output.new) result (refused_text (turned_away 0 refusal)) }
+{
+    print::line(output, refusal)
+}
 
 // The verdict on a table, or the refusal.
-pub fn judge(rt: &impl Print, sheet: &[u8], table: &[u16]) -> io::Result<()> {
-    match opening::judge_table(sheet, table) {
-        Ok(verdict) => println!(rt; "{verdict}"),
-        Err(refusal) => println!(rt; "{refusal}"),
+fn print_verdict<W: Write>(output: &mut W, judged: Result<Verdict, Refusal>) -> io::Result<()>
+    ensures { Prints (W.contents output.old) (W.contents output.new) result (verdict_text (judgement_values judged)) }
+{
+    match judged {
+        Ok(verdict) => print::line(output, verdict),
+        Err(refusal) => print_refusal(output, refusal),
     }
 }
 
-// How much was written. A refusal is printed behind the word.
-fn count(rt: &impl Print, word: &str, written: Result<usize, Refusal>) -> io::Result<Option<usize>>
-    ensures ok { IfOk result (λ counted. counted ≡ result_ok written) }
-    ensures err { OnErr result (IsErr written) }
+// What a call has written on a page, or its refusal.
+fn print_written<W: Write>(
+    output: &mut W,
+    written: Result<usize, Refusal>,
+    page: &[u8],
+) -> io::Result<()>
+    requires { (number_values written).value ≤ length page.now }
+    ensures { Prints (W.contents output.old) (W.contents output.new) result
+        (or_refused (left written page.now) (λ text. text)) }
 {
     match written {
-        Ok(n) => Ok(Some(n)),
-        Err(refusal) => {
-            println!(rt; "{word}{refusal}")?;
-            Ok(None)
-        }
+        Ok(n) => files::write_full(output, &page[..n]),
+        Err(refusal) => print_refusal(output, refusal),
     }
 }
 
-// The five calls that write have one shape here, and none takes the call as a closure: each ties what it counts to the
-// memory that it lent.
-
-// The least good table: its minutes. Where there is none, or the sheet is refused, that is printed behind the word.
-pub fn solve(
-    rt: &impl Print,
-    word: &str,
-    sheet: &[u8],
-    table: &mut [u16],
-) -> io::Result<Option<usize>>
-    ensures ok { IfOk result (λ counted. IfSome counted (λ n. IsPrefixLen n table.new)) }
-    ensures err { OnErr result (table.new ≡ table.old) }
+// The listing of a table. No listing is longer than the page.
+fn print_listing<W: Write>(output: &mut W, sheet: &[u8], table: &[u16]) -> io::Result<()>
+    ensures { Prints (W.contents output.old) (W.contents output.new) result
+        (listing_on (replicate most_listing 0) sheet.now table.now) }
 {
-    count(rt, word, opening::solve_sheet(sheet, table))
-}
-
-// The table of a listing, in the same way: its minutes.
-pub fn recover(
-    rt: &impl Print,
-    word: &str,
-    sheet: &[u8],
-    printed: &[u8],
-    table: &mut [u16],
-) -> io::Result<Option<usize>>
-    ensures ok { IfOk result (λ counted. IfSome counted (λ n. IsPrefixLen n table.new)) }
-    ensures err { OnErr result (table.new ≡ table.old) }
-{
-    count(rt, word, opening::read_listing(sheet, printed, table))
-}
-
-// The house form, in the same way: its bytes.
-pub fn house(
-    rt: &impl Print,
-    word: &str,
-    sheet: &[u8],
-    page: &mut [u8],
-) -> io::Result<Option<usize>>
-    ensures ok { IfOk result (λ counted. IfSome counted (λ n. IsPrefixLen n page.new)) }
-    ensures err { OnErr result (page.new ≡ page.old) }
-{
-    count(rt, word, opening::write_house(sheet, page))
-}
-
-// The converted sheet, in the same way: its bytes.
-pub fn convert(
-    rt: &impl Print,
-    word: &str,
-    sheet: &[u8],
-    page: &mut [u8],
-) -> io::Result<Option<usize>>
-    ensures ok { IfOk result (λ counted. IfSome counted (λ n. IsPrefixLen n page.new)) }
-    ensures err { OnErr result (page.new ≡ page.old) }
-{
-    count(rt, word, opening::convert_sheet(sheet, page))
-}
-
-// The listing, in the same way: its bytes.
-pub fn listing(
-    rt: &impl Print,
-    word: &str,
-    sheet: &[u8],
-    table: &[u16],
-    page: &mut [u8],
-) -> io::Result<Option<usize>>
-    ensures ok { IfOk result (λ counted. IfSome counted (λ n. IsPrefixLen n page.new)) }
-    ensures err { OnErr result (page.new ≡ page.old) }
-{
-    count(rt, word, opening::write_listing(sheet, table, page))
-}
-
-// The listing of a table, or the word and the refusal. No listing is longer than the page.
-pub fn print_listing(rt: &impl Print, word: &str, sheet: &[u8], table: &[u16]) -> io::Result<()> {
     let mut page = [0u8; opening::LISTING_BYTES];
-    match listing(rt, word, sheet, table, &mut page)? {
-        Some(n) => rt.write_all(&page[..n]),
-        None => Ok(()),
+    let written = opening::write_listing(sheet, table, &mut page);
+    print_written(output, written, &page)
+}
+
+// The listing of the least good table of a sheet.
+fn print_table<W: Write>(output: &mut W, sheet: &[u8]) -> io::Result<()>
+    ensures { Prints (W.contents output.old) (W.contents output.new) result (table_text sheet.now) }
+{
+    let mut table = [0u16; opening::TABLE_MINUTES];
+    match opening::solve_sheet(sheet, &mut table) {
+        Ok(minutes) => print_listing(output, sheet, &table[..minutes]),
+        Err(refusal) => print_refusal(output, refusal),
     }
+}
+
+// The house form of a sheet. No form is longer than a sheet may be.
+fn print_form<W: Write>(output: &mut W, sheet: &[u8]) -> io::Result<()>
+    ensures { Prints (W.contents output.old) (W.contents output.new) result (form_text sheet.now) }
+{
+    let mut page = [0u8; opening::SHEET_BYTES];
+    let written = opening::write_house(sheet, &mut page);
+    print_written(output, written, &page)
+}
+
+// A former sheet, converted. No converted sheet is longer than a sheet may be.
+fn print_converted<W: Write>(output: &mut W, sheet: &[u8]) -> io::Result<()>
+    ensures { Prints (W.contents output.old) (W.contents output.new) result (converted_text sheet.now) }
+{
+    let mut page = [0u8; opening::SHEET_BYTES];
+    let written = opening::convert_sheet(sheet, &mut page);
+    print_written(output, written, &page)
+}
+
+// The verdict on the table of a listing.
+fn print_judgement<W: Write>(output: &mut W, sheet: &[u8], printed: &[u8]) -> io::Result<()>
+    ensures { Prints (W.contents output.old) (W.contents output.new) result (judge_text sheet.now printed.now) }
+{
+    let mut table = [0u16; opening::TABLE_MINUTES];
+    match opening::read_listing(sheet, printed, &mut table) {
+        Ok(minutes) => print_verdict(output, opening::judge_table(sheet, &table[..minutes])),
+        Err(refusal) => print_refusal(output, refusal),
+    }
+}
+
+// Reads a sheet and prints the listing of its least good table, or `refused N line L`.
+pub fn table<R: Read, W: Write>(input: &mut R, output: &mut W) -> io::Result<()>
+    ensures text { IfSome (R.remaining input.old) (λ sheet.
+        Prints (W.contents output.old) (W.contents output.new) result (table_text sheet)) }
+    ensures order { ReadsFirst (W.contents output.old) (W.contents output.new) result
+        (IsRead (R.remaining input.old) (R.remaining input.new)) }
+{
+    let mut sheet = [0u8; SHEET_ROOM];
+    let n = files::read_full(input, &mut sheet)?;
+    print_table(output, &sheet[..n])
+}
+
+// Reads a sheet and prints it in its house form, or `refused N line L`.
+pub fn house<R: Read, W: Write>(input: &mut R, output: &mut W) -> io::Result<()>
+    ensures text { IfSome (R.remaining input.old) (λ sheet.
+        Prints (W.contents output.old) (W.contents output.new) result (form_text sheet)) }
+    ensures order { ReadsFirst (W.contents output.old) (W.contents output.new) result
+        (IsRead (R.remaining input.old) (R.remaining input.new)) }
+{
+    let mut sheet = [0u8; SHEET_ROOM];
+    let n = files::read_full(input, &mut sheet)?;
+    print_form(output, &sheet[..n])
+}
+
+// Reads a former sheet and prints it with a `max` and a `min` row in the place of each `fix`, or `refused N line L`.
+pub fn convert<R: Read, W: Write>(input: &mut R, output: &mut W) -> io::Result<()>
+    ensures text { IfSome (R.remaining input.old) (λ sheet.
+        Prints (W.contents output.old) (W.contents output.new) result (converted_text sheet)) }
+    ensures order { ReadsFirst (W.contents output.old) (W.contents output.new) result
+        (IsRead (R.remaining input.old) (R.remaining input.new)) }
+{
+    let mut sheet = [0u8; SHEET_ROOM];
+    let n = files::read_full(input, &mut sheet)?;
+    print_converted(output, &sheet[..n])
+}
+
+// Reads a sheet and a listing, and prints the verdict on the table of the listing, or `refused N line L`. A file that
+// can't be opened counts as empty.
+pub fn judge<S: Read, L: Read, W: Write>(
+    sheet_file: &mut io::Result<S>,
+    listing_file: &mut io::Result<L>,
+    output: &mut W,
+) -> io::Result<()>
+    ensures text { IfSome (opened_remaining S.remaining sheet_file.old) (λ sheet.
+        IfSome (opened_remaining L.remaining listing_file.old) (λ printed.
+        Prints (W.contents output.old) (W.contents output.new) result (judge_text sheet printed))) }
+    ensures order { ReadsFirst (W.contents output.old) (W.contents output.new) result
+        (IsRead (opened_remaining S.remaining sheet_file.old) (opened_remaining S.remaining sheet_file.new)
+        × IsRead (opened_remaining L.remaining listing_file.old) (opened_remaining L.remaining listing_file.new)) }
+{
+    let mut sheet = [0u8; SHEET_ROOM];
+    let mut printed = [0u8; LISTING_ROOM];
+    let n = files::read_opened(sheet_file, &mut sheet)?;
+    let k = files::read_opened(listing_file, &mut printed)?;
+    print_judgement(output, &sheet[..n], &printed[..k])
 }

@@ -11,9 +11,12 @@ pub fn again(rt: &impl Print, sheet: &[u8], table: &[u16]) -> io::Result<()> {
     let mut page = [0u8; opening::LISTING_BYTES];
     let mut next = [0u8; opening::LISTING_BYTES];
     let mut read = [0u16; opening::TABLE_MINUTES];
-    let k = report::listing(rt, "listed ", sheet, table, &mut page)?.unwrap_or(0);
-    let n = report::recover(rt, "returned ", sheet, &page[..k], &mut read)?.unwrap_or(0);
-    let j = report::listing(rt, "listed ", sheet, &read[..n], &mut next)?.unwrap_or(0);
+    let listed = opening::write_listing(sheet, table, &mut page);
+    let k = base::count(rt, "listed ", listed, page.len())?.unwrap_or(0);
+    let returned = opening::read_listing(sheet, &page[..k], &mut read);
+    let n = base::count(rt, "returned ", returned, read.len())?.unwrap_or(0);
+    let again = opening::write_listing(sheet, &read[..n], &mut next);
+    let j = base::count(rt, "listed ", again, next.len())?.unwrap_or(0);
     if page[..k] == next[..j] {
         println!(rt; "returned same")
     } else {
@@ -33,7 +36,8 @@ fn fill_short(rt: &impl Print, sheet: &[u8], printed: &[u8], n: usize) -> io::Re
 // The table of a listing that is handed in.
 pub fn tell(rt: &impl Print, sheet: &[u8], printed: &[u8]) -> io::Result<()> {
     let mut table = [0u16; opening::TABLE_MINUTES];
-    match report::recover(rt, "returned ", sheet, printed, &mut table)? {
+    let returned = opening::read_listing(sheet, printed, &mut table);
+    match base::count(rt, "returned ", returned, table.len())? {
         Some(n) => {
             print!(rt; "returned {n}")?;
             fill_short(rt, sheet, printed, n)?;

@@ -1,4 +1,7 @@
 // The base: what is read of a sheet, and the verdict on a table that is handed in, with its listing.
+ghost use Rattle.std.specs.Prelude.{◌≤◌, IfOk, IfSome};
+ghost use Rattle.calls.specs.Values.{number_values};
+
 use calls::Counts;
 use refusal::Refusal;
 use std::fmt::Display;
@@ -16,6 +19,35 @@ pub fn print_brief<T: Display + Copy>(
             let line = refusal.line;
             print!(rt; "r{number}.{line}")
         }
+    }
+}
+
+// How much a call wrote into memory that has this room. A refusal is printed behind the word.
+pub fn count(
+    rt: &impl Print,
+    word: &str,
+    written: Result<usize, Refusal>,
+    room: usize,
+) -> io::Result<Option<usize>>
+    requires { (number_values written).value ≤ room }
+    ensures { IfOk result (λ counted. IfSome counted (λ n. n ≤ room)) }
+{
+    match written {
+        Ok(n) => Ok(Some(n)),
+        Err(refusal) => {
+            println!(rt; "{word}{refusal}")?;
+            Ok(None)
+        }
+    }
+}
+
+// The listing of a table, or the refusal.
+pub fn list(rt: &impl Print, sheet: &[u8], table: &[u16]) -> io::Result<()> {
+    let mut page = [0u8; opening::LISTING_BYTES];
+    let listed = opening::write_listing(sheet, table, &mut page);
+    match count(rt, "listed ", listed, page.len())? {
+        Some(n) => rt.write_all(&page[..n]),
+        None => Ok(()),
     }
 }
 
@@ -53,20 +85,24 @@ pub fn read(rt: &impl Print, sheet: &[u8]) -> io::Result<()> {
     }
 }
 
-// The verdict. Half a minute behind the table can be told of bytes alone, by which C hands a table in: no minutes come of
-// them, which is no sheet's table.
-fn verdict(rt: &impl Print, sheet: &[u8], bytes: &[u8], table: &[u16]) -> io::Result<()> {
-    if bytes.len() % 2 == 1 {
-        let handed = pairs::table_of::<{ opening::TABLE_MINUTES }>(bytes);
-        return report::judge(rt, sheet, handed.as_slice());
+// The verdict, or the refusal.
+fn verdict(rt: &impl Print, sheet: &[u8], table: &[u16]) -> io::Result<()> {
+    match opening::judge_table(sheet, table) {
+        Ok(verdict) => println!(rt; "{verdict}"),
+        Err(refusal) => println!(rt; "{refusal}"),
     }
-    report::judge(rt, sheet, table)
 }
 
 // The verdict on a table, and its listing; the bytes are those that it is handed in as, or none where it was read from
-// a listing.
+// a listing. Half a minute behind the table can be told of bytes alone, as C hands a table in: no minutes come of
+// them, which is no sheet's table.
 pub fn judge(rt: &impl Print, sheet: &[u8], bytes: &[u8], table: &[u16]) -> io::Result<()> {
     print!(rt; "judged ")?;
-    verdict(rt, sheet, bytes, table)?;
-    report::print_listing(rt, "listed ", sheet, table)
+    if bytes.is_empty() {
+        verdict(rt, sheet, table)?;
+    } else {
+        let handed = pairs::table_of::<{ opening::TABLE_MINUTES }>(bytes);
+        verdict(rt, sheet, handed.as_slice())?;
+    }
+    list(rt, sheet, table)
 }

@@ -8,7 +8,8 @@ use std::io;
 // Whether a second pass changes no byte. A call that refuses says so, and then nothing was written.
 fn print_again(rt: &impl Print, converted: &[u8]) -> io::Result<()> {
     let mut page = [0u8; opening::SHEET_BYTES];
-    let n = report::convert(rt, "again ", converted, &mut page)?.unwrap_or(0);
+    let again = opening::convert_sheet(converted, &mut page);
+    let n = base::count(rt, "again ", again, page.len())?.unwrap_or(0);
     base::print_again(rt, &page[..n], converted)
 }
 

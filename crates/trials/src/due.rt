@@ -178,7 +178,7 @@ impl<'a> Asked<'a> {
         let mut played = [NOT_YET; opening::TABLE_MINUTES];
         self.play_cases(rt, &mut played[..n])?;
         print!(rt; "played ")?;
-        report::print_listing(rt, "listed ", self.accepted.sheet, &played[..n])
+        base::list(rt, self.accepted.sheet, &played[..n])
     }
 
     // Twelve lists: in which letters stand twice or are undefined, and bytes that are no letters; and the network's

@@ -11,7 +11,8 @@ pub type Form = [u8; opening::SHEET_BYTES];
 // Whether the form is its own form. A call that refuses says so, and then nothing was written.
 fn print_again(rt: &impl Print, form: &[u8]) -> io::Result<()> {
     let mut page = [0u8; opening::SHEET_BYTES];
-    let n = report::house(rt, "again ", form, &mut page)?.unwrap_or(0);
+    let again = opening::write_house(form, &mut page);
+    let n = base::count(rt, "again ", again, page.len())?.unwrap_or(0);
     base::print_again(rt, &page[..n], form)
 }
 
@@ -27,7 +28,8 @@ fn fill_short(rt: &impl Print, sheet: &[u8], n: usize) -> io::Result<()>
 // Takes the page of the last form before this sheet's, and leaves that of the last behind it.
 pub fn tell(rt: &impl Print, sheet: &[u8], last: &mut Form) -> io::Result<()> {
     let mut page = [0u8; opening::SHEET_BYTES];
-    match report::house(rt, "house ", sheet, &mut page)? {
+    let written = opening::write_house(sheet, &mut page);
+    match base::count(rt, "house ", written, page.len())? {
         Some(n) => {
             if page == *last {
                 println!(rt; "house as before")?;

@@ -77,7 +77,8 @@ fn former(
 ) -> io::Result<()> {
     base::read(rt, sheet)?;
     let mut page = [0u8; opening::SHEET_BYTES];
-    match report::convert(rt, "converted ", sheet, &mut page)? {
+    let converted = opening::convert_sheet(sheet, &mut page);
+    match base::count(rt, "converted ", converted, page.len())? {
         Some(n) => {
             let converted = &page[..n];
             convert::tell(rt, sheet, converted)?;

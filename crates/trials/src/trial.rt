@@ -15,10 +15,11 @@ fn handed_in(rt: &impl Print, sheet: &[u8], bytes: &[u8]) -> io::Result<()> {
 fn solved(rt: &impl Print, accepted: &Accepted) -> io::Result<()> {
     let sheet = accepted.sheet;
     let mut minutes = [0u16; opening::TABLE_MINUTES];
-    match report::solve(rt, "solved ", sheet, &mut minutes)? {
+    let solved = opening::solve_sheet(sheet, &mut minutes);
+    match base::count(rt, "solved ", solved, minutes.len())? {
         Some(n) => {
             let table = &minutes[..n];
-            report::print_listing(rt, "listed ", sheet, table)?;
+            base::list(rt, sheet, table)?;
             back::again(rt, sheet, table)?;
             let asked = Asked { accepted, table };
             asked.play(rt)?;

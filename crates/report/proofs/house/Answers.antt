@@ -1,17 +1,9 @@
--- `house` counts a part of the page, or hands on an error and leaves the page. Assumes nothing.
-use Rattle.calls.proofs.Counted.{housed-counted}
-use Rattle.calls.proofs.Numbers.{numbers}
-use Rattle.report.proofs.Answered.{part, untouched}
+use Rattle.calls.specs.Table.{form_text}
+use Rattle.calls.proofs.FirstBytes.{form_first}
+use Rattle.report.proofs.Told.{told}
 use Rattle.report.proofs.house.Goals as goal
 
-pub returns-clause-ok : goal.returns-clause-ok
-returns-clause-ok g c =
-    let written = c.write_house in
-    part written.result written.new.out c.count.result c.count.ensures.ok
-    (housed-counted c.args.sheet.now c.args.page.now written.ensures.outcome)
-
-pub returns-clause-err : goal.returns-clause-err
-returns-clause-err g c =
-    let written = c.write_house in
-    untouched written.result written.new.out c.count.result c.count.ensures.err written.ensures.outcome
-    (numbers.house_writer c.args.sheet.now c.args.page.now).keeps
+pub returns-clause-text : goal.returns-clause-text
+returns-clause-text g c =
+    told _ _ _ form_text form_first (g.R.Read.remaining c.args.input.now) c.in_ok-n.n c.read_full.new.buf
+    c.in_ok-n.ensures.whole c.print_form.ensures

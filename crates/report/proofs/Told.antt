@@ -1,0 +1,52 @@
+-- What is printed of the bytes that were read is what is to be printed of all that the reader had: a longer text is told
+-- by its first bytes. And what is printed of a call's answer is what is to be printed of the call. Assumes nothing.
+use Rattle.std.proofs.Common.{◌≡◌, ◌∙◌, ap, subst, ℕ, suc, List, take, Option, None, Some, IfSome, Result, Ok, Err, IsErr, sym, false, refl}
+use Rattle.std.proofs.KnownBytes.{Appends-nil}
+use Rattle.prelude.proofs.Tests.{clash}
+use Rattle.sheet.specs.Reading.{longest}
+use Rattle.files.specs.Whole.{Fills, Prints}
+use Rattle.calls.specs.Values.{OrRefusal}
+use Rattle.calls.specs.Call.{Left, Leaves}
+use Rattle.calls.specs.Table.{or_refused, judge_text}
+use Rattle.calls.proofs.FirstBytes.{first, judge_first}
+use Rattle.report.specs.Run.{left}
+
+as_left : {l : Left (OrRefusal ℕ)} {w : OrRefusal ℕ} {m : List ℕ} → Leaves l w m → left w m ≡ l
+as_left leaves = rw (leaves.answer, leaves.memory)
+
+-- a call that has written goes on with that
+pub goes_on : {l : Left (OrRefusal ℕ)} {w : OrRefusal ℕ} {m : List ℕ} (n : ℕ) (next : List ℕ → List ℕ) → Leaves l w m
+    → w ≡ Ok n → or_refused l next ≡ next (take n m)
+goes_on {l} {w} {m} n next leaves is =
+    ap (λ k. or_refused k next) (sym (as_left leaves)) ∙ ap (λ v. or_refused (left v m) next) is
+
+-- where reading failed, nothing is printed, whatever the reader had
+pub nothing_printed : {E : Type 0} (before : Option (List ℕ)) (r : Result (Unit {0}) E) → IsErr r → (text : List ℕ)
+    → Prints before before r text
+nothing_printed before (Ok x) failed text = clash false failed refl
+nothing_printed before (Err e) failed text = (0, Appends-nil before)
+
+pub whatever : {P : List ℕ → Type 0} (had : Option (List ℕ)) → ((s : List ℕ) → P s) → IfSome had P
+whatever None holds = tt
+whatever (Some s) holds = holds s
+
+module _ {E : Type 0} (before after : Option (List ℕ)) (r : Result (Unit {0}) E) where
+  pub told : (text : List ℕ → List ℕ) → ((s : List ℕ) → text (first s) ≡ text s)
+      → (had : Option (List ℕ)) (n : ℕ) (memory : List ℕ) → Fills (suc longest) had n memory
+      → Prints before after r (text (take n memory)) → IfSome had (λ s. Prints before after r (text s))
+  told text by_first None n memory fills prints = tt
+  told text by_first (Some s) n memory fills prints =
+      subst (Prints before after r) (ap text fills ∙ by_first s) prints
+
+  pub both_told : (had had' : Option (List ℕ)) (n n' : ℕ) (memory memory' : List ℕ)
+      → Fills (suc longest) had n memory → Fills (suc longest) had' n' memory'
+      → Prints before after r (judge_text (take n memory) (take n' memory'))
+      → IfSome had (λ s. IfSome had' (λ p. Prints before after r (judge_text s p)))
+  both_told None had' n n' memory memory' fills fills' prints = tt
+  both_told (Some s) None n n' memory memory' fills fills' prints = tt
+  both_told (Some s) (Some p) n n' memory memory' fills fills' prints =
+      subst (Prints before after r)
+      (ap (λ x. judge_text x (take n' memory')) fills
+      ∙ ap (judge_text (first s)) fills'
+      ∙ judge_first s p)
+      prints

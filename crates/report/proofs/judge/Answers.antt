@@ -1,0 +1,17 @@
+use Rattle.files.specs.Whole.{opened_remaining}
+use Rattle.calls.specs.Table.{judge_text}
+use Rattle.report.proofs.Told.{both_told, nothing_printed, whatever}
+use Rattle.report.proofs.judge.Goals as goal
+
+pub returns-in_err-k-clause-text : goal.returns-in_err-k-clause-text
+returns-in_err-k-clause-text g c =
+    let failed = c.from_residual-in_err-k.ensures.0 in
+    whatever (opened_remaining g.S.Read.remaining c.args.sheet_file.now)
+    (λ s. whatever (opened_remaining g.L.Read.remaining c.args.listing_file.now)
+    (λ p. nothing_printed _ _ failed (judge_text s p)))
+
+pub returns-clause-text : goal.returns-clause-text
+returns-clause-text g c =
+    both_told _ _ _ (opened_remaining g.S.Read.remaining c.args.sheet_file.now)
+    (opened_remaining g.L.Read.remaining c.args.listing_file.now) c.in_ok-n.n c.in_ok-k.k c.read_opened.new.buf
+    c.read_opened-2.new.buf c.in_ok-n.ensures.whole c.in_ok-k.ensures.whole c.print_judgement.ensures

@@ -1,0 +1,19 @@
+-- What a program does, from what it reads to what it prints.
+use Rattle.std.specs.Prelude.{◌⊎◌, List, ℕ, suc, Option, Result, OnErr}
+use Rattle.std.specs.Io.KnownBytes.{Keeps}
+use Rattle.sheet.specs.Reading.{longest}
+use Rattle.calls.specs.Values.{OrRefusal}
+use Rattle.calls.specs.Call.{Left}
+use Rattle.files.specs.Whole.{GivesFirst}
+
+-- what a call answered, and the memory that it left
+abbrev pub left : OrRefusal ℕ → List ℕ → Left (OrRefusal ℕ)
+left answer memory = record { answer = answer; memory = memory }
+
+-- of what a reader had, all was read that tells whether it is too long
+abbrev pub IsRead : Option (List ℕ) → Option (List ℕ) → Type 0
+IsRead old new = GivesFirst (suc longest) old new
+
+-- where the program failed, nothing was written, or all had been read before
+abbrev pub ReadsFirst : {E : Type 0} → Option (List ℕ) → Option (List ℕ) → Result (Unit {0}) E → Type 0 → Type 0
+ReadsFirst old new r read = OnErr r (Keeps old new ⊎ read)
