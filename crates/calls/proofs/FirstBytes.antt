@@ -27,7 +27,7 @@ abbrev pub first : List ℕ → List ℕ
 first bytes = take (suc longest) bytes
 
 -- where all longer texts are told alike, their first bytes are told so too
-pub told_by_first : (told : List ℕ → List ℕ) (alike : List ℕ)
+told_by_first : (told : List ℕ → List ℕ) (alike : List ℕ)
     → ((s : List ℕ) → longest < length s → told s ≡ alike) → (s : List ℕ) → told (first s) ≡ told s
 told_by_first told alike longer s =
     elim (lt_or_ge longest (length s)) [

@@ -1,6 +1,6 @@
 -- What reading as far as there is room, and writing a whole text, do to the bytes that a reader has left and a writer
 -- holds, where those are known.
-use Rattle.std.specs.Prelude.{◌≡◌, List, [], ℕ, length, take, drop, Option, Some, Result, Ok, Err, IfSome, MatchResult}
+use Rattle.std.specs.Prelude.{◌≡◌, List, [], ℕ, take, drop, Option, Some, IfSome, Result, Ok, Err, MatchResult}
 use Rattle.std.specs.Io.KnownBytes.{Appends}
 
 -- the bytes that a file has left, and none where it could not be opened
@@ -17,5 +17,6 @@ abbrev pub GivesFirst : ℕ → Option (List ℕ) → Option (List ℕ) → Type
 GivesFirst room old new = IfSome old (λ bytes. new ≡ Some (drop room bytes))
 
 -- all of a text was written, or where a write failed, as many of its first bytes as were written before
-abbrev pub Prints : {E : Type 0} → Option (List ℕ) → Option (List ℕ) → Result (Unit {0}) E → List ℕ → Type 0
+abbrev pub Prints : {E : Type 0} → Option (List ℕ) → Option (List ℕ) → Result (Unit {0}) E → List ℕ
+    → Type 0
 Prints old new r text = MatchResult r (λ _. Appends old new text) (λ _. (n : ℕ) × Appends old new (take n text))

@@ -1,1 +1,1 @@
-pub mod Told
+mod Told

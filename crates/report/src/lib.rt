@@ -70,9 +70,9 @@ fn print_listing<W: Write>(output: &mut W, sheet: &[u8], table: &[u16]) -> io::R
 fn print_table<W: Write>(output: &mut W, sheet: &[u8]) -> io::Result<()>
     ensures { Prints (W.contents output.old) (W.contents output.new) result (table_text sheet.now) }
 {
-    let mut table = [0u16; opening::TABLE_MINUTES];
-    match opening::solve_sheet(sheet, &mut table) {
-        Ok(minutes) => print_listing(output, sheet, &table[..minutes]),
+    let mut solved = [0u16; opening::TABLE_MINUTES];
+    match opening::solve_sheet(sheet, &mut solved) {
+        Ok(minutes) => print_listing(output, sheet, &solved[..minutes]),
         Err(refusal) => print_refusal(output, refusal),
     }
 }
@@ -99,9 +99,9 @@ fn print_converted<W: Write>(output: &mut W, sheet: &[u8]) -> io::Result<()>
 fn print_judgement<W: Write>(output: &mut W, sheet: &[u8], printed: &[u8]) -> io::Result<()>
     ensures { Prints (W.contents output.old) (W.contents output.new) result (judge_text sheet.now printed.now) }
 {
-    let mut table = [0u16; opening::TABLE_MINUTES];
-    match opening::read_listing(sheet, printed, &mut table) {
-        Ok(minutes) => print_verdict(output, opening::judge_table(sheet, &table[..minutes])),
+    let mut listed = [0u16; opening::TABLE_MINUTES];
+    match opening::read_listing(sheet, printed, &mut listed) {
+        Ok(minutes) => print_verdict(output, opening::judge_table(sheet, &listed[..minutes])),
         Err(refusal) => print_refusal(output, refusal),
     }
 }

@@ -5,7 +5,8 @@ use Rattle.files.proofs.write_full.Given as goal
 
 abbrev pub invariant-loop-done : goal.invariant-loop-done
 invariant-loop-done g l =
-    (l.done ≤ length l.text) × Appends (g.W.Write.contents l.initial.output) (g.W.Write.contents l.output) (take l.done l.text)
+    let contents = g.W.Write.contents in
+    (l.done ≤ length l.text) × Appends (contents l.initial.output) (contents l.output) (take l.done l.text)
 
 abbrev pub decreases-loop-done : goal.decreases-loop-done
 decreases-loop-done g l = length l.text - l.done
