@@ -9,14 +9,12 @@ use borrow.Author.Tests.{eqb-true, eq-eqb, ne_eqb}
 use lib.Dec.{eqb}
 use lib.ListN.{length, take, drop, length-append}
 use lib.Seq.{take_at, length-take-le}
-use Rattle.std.specs.Prelude.{Ok}
 use Rattle.prelude.proofs.Tests.{eq_or_ne}
 use Rattle.pairs.specs.Pairs.{minutes_of, Short}
 use Rattle.pairs.proofs.Packing.{length-minutes_of}
 use Rattle.network.specs.Build.{cells}
 use Rattle.sheet.specs.Reading.{network_of, Accepts}
 use Rattle.sheet.proofs.WellFormed.{accepted_well_formed}
-use Rattle.checker.specs.declared.Verdict.{Verdict}
 use Rattle.dispatch.specs.Said.{due_on}
 use Rattle.dispatch.specs.HeardText.{said_text, due_text}
 use Rattle.dispatch.proofs.HeardText.{due-said-text}
@@ -24,11 +22,11 @@ use Rattle.calls.specs.Values.{number_values}
 use Rattle.calls.specs.Lent.{as_minutes, as_bytes}
 use Rattle.calls.specs.Calls.{judgement, listed}
 use Rattle.calls.specs.Play.{events_due_on_lem}
-use Rattle.calls.specs.Bench.{Small, verdict_values, bench_judgement, bench_listed, bench_due}
+use Rattle.calls.specs.Bench.{bench_judgement, bench_listed, bench_due}
 use Rattle.calls.proofs.Handed.{cells-few}
 use Rattle.calls.proofs.Alike.{Alike, judging-alike, listing-alike, playing-alike}
 use Rattle.calls.proofs.Play.{lettered}
-use Rattle.calls.proofs.Small.{judged_small, listing_small}
+use Rattle.calls.proofs.Small.{listing_small}
 use Rattle.opening.specs.Taken.{Taken}
 
 -- two tests of equality that say the same
@@ -60,9 +58,6 @@ module _ (b : List ℕ) (n : ℕ) (x : List ℕ) (taken : Taken b n x) where
 
     pub taken_judged : judgement sheet front ≡ bench_judgement sheet b
     taken_judged = judging-alike sheet (as_minutes front) (as_bytes b) of_sheet
-
-    pub front_small : (v : Verdict) → judgement sheet front ≡ Ok v → Small (verdict_values v)
-    front_small v e = judged_small sheet (as_minutes front) v e
 
     pub taken_listed : (m : List ℕ) → listed sheet front m ≡ bench_listed sheet b m
     taken_listed = listing-alike sheet (as_minutes front) (as_bytes b) of_sheet

@@ -1,13 +1,13 @@
 -- `opening::bench::opening_judge` meets its contract: the table that was taken over is judged as its bytes are. Assumes
 -- nothing.
-use mathlib.Core.Path.{◌≡◌, sym, ◌∙◌, ap}
+use mathlib.Core.Path.{◌≡◌, ◌∙◌, ap}
 use Prim.Native.Nat.{ℕ}
 use native.Mathlib.Omega.{arith}
 use Rattle.std.specs.Prelude.{Ok, Err, MatchResult, IsOkAnd}
 use Rattle.checker.specs.declared.Verdict.{Verdict}
 use Rattle.calls.specs.Values.{OrRefusal, done, number_values}
 use Rattle.calls.specs.Bench.{verdict_values, packed_count_lem, packed, judgement_values}
-use Rattle.opening.proofs.Taken.{front_small, taken_judged}
+use Rattle.opening.proofs.Taken.{taken_judged}
 use Rattle.opening.proofs.bench.opening_judge.Goals as goal
 
 -- a verdict's word, as the verdict
@@ -18,10 +18,6 @@ worded : (judged : OrRefusal Verdict) (answer : OrRefusal ℕ)
 worded (Ok v) (Ok x) h = h
 worded (Ok v) (Err r) h = absurd h
 worded (Err r) answer h = rw h (omega arith)
-
-pub map-requires : goal.map-requires
-map-requires c =
-    λ v e. front_small _ _ _ c.take-count.ensures _ _ (sym c.judge_table.ensures ∙ e)
 
 pub returns : goal.returns
 returns c =
