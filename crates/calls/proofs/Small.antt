@@ -9,7 +9,6 @@ use native.Mathlib.Omega.{arith}
 use lib.Pow.{pow_mono}
 use Rattle.std.specs.Prelude.{Ok, Err, Result}
 use Rattle.prelude.specs.Checks.{Hold}
-use Rattle.prelude.proofs.Tests.{zero-is-one}
 use Rattle.pairs.specs.Pairs.{Short}
 use Rattle.refusal.specs.declared.Refusal.{Refusal}
 use Rattle.network.specs.Build.{scenarios, cells}
@@ -43,7 +42,7 @@ use Rattle.canonical.proofs.Again.{form-short}
 use Rattle.calls.specs.Values.{OrRefusal, Values, turned_away, number_values}
 use Rattle.calls.specs.Call.{Tests, call, Left}
 use Rattle.calls.specs.Lent.{Handed, Lent, in_place_lem}
-use Rattle.calls.specs.Calls.{judging_tests, judging, writing, refusing, solving_tests, solving_into}
+use Rattle.calls.specs.Calls.{writing, refusing, solving_tests, solving_into}
 use Rattle.calls.specs.Calls.{listing_tests, listing_of, house_tests, housed, convert_tests, converting}
 use Rattle.calls.specs.Play.{events_of, playing_tests, playing}
 use Rattle.calls.specs.Recover.{recovered_in, recovering_tests, recovering_into}
@@ -97,16 +96,6 @@ count l = number_values l.answer
 module _ (sheet : List ℕ) where
   abbrev net : Network
   net = network_of sheet
-
-  pub judged_small : (t : Handed) (v : Verdict) → judging sheet t ≡ Ok v → Small (verdict_values v)
-  judged_small t v q = by_end (ends Err sheet (judging_tests t) (λ Γ. Ok (verdict Γ t.minutes)))
-    where
-      by_end : Ends Err sheet (judging_tests t) (λ Γ. Ok (verdict Γ t.minutes)) → Small (verdict_values v)
-      by_end (faulty r p e) = let z : Err r ≡ Ok v = e ∙ q in zero-is-one cc
-      by_end (failed a r f e) = let z : Err r ≡ Ok v = e ∙ q in zero-is-one cc
-      by_end (worked a h e) =
-          let same : verdict net t.minutes ≡ v = let z = e ∙ q in cc in
-          rw (← same) (verdict_small net t.minutes (accepted_well_formed sheet a).0)
 
   pub solving_small : (m : Lent) → (count (solving_into sheet m)).value < 65536
   solving_small m =

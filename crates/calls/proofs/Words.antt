@@ -9,12 +9,10 @@ use native.Mathlib.Omega.{arith}
 use borrow.Author.Tests.{ne_eqb}
 use lib.ListN.{get_or}
 use Rattle.std.specs.Prelude.{Ok, Err}
-use Rattle.std.specs.Fmt as F
-use Rattle.std.proofs.lemmas.Fmt.{decimal_by_steps}
 use Rattle.prelude.specs.Bytes.{ascii, same}
 use Rattle.text.specs.Lines.{line_feed}
 use Rattle.text.specs.Decimal.{decimal}
-use Rattle.text.proofs.Decimal.{decimal_digit, decimal-more}
+use Rattle.text.proofs.Displayed.{displayed}
 use Rattle.refusal.specs.Refusal.{number_of, refusal}
 use Rattle.refusal.specs.Printed as R
 use Rattle.refusal.specs.declared.Refusal.{Refusal}
@@ -42,12 +40,6 @@ pub words-agree
     && (prints (Err (refusal OtherForm 1)) "refused 18 line 1"
     && prints (Err (refusal NoMinute 17)) "refused 19 line 17"))))) ≡ true
 words-agree = refl
-
--- a number as `Display` writes it
-displayed : (n : ℕ) → n < 2 ^ 64 → F.decimal n ≡ decimal n
-displayed =
-    decimal_by_steps (λ m ds. ds ≡ decimal m) (λ m l. sym (decimal_digit m l))
-    (λ m ds l h. rw h (sym (decimal-more m l)))
 
 few : (c : Cause) → number_of c < 2 ^ 64
 few c = grind arith

@@ -78,9 +78,11 @@ impl<'a> Known<'a> {
         ensures { result ≡ option_of (late_in self.now.strategy.formed.now.network self.now.strategy.table.now
             self.now.scenario) }
     {
-        let scenario = self.scenario;
-        let late = (0..self.strategy.formed.network.events).find(|&u| !self.in_place(u));
-        late.map(|event| Breach::Late { scenario, event })
+        let event = (0..self.strategy.formed.network.events).find(|&u| !self.in_place(u))?;
+        Some(Breach::Late {
+            scenario: self.scenario as u8,
+            event: event as u8,
+        })
     }
 
     // From when on the scenario is told apart from r: the first that is known of the propositions on which they differ.

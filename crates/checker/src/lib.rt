@@ -6,6 +6,7 @@ ghost use Rattle.checker.specs.Verdict.{verdict};
 
 use network::times::Strategy;
 use std::fmt;
+use text::digits::Spelled;
 
 mod known;
 mod search;
@@ -13,21 +14,12 @@ mod search;
 // Point 1: over the horizon, or an origin that is not at 0, or sooner than the signals of the event's label allow; or
 // a time where the event does not happen, or none where it does. Point 2: a constraint that covers the scenario and
 // does not hold in it. Point 3: an event that two scenarios have at two times, before anything that differs is known.
+// Scenarios, events and constraints are fewer than 256.
 #[derive(Clone, Copy, PartialEq, Eq)]
 pub enum Breach {
-    Late {
-        scenario: usize,
-        event: usize,
-    },
-    Rule {
-        scenario: usize,
-        constraint: usize,
-    },
-    Unheard {
-        scenario: usize,
-        other: usize,
-        event: usize,
-    },
+    Late { scenario: u8, event: u8 },
+    Rule { scenario: u8, constraint: u8 },
+    Unheard { scenario: u8, other: u8, event: u8 },
 }
 
 // The judge's answer on a table. Either is an answer and none an error, so it is no Result; and a pass is told and
@@ -47,16 +39,26 @@ impl fmt::Display for Breach {
 
     fn fmt<W: fmt::Write>(&self, f: &mut fmt::Formatter<W>) -> fmt::Result {
         match *self {
-            Breach::Late { scenario, event } => write!(f, "late {scenario} {event}"),
+            Breach::Late { scenario, event } => {
+                let (s, u) = (Spelled::from(scenario), Spelled::from(event));
+                write!(f, "late {s} {u}")
+            }
             Breach::Rule {
                 scenario,
                 constraint,
-            } => write!(f, "rule {scenario} {constraint}"),
+            } => {
+                let (s, c) = (Spelled::from(scenario), Spelled::from(constraint));
+                write!(f, "rule {s} {c}")
+            }
             Breach::Unheard {
                 scenario,
                 other,
                 event,
-            } => write!(f, "unheard {scenario} {other} {event}"),
+            } => {
+                let (s, r) = (Spelled::from(scenario), Spelled::from(other));
+                let u = Spelled::from(event);
+                write!(f, "unheard {s} {r} {u}")
+            }
         }
     }
 }

@@ -35,10 +35,10 @@ fn first_broken_in(strategy: &Strategy, s: usize) -> Option<Breach>
     requires { s < scenarios strategy.now.formed.now.network }
     ensures { result ≡ option_of (broken_in strategy.now.formed.now.network strategy.now.table.now s) }
 {
-    let broken = (0..strategy.formed.network.rules).find(|&c| !keeps(strategy, s, c));
-    broken.map(|c| Breach::Rule {
-        scenario: s,
-        constraint: c,
+    let c = (0..strategy.formed.network.rules).find(|&c| !keeps(strategy, s, c))?;
+    Some(Breach::Rule {
+        scenario: s as u8,
+        constraint: c as u8,
     })
 }
 
@@ -80,9 +80,9 @@ fn first_unheard(strategy: &Strategy) -> Option<Breach>
             for u in 0..strategy.formed.network.events {
                 if !known.alike(r, told, u) {
                     found = Some(Breach::Unheard {
-                        scenario: s,
-                        other: r,
-                        event: u,
+                        scenario: s as u8,
+                        other: r as u8,
+                        event: u as u8,
                     });
                     break 'unheard;
                 }

@@ -9,7 +9,6 @@ use native.Mathlib.Omega.{arith}
 use borrow.Author.Tests.{eqb-true, eq-eqb, ne_eqb, leb-true, le-leb}
 use lib.Dec.{eqb, leb}
 use lib.ListN.{length}
-use Rattle.std.specs.Prelude.{Ok}
 use Rattle.prelude.proofs.Tests.{eq_or_ne, and-true, zero-is-one}
 use Rattle.pairs.specs.Pairs.{minutes_of, is_table, table_of_lem, Short}
 use Rattle.pairs.proofs.Packing.{length-minutes_of}
@@ -17,7 +16,6 @@ use Rattle.network.specs.Limits as L
 use Rattle.network.specs.Build.{cells}
 use Rattle.sheet.specs.Reading.{network_of, Accepts}
 use Rattle.sheet.proofs.WellFormed.{accepted_well_formed}
-use Rattle.checker.specs.declared.Verdict.{Verdict}
 use Rattle.dispatch.specs.Said.{due_on}
 use Rattle.dispatch.specs.HeardText.{said_text, due_text}
 use Rattle.dispatch.proofs.HeardText.{due-said-text}
@@ -25,11 +23,11 @@ use Rattle.calls.specs.Values.{number_values}
 use Rattle.calls.specs.Lent.{as_minutes, as_bytes}
 use Rattle.calls.specs.Calls.{judgement, listed}
 use Rattle.calls.specs.Play.{events_due_on_lem}
-use Rattle.calls.specs.Bench.{Small, verdict_values, bench_judgement, bench_listed, bench_due}
+use Rattle.calls.specs.Bench.{bench_judgement, bench_listed, bench_due}
 use Rattle.calls.proofs.Handed.{cells-few, cells-some}
 use Rattle.calls.proofs.Alike.{Alike, judging-alike, listing-alike, playing-alike}
 use Rattle.calls.proofs.Play.{lettered}
-use Rattle.calls.proofs.Small.{judged_small, listing_small}
+use Rattle.calls.proofs.Small.{listing_small}
 
 -- two tests of equality that say the same
 eqb_iff : (a b c d : ℕ) → (a ≡ b) ↔ (c ≡ d) → eqb a b ≡ eqb c d
@@ -89,9 +87,6 @@ module _ (b : List ℕ) where
 
     pub taken_judged : judgement sheet table ≡ bench_judgement sheet b
     taken_judged = judging-alike sheet (as_minutes table) (as_bytes b) of_sheet
-
-    pub table_small : (v : Verdict) → judgement sheet table ≡ Ok v → Small (verdict_values v)
-    table_small v e = judged_small sheet (as_minutes table) v e
 
     pub taken_listed : (m : List ℕ) → listed sheet table m ≡ bench_listed sheet b m
     taken_listed = listing-alike sheet (as_minutes table) (as_bytes b) of_sheet

@@ -25,28 +25,27 @@ pub(crate) fn packed(answer: Result<u32, Refusal>) -> u64
     }
 }
 
-// A verdict's word with its three values, as what an answer tells. Cases, events and rules are fewer than 256.
+// A verdict's word with its three values, as what an answer tells.
 pub(crate) fn word(verdict: Verdict) -> u32
-    requires { B.Small (B.verdict_values verdict) }
     ensures { B.packed_count_lem (done result) ≡ B.packed (B.verdict_values verdict) }
 {
     match verdict {
         Verdict::Pass => 0,
         Verdict::Breach(Breach::Late { scenario, event }) => {
-            u32::from_le_bytes([1, scenario as u8, event as u8, 0])
+            u32::from_le_bytes([1, scenario, event, 0])
         }
         Verdict::Breach(
             Breach::Rule {
                 scenario,
                 constraint,
             },
-        ) => u32::from_le_bytes([2, scenario as u8, constraint as u8, 0]),
+        ) => u32::from_le_bytes([2, scenario, constraint, 0]),
         Verdict::Breach(
             Breach::Unheard {
                 scenario,
                 other,
                 event,
             },
-        ) => u32::from_le_bytes([3, scenario as u8, other as u8, event as u8]),
+        ) => u32::from_le_bytes([3, scenario, other, event]),
     }
 }

@@ -2,14 +2,17 @@
 use mathlib.Core.Path.{◌≡◌, refl, sym, ◌∙◌}
 use mathlib.Core.Bool.{Bool, true, false, not}
 use mathlib.Core.Option.{Option}
-use Prim.Native.Nat.{ℕ, zero, suc}
+use Prim.Native.Nat.{ℕ, zero, suc, ◌<◌}
 use native.Mathlib.Numerals.{add-one}
+use native.Mathlib.Omega.{arith}
 use Rattle.std.specs.Prelude.{cond, Some, Option as Answer}
 use Rattle.std.specs.Option.{option_map}
 use Rattle.std.specs.List.{range_with_len, find}
 use Rattle.std.proofs.lemmas.Iterator.Adapters.{option_map_id}
 use Rattle.prelude.specs.Search.{or_else, first_from, first_below, when, unless}
 use Rattle.prelude.specs.Options.{option_of}
+use Rattle.prelude.proofs.Options.{option_of-some}
+use Rattle.prelude.proofs.Search.{some_of_first_below, when-some}
 
 -- the test of the first number, and the search in those behind it
 module _ {A : Type 0} (a : A) where
@@ -24,6 +27,13 @@ find-after f a (suc n) = found-here a (f a) _ (rw add-one (find-after f (suc a) 
 
 pub find-range : (f : ℕ → Bool) (n : ℕ) → find f (range_with_len 0 n) ≡ option_of (first_below n (λ k. when (f k) k))
 find-range f n = find-after f 0 n
+
+-- what is found is one of those numbers
+pub find-below : (f : ℕ → Bool) (n k : ℕ) → find f (range_with_len 0 n) ≡ Some k → k < n
+find-below f n k e =
+    let search = first_below n (λ i. when (f i) i) in
+    let w = some_of_first_below (λ i. when (f i) i) n k (option_of-some search k (sym (find-range f n) ∙ e)) in
+    omega (arith, w.index_lt, (when-some (f w.index) w.index k w.answer).1)
 
 -- the same of what the code's `find` answers
 pub find-answers : (f : ℕ → Bool) (n : ℕ) (r : Answer ℕ) → option_map (λ x. x) r ≡ find f (range_with_len 0 n)

@@ -5,6 +5,7 @@ ghost use Rattle.std.specs.Prelude.{◌≡◌};
 ghost use Rattle.refusal.specs.Refusal.{number_of, refusal};
 
 use std::fmt;
+use text::digits::Spelled;
 
 // The refusals of document 01, in its checking order, and those of document 02 behind them.
 #[derive(Clone, Copy, PartialEq, Eq)]
@@ -94,8 +95,8 @@ impl fmt::Display for Refusal {
     ghost output = { λ r. Some (refused_text r) };
 
     fn fmt<W: fmt::Write>(&self, f: &mut fmt::Formatter<W>) -> fmt::Result {
-        let number = self.cause.number();
-        let line = self.line;
+        let number = Spelled::from(self.cause.number());
+        let line = Spelled(self.line);
         write!(f, "refused {number} line {line}")
     }
 }

@@ -1,9 +1,10 @@
 // Numbers as they are written, digit by digit.
-ghost use Rattle.std.specs.Prelude.{◌*◌, ◌≤◌, ◌<◌, length};
+ghost use Rattle.std.specs.Prelude.{◌≡◌, ◌*◌, ◌≤◌, ◌<◌, length};
 ghost use Rattle.text.specs.Spelled.{DigitsAre};
 ghost use Rattle.text.specs.Places.{CountedOff, PlacesAre, Placed};
 
 use counted::Counted;
+use std::{fmt, str};
 
 // The decimal digits of a number, of which there are at most five.
 pub type Digits = Counted<u8, 5>;
@@ -61,4 +62,32 @@ pub fn spell(v: u16) -> Digits
     // What the tens leave is below ten.
     digits.push(b'0' + ones as u8);
     digits
+}
+
+// A number that is printed by its digits, so that no printing divides.
+#[derive(Clone, Copy)]
+pub struct Spelled(pub u16);
+
+impl From<u8> for Spelled {
+    fn from(v: u8) -> Self
+        ensures { result.0 ≡ v }
+    {
+        Spelled(u16::from(v))
+    }
+}
+
+impl fmt::Display for Spelled {
+    ghost use Rattle.std.specs.Prelude.{Some};
+    ghost use Rattle.std.specs.Fmt.{decimal};
+
+    ghost output = { λ v. Some (decimal v.0) };
+
+    fn fmt<W: fmt::Write>(&self, f: &mut fmt::Formatter<W>) -> fmt::Result {
+        let digits = spell(self.0);
+        // Digits are ASCII.
+        let Ok(text) = str::from_utf8(digits.as_slice()) else {
+            unreachable!();
+        };
+        f.write_str(text)
+    }
 }

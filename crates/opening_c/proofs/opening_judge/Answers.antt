@@ -1,5 +1,5 @@
 -- `opening_judge` meets its contract: the table is judged as its bytes are. Assumes nothing.
-use mathlib.Core.Path.{◌≡◌, sym, ◌∙◌, ap}
+use mathlib.Core.Path.{◌≡◌, ◌∙◌, ap}
 use Prim.Native.Nat.{ℕ}
 use native.Mathlib.Omega.{arith}
 use Rattle.std.specs.Prelude.{Ok, Err, MatchResult, IsOkAnd}
@@ -14,7 +14,7 @@ use Rattle.calls.specs.Numbers.{bytes}
 use Rattle.calls.proofs.Benched.{benched}
 use Rattle.calls.proofs.Clauses.{judge-clauses}
 use Rattle.calls.proofs.Handed.{bytes_rightly}
-use Rattle.opening_c.proofs.Taken.{table_small, taken_judged}
+use Rattle.opening_c.proofs.Taken.{taken_judged}
 use Rattle.opening_c.proofs.opening_judge.Goals as goal
 
 -- a verdict's word, as the verdict
@@ -25,13 +25,6 @@ worded : (judged : OrRefusal Verdict) (answer : OrRefusal ℕ)
 worded (Ok v) (Ok x) h = h
 worded (Ok v) (Err r) h = absurd h
 worded (Err r) answer h = rw h (omega arith)
-
-pub map-requires : goal.map-requires
-map-requires c =
-    let handed = c.as_slice.ensures ∙ c.table_of-minutes.ensures in
-    λ v e.
-    table_small c.args.table.now c.args.sheet.now v
-    (sym (ap (judgement c.args.sheet.now) handed) ∙ sym c.judge_table.ensures.outcome ∙ e)
 
 pub returns : goal.returns
 returns c =
