@@ -15,6 +15,7 @@ use Rattle.network.proofs.Least.{SameEvents, same-events-back, no_later_of_same}
 use Rattle.sheet.specs.Reading.{network_of}
 use Rattle.sheet.proofs.Fault.{refused_iff}
 use Rattle.tighten.proofs.Agree.{same-events}
+use Rattle.layout.specs.Layout.{text_of}
 use Rattle.conversion.specs.FormerSheet.{FormerContents, FormerContains}
 use Rattle.conversion.specs.FormerTables.{FormerSolution, FormerLeast, FormerNone}
 use Rattle.conversion.specs.FormerRules.{read_as_max_lem}
@@ -26,6 +27,7 @@ use Rattle.conversion.proofs.ReadInto.{read_into}
 use Rattle.conversion.proofs.Given.{Given}
 use Rattle.conversion.proofs.Assembled.{converted-same}
 use Rattle.conversion.proofs.Bytes.{same_bytes}
+use Rattle.conversion.proofs.Text.{converted-text, becomes-is}
 use Rattle.conversion.proofs.Never.{never-retired, former-never-retired}
 use Rattle.conversion.proofs.Refused.{first-fix-refused}
 use Rattle.conversion.proofs.Unchanged.{read_as_max-without}
@@ -195,6 +197,9 @@ conversions = record {
   for_fix = λ sheet r f e none. never-retired sheet none r f e;
   never = never;
   written = written;
+  contents = λ sheet t Γ c.
+      let g = known c.reads in
+      c.text ∙ converted-text g ∙ ap text_of (becomes-is g);
   accepted = accepted;
   good = λ sheet t Γ Δ c r. (alike sheet t Γ Δ c r).good;
   least = λ sheet t Γ Δ c r. least c.reads.layout.contents Γ Δ (alike sheet t Γ Δ c r);

@@ -10,12 +10,13 @@ use Rattle.network.specs.Least.{Least, Inconsistent}
 use Rattle.network.specs.declared.Network.{Network}
 use Rattle.sheet.specs.Reading.{network_of, Accepts}
 use Rattle.sheet.specs.Fault.{Fault}
+use Rattle.layout.specs.Layout.{text_of}
 use Rattle.conversion.specs.FormerSheet.{FormerLayout, FormerContains, FirstFix}
 use Rattle.conversion.specs.FormerTables.{FormerSolution, FormerLeast, FormerNone}
 use Rattle.conversion.specs.Rows.{fixes}
 use Rattle.conversion.specs.FormerRules.{read_as_max_lem, heading_line}
 use Rattle.conversion.specs.FormerFault.{FormerFault}
-use Rattle.conversion.specs.Converted.{resulting, converted, SameBytes}
+use Rattle.conversion.specs.Converted.{resulting, converted, converted_contents, SameBytes}
 use Rattle.calls.specs.Values.{Values, turned_away, number_values}
 use Rattle.calls.specs.Lent.{Lent, in_place_lem}
 use Rattle.calls.specs.Calls.{converting}
@@ -74,6 +75,9 @@ pub record Converting : Type 0 where
   -- where there is room the converted sheet is written, and everything behind it is unaltered
   pub written : (sheet m t : List ℕ) (Γ : Network) → Conversion sheet Γ t → length t ≤ length m
       → WroteText t m (converting sheet m)
+  -- it is the text of what the former sheet contains, with a `max` and a `min` rule in the place of each `fix`
+  pub contents : (sheet t : List ℕ) (Γ : Network) (c : Conversion sheet Γ t)
+      → t ≡ text_of (converted_contents c.reads.layout.contents)
   -- today's reader accepts it
   pub accepted : (sheet t : List ℕ) (Γ : Network) → Conversion sheet Γ t → (Δ : Network) × Reads t Δ
   -- and its good tables are the former sheet's: so it has the same least table, or none

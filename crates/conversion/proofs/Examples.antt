@@ -1,18 +1,24 @@
--- Lines that are `fix` rows and lines that are not, and former sheets with what they become: one table each, which one
--- theorem each covers by computation. Assumes nothing.
+-- Lines that are `fix` rows and lines that are not, former sheets with what they become, and rows with the numbers by
+-- which the former rules refuse them: one table each, which one theorem each covers by computation. Assumes nothing.
 use mathlib.Core.Path.{◌≡◌, refl}
 use mathlib.Core.Bool.{Bool, true, not, ◌&&◌}
 use mathlib.Core.List.{List, [], ◌∷◌, ◌++◌}
+use mathlib.Core.Option.{none, some}
+use Prim.Native.Nat.{ℕ}
 use Prim.Native.String.{String}
+use lib.Dec.{eqb}
 use Rattle.prelude.specs.Bytes.{same}
+use Rattle.prelude.specs.Checks.{first_failing_lem}
 use Rattle.text.specs.Number.{is_number, in_range}
+use Rattle.refusal.specs.Refusal.{number_of}
 use Rattle.line.specs.Tests.{section_tests, event_tests, signal_tests, kind_tests, ends_tests, rule_tests, letter_tests}
 use Rattle.line.specs.Tests.{reaction_tests, placed_tests, label_tests}
 use Rattle.line.specs.Labelling.{whole_tests}
 use Rattle.sheet.specs.Reading.{progress, network_of}
-use Rattle.sheet.proofs.ExampleSheets.{lines, hour, two, none}
+use Rattle.sheet.proofs.ExampleSheets.{lines, hour, two, none as no_signal}
 use Rattle.conversion.specs.Rows.{is_fix_lem}
 use Rattle.conversion.specs.FormerRules.{read_as_max_lem}
+use Rattle.conversion.specs.FormerFault.{former_tests}
 use Rattle.conversion.specs.Converted.{converted}
 
 -- those that are `fix` rows, whatever stands behind the kind
@@ -47,7 +53,7 @@ example s t = record { sheet = s; becomes = t }
 
 -- two events and no signal, and then these lines
 abbrev plain : List String → List String
-plain rules = hour ++ (two ++ (none ++ rules))
+plain rules = hour ++ (two ++ (no_signal ++ rules))
 
 -- an event that is named as the kind, a signal, and then these lines
 abbrev named : List String → List String
@@ -81,3 +87,33 @@ pub examples_become : all_become examples ≡ true
 unfolding is_number in_range section_tests event_tests signal_tests kind_tests ends_tests rule_tests letter_tests
     reaction_tests placed_tests label_tests whole_tests progress is_fix_lem read_as_max_lem converted
 examples_become = refl
+
+-- a row, and the number by which former rules refuse it where it is the only rule of a plain sheet; 0 where they don't
+record Row : Type 0 where
+  row : String
+  number : ℕ
+
+abbrev refused : String → ℕ → Row
+refused l n = record { row = l; number = n }
+
+abbrev former_rows : List Row
+former_rows =
+    refused "fix,start,door,20,-" 0 ∷ refused "max,start,door,20,-" 0 ∷ refused "fix,start,door,20" 3
+    ∷ refused "fox,start,door,20,-" 3 ∷ refused "fix,start,door,020,-" 4 ∷ refused "fix,start,door,10081,-" 5
+    ∷ refused "fix,Start,door,20,-" 6 ∷ refused "fix,start,gate,20,-" 8 ∷ refused "fix,start,door,20,p" 8 ∷ []
+
+-- the row stands on line 6, counted from 0, and a good `fix` row above it on line 7
+abbrev number_at : List String → ℕ → ℕ
+number_at rules k =
+    elim (first_failing_lem (former_tests (lines (plain rules)) k)) [ none ↦ 0 | some c ↦ number_of c ]
+
+abbrev all_refused : List Row → Bool
+all_refused [] = true
+all_refused (r ∷ rs) =
+    eqb (number_at ("rules,1" ∷ r.row ∷ []) 6) r.number
+    && (eqb (number_at ("rules,2" ∷ "fix,door,start,0,-" ∷ r.row ∷ []) 7) r.number && all_refused rs)
+
+pub rows-refused : all_refused former_rows ≡ true
+unfolding is_number in_range section_tests event_tests signal_tests kind_tests ends_tests rule_tests letter_tests
+    reaction_tests placed_tests label_tests whole_tests
+rows-refused = refl

@@ -6,7 +6,9 @@ use Rattle.text.specs.Decimal.{decimal}
 use Rattle.text.specs.Lines.{line}
 use Rattle.network.specs.declared.Kind.TheVariants.{Max, Min}
 use Rattle.network.specs.declared.Network.{Network}
+use Rattle.layout.specs.Contents.{RuleOf, Rule, Contents}
 use Rattle.layout.specs.Layout.{lines}
+use Rattle.conversion.specs.FormerSheet.{FormerKind, Today, Fix, FormerContents, with_today, with_rules}
 use Rattle.conversion.specs.Rows.{lines_of, is_fix_lem, fixes_in, fixes, with_kind}
 use Rattle.conversion.specs.FormerRules.{heading_line}
 
@@ -29,6 +31,21 @@ module _ (sheet : List ℕ) (Γ : Network) where
       lines (take (heading_line Γ) (lines_of sheet))
       ++ heading resulting
       ++ lines (map doubled (drop (suc (heading_line Γ)) (lines_of sheet)))
+
+-- so the converted sheet contains what the former one does, with a `max` and a `min` rule in the place of each `fix`
+abbrev pub rules_for : RuleOf FormerKind → List Rule
+rules_for x =
+    elim x.kind [
+      | Today k ↦ with_today k x ∷ []
+      | Fix ↦ with_today Max x ∷ with_today Min x ∷ []
+    ]
+
+abbrev pub all_rules_for : List (RuleOf FormerKind) → List Rule
+all_rules_for [] = []
+all_rules_for (x ∷ xs) = rules_for x ++ all_rules_for xs
+
+abbrev pub converted_contents : FormerContents → Contents
+converted_contents c = with_rules c (all_rules_for c.rules)
 
 -- t is the sheet with other bytes in the places of the count and of the `fix` rows only. The sheet has these lines:
 -- some above the rules, their heading, as many rows as there are rules, and some behind them; and only rows are `fix`

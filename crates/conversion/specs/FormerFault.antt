@@ -20,7 +20,7 @@ module _ (sheet : List ℕ) where
   former_tests_at (Entry Rules m) Γ at = line_tests (drop at sheet) (rule_tests_by sheet Γ former_kind_tests)
   former_tests_at d Γ at = tests_at sheet d Γ at
 
-  -- what is expected on a line and what is defined there does not depend on the kinds of the rules above
+  -- of line k. Its place is told as for every sheet: no test asks which kinds the rules above have
   abbrev pub former_tests : ℕ → Tests
   former_tests k = let p = place sheet k in former_tests_at p.expected p.network p.at
 

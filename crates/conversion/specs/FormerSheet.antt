@@ -34,8 +34,11 @@ abbrev pub held_kind : FormerKind → Kind
 held_kind (Today k) = k
 held_kind Fix = Max
 
+abbrev pub with_today : Kind → RuleOf FormerKind → Rule
+with_today k x = record { kind = k; from = x.from; to = x.to; limit = x.limit; label = x.label }
+
 abbrev pub held_rule : RuleOf FormerKind → Rule
-held_rule x = record { kind = held_kind x.kind; from = x.from; to = x.to; limit = x.limit; label = x.label }
+held_rule x = with_today (held_kind x.kind) x
 
 -- contents with other rules, maybe of other kinds
 abbrev pub with_rules : {K J : Type 0} → ContentsOf K → List (RuleOf J) → ContentsOf J

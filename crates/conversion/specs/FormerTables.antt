@@ -1,5 +1,5 @@
--- The good tables of a former sheet, of which c is what it contains and Γ a network that holds this: points 1 and 3 are
--- those of every sheet, and point 2 asks of each rule what its kind says.
+-- The good tables of a former sheet, of which c is what it contains and Γ a network that holds this: when events come,
+-- and what tells cases apart, is asked as of every sheet; and of each rule what its kind says.
 use Rattle.std.specs.Prelude.{◌≡◌, true, List, ℕ, suc, ◌+◌, ◌<◌, ℤ, pos, negsuc, length}
 use Rattle.network.specs.Build.{constraint, scenarios, cells}
 use Rattle.network.specs.Constraint.{admits, covers}
@@ -20,7 +20,7 @@ FormerAdmits (Today k) a b w = admits k a b w ≡ true
 FormerAdmits Fix a b w = Equals a b w
 
 module _ (c : FormerContents) (Γ : Network) where
-  -- point 2, for one rule and case: it holds in the cases that it covers
+  -- rule i holds in case s, if it covers that
   abbrev pub FormerHolds : List ℕ → ℕ → ℕ → Type 0
   FormerHolds σ s i =
       let e = constraint Γ i in
