@@ -8,7 +8,7 @@ use Rattle.std.specs.Prelude.{Option, Some, None, MatchOption}
 use Rattle.std.specs.Option.{option_eq}
 use Rattle.prelude.proofs.Bytes.{same_true}
 use Rattle.prelude.proofs.Tests.{false_of_not-true}
-use Rattle.line.specs.Sections.{spelled}
+use Rattle.line.specs.Words.{spelled}
 use Rattle.line.specs.contracts.heading.WordPartialEq.TheImpl.{eq-value}
 use Rattle.line.specs.declared.Section.TheVariants.{Events, Signals, Rules, Reactions, Cases}
 use Rattle.line.specs.declared.heading.Word.{Word}

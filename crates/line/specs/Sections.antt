@@ -19,8 +19,6 @@ use Rattle.line.specs.Tests.{label_tests, second_number, event_of, kind_of, sign
 use Rattle.line.specs.Labelling.{whole_tests}
 use Rattle.line.specs.declared.Section.{Section}
 use Rattle.line.specs.declared.Section.TheVariants.{Events, Signals, Rules, Reactions, Cases}
-use Rattle.line.specs.declared.heading.Word.{Word}
-use Rattle.line.specs.declared.heading.Word.TheVariants as W
 use Rattle.line.specs.declared.entry.Entry.{Entry}
 use Rattle.line.specs.declared.entry.Entry.TheVariants as E
 
@@ -41,11 +39,6 @@ heading_of_lem n Cases = record { word = "cases"; least = 0; most = n }
 -- the first line of the sheet is written like one
 abbrev pub horizon_heading : Heading
 horizon_heading = record { word = "horizon"; least = 0; most = L.horizon }
-
--- how a section's word is written, on a sheet of any number of events
-abbrev pub spelled : Word → String
-spelled W.Horizon = horizon_heading.word
-spelled (W.Section s) = (heading_of_lem 0 s).word
 
 abbrev pub heading_tests : Heading → List (List ℕ) → Tests
 heading_tests h = section_tests (ascii h.word) h.least h.most

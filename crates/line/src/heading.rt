@@ -2,7 +2,8 @@
 ghost use Rattle.std.specs.Prelude.{◌≡◌, ◌≢◌, ◌≤◌, MatchOption};
 ghost use Rattle.prelude.specs.Bytes.{ascii};
 ghost use Rattle.network.specs.Limits as L;
-ghost use Rattle.line.specs.Sections.{heading_of_lem, spelled};
+ghost use Rattle.line.specs.Sections.{heading_of_lem};
+ghost use Rattle.line.specs.Words.{spelled};
 ghost use Rattle.line.specs.declared.heading.Word.{Word};
 ghost use Rattle.line.specs.Answers.{section_by, section_at, heading_at};
 

@@ -6,19 +6,6 @@ use Rattle.network.specs.declared.Kind.TheVariants.{Max}
 use Rattle.network.specs.declared.Label.{Label}
 use Rattle.network.specs.declared.Constraint.{Constraint}
 use Rattle.network.specs.declared.Network.{Network}
-use Rattle.network.specs.declared.Limits.{Limits}
-
--- document 01's numbers, as the code's struct
-abbrev pub limits : Limits
-limits = record {
-  horizon = L.horizon;
-  events = L.events;
-  signals = L.signals;
-  rules = L.rules;
-  fastest = L.fastest;
-  slowest = L.slowest;
-  blank = L.blank;
-}
 
 -- the label `-`, which asks for nothing
 abbrev pub no_label : Label

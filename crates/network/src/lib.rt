@@ -6,7 +6,7 @@ ghost use Rattle.std.specs.Prelude.{◌≡◌, ◌+◌, ◌≤◌, ◌<◌, leng
 ghost use Rattle.network.specs.Limits as L;
 ghost use Rattle.network.specs.Scenario as S;
 ghost use Rattle.network.specs.Happens as E;
-ghost use Rattle.network.specs.Build.{limits, empty, name_of_lem};
+ghost use Rattle.network.specs.Build.{empty, name_of_lem};
 ghost use Rattle.network.specs.WellFormed.{InLimits, FewLetters};
 ghost use Rattle.network.specs.Biased as B;
 ghost use Rattle.network.specs.Joint.{join, joint_of};
@@ -94,18 +94,6 @@ pub struct Network {
     pub labelled: [bool; Network::EVENTS],
 }
 
-// The most of each that a network holds, the range of reactions, and what a cell without its event holds.
-#[derive(Clone, Copy, PartialEq, Eq)]
-pub struct Limits {
-    pub horizon: u16,
-    pub events: usize,
-    pub signals: usize,
-    pub rules: usize,
-    pub fastest: u16,
-    pub slowest: u16,
-    pub blank: u16,
-}
-
 impl Network {
     // The limits of document 01: the latest minute, and the most events, signals and rules.
     pub const HORIZON: u16 = 10080;
@@ -132,21 +120,6 @@ impl Network {
     pub const CASES: usize = 1 << Self::SIGNALS;
 
     pub const CELLS: usize = Self::EVENTS * Self::CASES;
-
-    // The constants are document 01's numbers.
-    pub fn limits() -> Limits
-        ensures { result ≡ limits }
-    {
-        Limits {
-            horizon: Self::HORIZON,
-            events: Self::EVENTS,
-            signals: Self::SIGNALS,
-            rules: Self::RULES,
-            fastest: Self::FASTEST,
-            slowest: Self::SLOWEST,
-            blank: Self::BLANK,
-        }
-    }
 
     // A horizon, and nothing else yet.
     pub fn empty(horizon: u16) -> Self

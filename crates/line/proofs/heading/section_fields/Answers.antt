@@ -6,7 +6,7 @@ use lib.ListN.{length}
 use Rattle.prelude.specs.Bytes.{ascii, same}
 use Rattle.text.specs.Lines.{fields}
 use Rattle.refusal.specs.declared.Cause.TheVariants as C
-use Rattle.line.specs.Sections.{spelled}
+use Rattle.line.specs.Words.{spelled}
 use Rattle.line.proofs.Words.{is-word}
 use Rattle.line.proofs.Refusals.{exits-none, word_count, word-other, word-passes}
 use Rattle.line.proofs.heading.section_fields.Goals.{In_ok-fields}
