@@ -1,4 +1,4 @@
-// Readers into lent memory, files of the folder that a program is started in among them, and texts into writers.
+// Readers into lent memory, files that could be opened or not among them, and texts into writers.
 #![tactic(auto)]
 
 ghost use Rattle.std.specs.Prelude.{◌≡◌, ℕ, ◌<◌, ◌≤◌, IfOk, OnOk, OnErr, IsErr, Ok, length, take};
@@ -6,9 +6,8 @@ ghost use Rattle.std.specs.Counts.{IsPrefixLen};
 ghost use Rattle.std.specs.Io.KnownBytes.{Consumes, IsAtEnd};
 ghost use Rattle.files.specs.Whole.{opened_remaining, GivesFirst, Fills, Prints};
 
+use std::io;
 use std::io::{Read, Write};
-use std::rt::Files;
-use std::{fs, io};
 
 // Reads into buf, as far as there is room, and counts the bytes. A read that fails ends it, and its error is handed on:
 // then what was read before stands in front in buf.
@@ -62,16 +61,4 @@ pub fn read_opened<R: Read>(opened: &mut io::Result<R>, buf: &mut [u8]) -> io::R
         Ok(file) => read_full(file, buf),
         Err(_) => Ok(0),
     }
-}
-
-// Reads the file of this path.
-pub fn read(rt: &impl Files, path: &str, buf: &mut [u8]) -> io::Result<usize>
-    ensures { IfOk result (λ n. IsPrefixLen n buf.new) }
-{
-    read_opened(&mut fs::open(rt, path), buf)
-}
-
-// Whether a file can be opened.
-pub fn is_there(rt: &impl Files, path: &str) -> bool {
-    fs::open(rt, path).is_ok()
 }

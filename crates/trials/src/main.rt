@@ -7,6 +7,7 @@
 mod back;
 mod base;
 mod convert;
+mod data;
 mod due;
 mod house;
 mod small;
@@ -39,14 +40,14 @@ fn path(name: &[u8; 7]) -> &str {
 // The listing that is handed in. One byte more than a listing may have, so that a longer one is seen to be longer.
 fn listed(rt: &(impl Files + Print), sheet: &[u8], lst: &str) -> io::Result<()> {
     let mut printed = [0u8; opening::PRINTED_BYTES + 1];
-    let n = files::read(rt, lst, &mut printed)?;
+    let n = data::read(rt, lst, &mut printed)?;
     back::tell(rt, sheet, &printed[..n])
 }
 
 // The table that is handed in, or none: its file has two bytes a minute.
 fn tabled(rt: &(impl Files + Print), sheet: &[u8], tab: &str) -> io::Result<()> {
     let mut bytes = [0u8; 1024];
-    let n = files::read(rt, tab, &mut bytes)?;
+    let n = data::read(rt, tab, &mut bytes)?;
     trial::tell(rt, sheet, &bytes[..n])
 }
 
@@ -61,7 +62,7 @@ fn told(
     base::read(rt, sheet)?;
     house::tell(rt, sheet, last)?;
     let lst = name(number, *b"lst");
-    if files::is_there(rt, path(&lst)) {
+    if data::is_there(rt, path(&lst)) {
         listed(rt, sheet, path(&lst))
     } else {
         tabled(rt, sheet, path(&name(number, *b"tab")))
@@ -102,11 +103,11 @@ fn numbered(
     println!(rt; "")?;
     let mut sheet = [0u8; opening::SHEET_BYTES + 1];
     let fix = name(number, *b"fix");
-    if files::is_there(rt, path(&fix)) {
-        let n = files::read(rt, path(&fix), &mut sheet)?;
+    if data::is_there(rt, path(&fix)) {
+        let n = data::read(rt, path(&fix), &mut sheet)?;
         former(rt, &sheet[..n], number, last)
     } else {
-        let n = files::read(rt, path(&name(number, *b"csv")), &mut sheet)?;
+        let n = data::read(rt, path(&name(number, *b"csv")), &mut sheet)?;
         told(rt, &sheet[..n], number, last)
     }
 }
@@ -124,8 +125,8 @@ fn trials(rt: &(impl Files + Print), titles: &[u8]) -> io::Result<()> {
 // One text serves both files, which are read one after the other.
 fn main(rt: HostRuntime) -> io::Result<()> {
     let mut text = [0u8; 65536];
-    let n = files::read(&rt, "titles.txt", &mut text)?;
+    let n = data::read(&rt, "titles.txt", &mut text)?;
     trials(&rt, &text[..n])?;
-    let k = files::read(&rt, "small.csv", &mut text)?;
+    let k = data::read(&rt, "small.csv", &mut text)?;
     small::all(&rt, &text[..k])
 }
