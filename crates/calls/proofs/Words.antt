@@ -54,7 +54,7 @@ displayed-refusal r small =
     joined : (a n b l e : List ℕ) → a ++ n ++ b ++ l ++ e ≡ (a ++ n ++ b ++ l) ++ e
     joined a n b l e = simp append_assoc
 
--- the numbers of a verdict fit 64 bits, as a usize does
+-- the numbers of a verdict fit 64 bits: in the code they are bytes
 abbrev pub Fits : Verdict → Type 0
 Fits Pass = Unit
 Fits (Breached (Late s u)) = (s < 2 ^ 64) × (u < 2 ^ 64)

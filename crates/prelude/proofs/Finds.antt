@@ -1,11 +1,11 @@
 -- What `find` over the numbers below n answers, as the definitions say it. Assumes nothing.
-use mathlib.Core.Path.{◌≡◌, refl, sym, ◌∙◌}
+use mathlib.Core.Path.{◌≡◌, refl, sym, ◌∙◌, ap}
 use mathlib.Core.Bool.{Bool, true, false, not}
 use mathlib.Core.Option.{Option}
 use Prim.Native.Nat.{ℕ, zero, suc, ◌<◌}
 use native.Mathlib.Numerals.{add-one}
 use native.Mathlib.Omega.{arith}
-use Rattle.std.specs.Prelude.{cond, Some, Option as Answer}
+use Rattle.std.specs.Prelude.{cond, Some, None, Option as Answer}
 use Rattle.std.specs.Option.{option_map}
 use Rattle.std.specs.List.{range_with_len, find}
 use Rattle.std.proofs.lemmas.Iterator.Adapters.{option_map_id}
@@ -28,13 +28,6 @@ find-after f a (suc n) = found-here a (f a) _ (rw add-one (find-after f (suc a) 
 pub find-range : (f : ℕ → Bool) (n : ℕ) → find f (range_with_len 0 n) ≡ option_of (first_below n (λ k. when (f k) k))
 find-range f n = find-after f 0 n
 
--- what is found is one of those numbers
-pub find-below : (f : ℕ → Bool) (n k : ℕ) → find f (range_with_len 0 n) ≡ Some k → k < n
-find-below f n k e =
-    let search = first_below n (λ i. when (f i) i) in
-    let w = some_of_first_below (λ i. when (f i) i) n k (option_of-some search k (sym (find-range f n) ∙ e)) in
-    omega (arith, w.index_lt, (when-some (f w.index) w.index k w.answer).1)
-
 -- the same of what the code's `find` answers
 pub find-answers : (f : ℕ → Bool) (n : ℕ) (r : Answer ℕ) → option_map (λ x. x) r ≡ find f (range_with_len 0 n)
     → r ≡ option_of (first_below n (λ k. when (f k) k))
@@ -52,6 +45,23 @@ module _ {A : Type 0} (t : ℕ → Bool) (name : ℕ → A) where
   failing-after a zero = refl
   failing-after a (suc n) = failing-here (t a) a _ _ (rw add-one (failing-after (suc a) n))
 
-  pub find-failing : (n : ℕ) → option_map name (find (λ k. not (t k)) (range_with_len 0 n))
-      ≡ option_of (first_below n (λ k. unless (t k) (name k)))
-  find-failing n = failing-after 0 n
+  -- the code's `find` answered nothing, and the search does so; or a place, from which the search's answer is made
+  pub record Failing (n : ℕ) (r : Answer ℕ) : Type 0 where
+    pub nothing : r ≡ None → None ≡ option_of (first_below n (λ k. unless (t k) (name k)))
+    pub place_lt : (k : ℕ) → r ≡ Some k → k < n
+    pub made : (k : ℕ) → r ≡ Some k → Some (name k) ≡ option_of (first_below n (λ k. unless (t k) (name k)))
+
+  pub failing : (n : ℕ) (r : Answer ℕ) → option_map (λ x. x) r ≡ find (λ k. not (t k)) (range_with_len 0 n)
+      → Failing n r
+  failing n r e =
+      let found = sym (option_map_id r) ∙ e in
+      let named = ap (option_map name) found ∙ failing-after 0 n in
+      record {
+        nothing = λ none. rw none at named;
+        place_lt = λ k some.
+            let search = first_below n (λ i. when (not (t i)) i) in
+            let w = some_of_first_below (λ i. when (not (t i)) i) n k
+            (option_of-some search k (sym (find-range (λ i. not (t i)) n) ∙ sym found ∙ some)) in
+            omega (arith, w.index_lt, (when-some (not (t w.index)) w.index k w.answer).1);
+        made = λ k some. rw some at named;
+      }

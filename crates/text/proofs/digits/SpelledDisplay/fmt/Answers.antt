@@ -15,8 +15,8 @@ spelled g d = d.as_slice.ensures ∙ d.spell-digits.ensures.text ∙ sym (displa
 pub unreachable-requires : goal.unreachable-requires
 unreachable-requires g c =
     let v = c.args.self.now.0 in
-    c.in_default.ensures.cases.0
-    (rw (spelled g (goal.at.unreachable-requires g c).After-as_slice) (IsUtf8-from_ascii (decimal v) (IsAscii-decimal v (omega arith))))
+    let is = spelled g (goal.at.unreachable-requires g c).After-as_slice in
+    c.in_default.ensures.cases.0 (rw is (IsUtf8-from_ascii (decimal v) (IsAscii-decimal v (omega arith))))
 
 pub returns-clause-writes : goal.returns-clause-writes
 returns-clause-writes g c plain ok =
