@@ -21,7 +21,6 @@ pub mod Play
 pub mod Player
 pub mod Numbers
 pub mod Small
-pub mod Counted
 pub mod Header
 pub mod Playing
 pub mod Housing
