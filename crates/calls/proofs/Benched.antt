@@ -1,11 +1,11 @@
 -- The demands on the bench's calls hold: each is one of the laws on how a table is handed in and memory is lent, as
 -- bytes. Assumes nothing.
-use mathlib.Core.Path.{◌≡◌, refl, sym, ◌∙◌, ap}
+use mathlib.Core.Path.{◌≡◌, refl, sym, ◌∙◌}
 use mathlib.Core.Bool.{true}
-use mathlib.Core.List.{List, ◌++◌}
-use Prim.Native.Nat.{ℕ, ◌*◌, ◌/◌, ◌≤◌}
+use mathlib.Core.List.{List}
+use Prim.Native.Nat.{ℕ, ◌*◌}
 use borrow.Author.Tests.{eq-eqb}
-use lib.ListN.{length, drop}
+use lib.ListN.{length}
 use Rattle.pairs.specs.Pairs.{minutes_of}
 use Rattle.network.specs.Build.{cells}
 use Rattle.network.specs.declared.Network.{Network}
@@ -13,7 +13,7 @@ use Rattle.sheet.specs.Reading.{network_of, Accepts}
 use Rattle.dispatch.specs.Due.{due}
 use Rattle.dispatch.specs.HeardText.{is_heard_lem, heard_in, due_text}
 use Rattle.dispatch.proofs.HeardText.{due-heard}
-use Rattle.calls.specs.Values.{OrRefusal, number_values}
+use Rattle.calls.specs.Values.{number_values}
 use Rattle.calls.specs.Lent.{as_minutes, as_bytes}
 use Rattle.calls.specs.Play.{events_due_lem}
 use Rattle.calls.specs.Bench.{bench_due}

@@ -1,5 +1,5 @@
--- What the answer of a call means, once its values v and what it left are the defined ones: one law for a call's contract
--- and for that of its function for C, whose values the header's functions tell. Assumes nothing.
+-- What the answer of a call means, once its values v and what it left are the defined ones: one law for a call's
+-- contract and for that of its function for C, whose values the header's functions tell. Assumes nothing.
 use mathlib.Core.Path.{◌≡◌}
 use mathlib.Core.Bool.{true}
 use mathlib.Core.List.{List}

@@ -39,7 +39,7 @@ use Rattle.calls.specs.Lent.{in_place_lem}
 use Rattle.calls.specs.Values.{OrRefusal, turned_away, number_values}
 use Rattle.calls.specs.Calls.{writing, refusing, convert_tests, converting}
 use Rattle.calls.specs.Answers.{Reads, WroteText}
-use Rattle.calls.specs.Converting.{FormerReads, Conversion, ConvertedTo, RefusesFormer, WritesConverted, Converting}
+use Rattle.calls.specs.Converting.{FormerReads, Conversion, ConvertedTo, WritesConverted, Converting}
 use Rattle.calls.proofs.Call.{Ends, faulty, failed, worked, ends, call-refused, reads_well_formed}
 use Rattle.calls.proofs.Writing.{converter-wrote}
 

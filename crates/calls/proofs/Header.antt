@@ -78,7 +78,12 @@ count-holds : (sheet : List ℕ) (own : List Own) (v : Values ℕ) → are_few o
 count-holds sheet own v few a c =
     let n = number-few sheet own v few a in
     let l = line-few sheet own v few a in
-    record { values = values_are v _ _ _ (omega arith) (omega arith) (omega arith); rest = omega arith }
+    record {
+      values = values_are v _ _ _ (omega arith) (omega arith) (omega arith);
+      bytes = omega arith;
+      events = omega arith;
+      rest = omega arith;
+    }
 
 module _ (sheet b : List ℕ) where
   abbrev answer : OrRefusal Verdict

@@ -1,7 +1,6 @@
 -- The call that reads a sheet accepts what keeps the layout, refuses with the sheet's fault, and counts what is
 -- contained. Assumes nothing.
 use mathlib.Core.Path.{◌≡◌, refl, sym, ◌∙◌, ap}
-use mathlib.Core.Logic.{◌↔◌}
 use mathlib.Core.List.{List}
 use Prim.Native.Nat.{ℕ}
 use Rattle.std.specs.Prelude.{Result, Ok, Err, IsOk}
@@ -16,7 +15,7 @@ use Rattle.layout.specs.Layout.{Layout}
 use Rattle.layout.proofs.Accepted.{accepted_iff, network-contains}
 use Rattle.calls.specs.Values.{OrRefusal}
 use Rattle.calls.specs.Calls.{counts_of, summary}
-use Rattle.calls.specs.Reader.{AcceptsLayout, RefusesFault, CountsContents, counts_in}
+use Rattle.calls.specs.Reader.{AcceptsLayout, RefusesFault, CountsContents}
 use Rattle.calls.specs.declared.Counts.{Counts}
 
 ok-is : (a : OrRefusal Counts) (n : Counts) → a ≡ Ok n → IsOk a
@@ -43,14 +42,20 @@ module _ (sheet : List ℕ) where
     where
       by_read : (g : Result Network Refusal) → read sheet ≡ g → AcceptsLayout sheet (summary sheet)
       by_read (Ok Γ) e =
-          let a = accepts sheet Γ e in (λ _. (accepted_iff sheet).0 a.0, λ _. ok-is (summary sheet) _ (summary-read Γ e))
+          let a = accepts sheet Γ e in
+          (λ _. (accepted_iff sheet).0 a.0, λ _. ok-is (summary sheet) _ (summary-read Γ e))
       by_read (Err r) e = (
         λ ok. absurd (err-not-ok (summary sheet) r (summary-refused r e) ok),
-        λ l. ok-is (summary sheet) (counts_of (network_of sheet)) (summary-read (network_of sheet) ((accepted_iff sheet).1 l)),
+        λ l.
+            ok-is (summary sheet) (counts_of (network_of sheet))
+            (summary-read (network_of sheet) ((accepted_iff sheet).1 l)),
       )
 
   pub summary_err : RefusesFault sheet (summary sheet)
-  summary_err r = (λ q. (refused_iff sheet r).0 (of_read (read sheet) refl q), λ f. summary-refused r ((refused_iff sheet r).1 f))
+  summary_err r = (
+    λ q. (refused_iff sheet r).0 (of_read (read sheet) refl q),
+    λ f. summary-refused r ((refused_iff sheet r).1 f),
+  )
     where
       of_read : (g : Result Network Refusal) → read sheet ≡ g → summary sheet ≡ Err r → read sheet ≡ Err r
       of_read (Ok Γ) e q = not-both _ r (summary-read Γ e) q

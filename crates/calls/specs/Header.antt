@@ -38,8 +38,7 @@ opening_second a = bits a 40 8
 abbrev pub opening_third : ℕ → ℕ
 opening_third a = bits a 48 8
 
--- what these functions tell of an answer: the number, the line, and what a call tells, which `opening_bytes` and
--- `opening_events` shift out as `opening_minutes` does
+-- what these functions tell of an answer: the number, the line, and what a call tells
 abbrev pub told : ℕ → Values ℕ
 told a = record { number = opening_number a; line = opening_line a; value = opening_minutes a }
 
@@ -51,9 +50,12 @@ found a = record {
   value = finding (opening_word a) (opening_first a) (opening_second a) (opening_third a);
 }
 
--- the answer a of a call other than the judge tells v, and its last three bytes are 0
+-- the answer a of a call other than the judge tells v, whichever of the three functions a caller asks, and its last
+-- three bytes are 0
 pub record CountHolds (a : ℕ) (v : Values ℕ) : Type 0 where
   pub values : told a ≡ v
+  pub bytes : opening_bytes a ≡ v.value
+  pub events : opening_events a ≡ v.value
   pub rest : shifted a 40 ≡ 0
 
 -- the judge's, whose last byte is 0

@@ -8,8 +8,7 @@ use Rattle.network.specs.Build.{cells}
 use Rattle.network.specs.declared.Network.{Network}
 use Rattle.listing.specs.Listing.{header, listing}
 use Rattle.readback.specs.Form.{Misfit, Unread}
-use Rattle.calls.specs.Values.{OrRefusal, Values, turned_away, number_values}
-use Rattle.calls.specs.Call.{Left}
+use Rattle.calls.specs.Values.{Values, turned_away, number_values}
 use Rattle.calls.specs.Lent.{Lent}
 use Rattle.calls.specs.Calls.{listed}
 use Rattle.calls.specs.Recover.{recovering_into}

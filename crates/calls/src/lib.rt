@@ -1,5 +1,6 @@
 // What the public calls answer. The definitions of each answer stand in specs/, and so do the demands on them, which
-// `theorems` proves; the calls themselves are those of `opening`. Each answers `Ok` with what it tells, or `Err` with why it refuses.
+// `theorems` proves; the calls themselves are those of `opening`. Each answers `Ok` with what it tells, or `Err` with
+// why it refuses.
 #![tactic(auto)]
 
 pub mod theorems;

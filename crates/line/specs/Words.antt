@@ -1,5 +1,5 @@
--- How the words are written that the code tells apart: the horizon's, and that of each section, on a sheet of any number
--- of events.
+-- How the words are written that the code tells apart: the horizon's, and that of each section, on a sheet of any
+-- number of events.
 use Prim.Native.String.{String}
 use Rattle.line.specs.Sections.{heading_of_lem, horizon_heading}
 use Rattle.line.specs.declared.heading.Word.{Word}

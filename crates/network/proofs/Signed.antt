@@ -1,5 +1,6 @@
 -- Limits as the code has them, in an i32: a limit fits and is read back, its negation is a limit, and the limit plus
--- 10,080 is at most 20,160 and in the order of the limits. For each sign, around zero and at both ends. Assumes nothing.
+-- 10,080 is at most 20,160 and in the order of the limits. For each sign, around zero and at both ends. Assumes
+-- nothing.
 use mathlib.Core.Path.{◌≡◌, ap}
 use Prim.Native.Nat.{zero, suc, ◌+◌, ◌-◌, ◌≤◌}
 use native.Mathlib.Omega.{arith}

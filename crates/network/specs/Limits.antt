@@ -1,6 +1,6 @@
--- The limits of a sheet, and what follows of bounds, cases and cells; what a cell without its event holds. The code has
--- them as constants of `Network`. That both are the same is in the contracts: those of the functions that use a constant
--- name these.
+-- The limits of a sheet, and what follows of bounds, cases and cells; what a cell without its event holds. The code
+-- has them as constants of `Network`. That both are the same is in the contracts: those of the functions that use a
+-- constant name these.
 use Rattle.std.specs.Prelude.{ℕ, ◌+◌, ◌*◌, ◌^◌}
 
 -- "H from 0 to 10,080", and the size of a rule's limit

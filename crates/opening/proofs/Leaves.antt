@@ -22,7 +22,6 @@ use Rattle.calls.specs.Call.{without_line_lem, call, Left, Leaves, Tests}
 use Rattle.calls.specs.Lent.{in_place_lem}
 use Rattle.calls.specs.Calls.{enough, writing, refusing, listed, fit}
 use Rattle.calls.specs.Calls.{house_tests, housed, convert_tests, converting}
-use Rattle.calls.specs.Bench.{packed_left}
 use Rattle.calls.proofs.Call.{call-refused, call_fails, call_works}
 use Rattle.opening.specs.Prologue.{handed_in_lem}
 use Rattle.opening.proofs.Prologue.{handed-refused, handed_fails, handed_works}
@@ -42,10 +41,6 @@ mapped of (Err e) (Err x) h = ap (λ (y : Refusal). Err y) h
 -- what was promised of one definition is promised of an equal one
 pub leaves_as : {l k : Left (OrRefusal ℕ)} {r : OrRefusal ℕ} {m : List ℕ} → l ≡ k → Leaves l r m → Leaves k r m
 leaves_as e h = rw (← e) h
-
-pub packed_as : {l k : Left (OrRefusal ℕ)} {r : ℕ} {m : List ℕ} → l ≡ k → Leaves (packed_left l) r m
-    → Leaves (packed_left k) r m
-packed_as e h = rw (← e) h
 
 -- a refusal leaves the memory as it was
 pub kept : {l : Left (OrRefusal ℕ)} (m : List ℕ) (r : Refusal) → refusing (in_place_lem m) r ≡ l → Leaves l (Err r) m

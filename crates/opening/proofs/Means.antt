@@ -83,7 +83,8 @@ module _ (sheet : List ℕ) where
     due_on_means m x r e = record {
       outcome = e;
       refusals = rw e (numbers.player_on sheet t m x);
-      row = λ hs s. rw (e ∙ ap (events_due_on_lem sheet t m) (sym s) ∙ playing.by_mask sheet t m hs) (playing.due sheet t m hs);
+      row = λ hs s.
+          rw (e ∙ ap (events_due_on_lem sheet t m) (sym s) ∙ playing.by_mask sheet t m hs) (playing.due sheet t m hs);
     }
 
     pub list_means : (m : List ℕ) (r : OrRefusal ℕ) (x : List ℕ) → Leaves (listed sheet t m) r x

@@ -10,7 +10,7 @@ use lib.ListN.{length, get_or, get_or-eq_default, take, drop, set, length-append
 use lib.Seq.{drop-cons, take-suc, set_at, length-take-le}
 use Rattle.prelude.specs.Bounded.{tabulate}
 use Rattle.prelude.proofs.Bounded.{length-tabulate, get_d_tabulate, tabulate-more}
-use Rattle.prelude.proofs.Tests.{lt_or_ge, eq_or_ne}
+use Rattle.prelude.proofs.Tests.{lt_or_ge}
 use Rattle.pairs.specs.Pairs.{pair_at, minutes_of, bytes_of, Short}
 
 pub length-minutes_of : (b : List ℕ) → length (minutes_of b) ≡ length b / 2

@@ -8,8 +8,8 @@ ghost use Rattle.pairs.specs.Pairs.{bytes_of, table_of_lem};
 
 use counted::Counted;
 
-// The minutes of a table that is handed in as bytes, if there are at most N. Bytes that leave half a minute over, or are
-// more, have none: a sheet's table has at least one, so that such a table is as one of another length.
+// The minutes of a table that is handed in as bytes, if there are at most N. Bytes that leave half a minute over, or
+// are more, have none: a sheet's table has at least one, so that such a table is as one of another length.
 pub fn table_of<const N: usize>(bytes: &[u8]) -> Counted<u16, N>
     ensures { result ≡ table_of_lem N bytes.now }
 {

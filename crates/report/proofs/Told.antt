@@ -1,5 +1,6 @@
 -- What is printed of the bytes that were read is what is to be printed of all that the reader had: a longer text is
--- told by its first bytes. And what is printed of a call's answer is what is to be printed of the call. Assumes nothing.
+-- told by its first bytes. And what is printed of a call's answer is what is to be printed of the call. Assumes
+-- nothing.
 use Rattle.std.proofs.Common.{◌≡◌, refl, sym, ◌∙◌, ap, subst, false, ℕ, suc, List, take}
 use Rattle.std.proofs.Common.{Option, None, Some, IfSome, Result, Ok, Err, IsErr}
 use Rattle.std.proofs.KnownBytes.{Appends-nil}

@@ -1,5 +1,5 @@
--- `opening::judge_table` meets its contract: the verdict is the defined one, or the call is refused with what was handed
--- in. Assumes nothing.
+-- `opening::judge_table` meets its contract: the verdict is the defined one, or the call is refused with what was
+-- handed in. Assumes nothing.
 use Rattle.std.proofs.Common.{rules}
 use Rattle.opening.proofs.Means.{judge_means}
 use Rattle.opening.proofs.judge_table.Goals as goal

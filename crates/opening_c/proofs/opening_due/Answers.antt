@@ -1,4 +1,5 @@
--- `opening_due` meets its contract: the table is played as its bytes are, for the text as for its mask. Assumes nothing.
+-- `opening_due` meets its contract: the table is played as its bytes are, for the text as for its mask. Assumes
+-- nothing.
 use mathlib.Core.Path.{◌≡◌, ◌∙◌, ap}
 use mathlib.Core.List.{List}
 use Prim.Native.Nat.{ℕ}

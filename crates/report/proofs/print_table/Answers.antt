@@ -9,4 +9,5 @@ use Rattle.report.proofs.print_table.Goals as goal
 pub returns-in-Ok : goal.returns-in-Ok
 returns-in-Ok g c =
     let next = listing_on (replicate most_listing 0) c.args.sheet.now in
-    subst (Prints _ _ _) (sym (goes_on c.in-Ok.minutes next c.solve_sheet.ensures.outcome c.in-Ok.is)) c.print_listing.ensures
+    let same = goes_on c.in-Ok.minutes next c.solve_sheet.ensures.outcome c.in-Ok.is in
+    subst (Prints _ _ _) (sym same) c.print_listing.ensures

@@ -24,7 +24,8 @@ returns-in_err-fields c =
     let args = c.args in
     let none = exits-none c.from_residual.result c.in_err-fields.field-0.0 C.WrongFields c.of.result
     c.from_residual.ensures.1 c.in_err-fields.ensures.value in
-    none.1 ∙ sym (rw (word_count (ascii (spelled args.word)) args.lo args.hi (fields args.line.now) (rw none.0 at c.of.ensures)))
+    let word = ascii (spelled args.word) in
+    none.1 ∙ sym (rw (word_count word args.lo args.hi (fields args.line.now) (rw none.0 at c.of.ensures)))
 
 pub returns-then-ne : goal.returns-then-ne
 returns-then-ne c =

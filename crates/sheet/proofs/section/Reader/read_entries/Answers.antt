@@ -126,6 +126,7 @@ loop-done-preserved c =
     let x = c.in_ok-line.line.entry in
     let here = c.loop-done.invariant in
     let one : n - (i + 1) ≡ n - i - 1 = omega arith in
+    let k = c.loop-done.reached.line in
     let taken = c.in_ok-line.line.length + 1 in (
       left_behind c.args.self.now.sheet.now c.loop-done.reached.at c.loop-done.left.now here.0 taken,
       rw (one, c.add.ensures)
@@ -133,7 +134,7 @@ loop-done-preserved c =
             | then-last+in_ok-on_line w ↦
                 let passed = answer-ok (first_failing_lem (tests_behind x true c.add.new.network)) tt
                 w.in_ok-on_line.field-0 (sym w.test_behind.ensures
-                ∙ on_line-ok c.loop-done.reached.line w.test_behind.result w.in_ok-on_line.field-0 w.in_ok-on_line.ensures) in
+                ∙ on_line-ok k w.test_behind.result w.in_ok-on_line.field-0 w.in_ok-on_line.ensures) in
                 rw (one_left n i w.if-last.true) (rw c.add.ensures at passed.0)
             | else-last w ↦ rw (more_left n i w.if-last.false c.loop-done-test.true, untested) refl
           ])),

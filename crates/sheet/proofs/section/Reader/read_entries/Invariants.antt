@@ -1,5 +1,5 @@
--- The invariant: what is left of the sheet begins at the place that is reached; the lines that are left give what all of
--- them give, and the sheet is at its stage (`EntriesLeft`). Assumes nothing.
+-- The invariant: what is left of the sheet begins at the place that is reached; the lines that are left give what all
+-- of them give, and the sheet is at its stage (`EntriesLeft`). Assumes nothing.
 use mathlib.Core.Path.{◌≡◌}
 use lib.ListN.{drop}
 use Prim.Native.Nat.{◌-◌}
@@ -11,5 +11,6 @@ abbrev pub invariant-loop-done : goal.invariant-loop-done
 invariant-loop-done l =
     let first = l.initial.reached in
     let sheet = l.self.sheet.now in
-    (l.left ≡ drop l.reached.at sheet) × EntriesLeft sheet l.section (read_entries_lem sheet l.section l.count first.network first.at first.line)
-    (l.count - l.done) l.reached.network l.reached.at l.reached.line
+    let lines = read_entries_lem sheet l.section l.count first.network first.at first.line in
+    (l.left ≡ drop l.reached.at sheet)
+    × EntriesLeft sheet l.section lines (l.count - l.done) l.reached.network l.reached.at l.reached.line
