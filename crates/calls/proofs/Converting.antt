@@ -20,7 +20,7 @@ use Rattle.conversion.specs.FormerSheet.{FormerContents, FormerContains}
 use Rattle.conversion.specs.FormerTables.{FormerSolution, FormerLeast, FormerNone}
 use Rattle.conversion.specs.FormerRules.{read_as_max_lem}
 use Rattle.conversion.specs.FormerFault.{FormerFault}
-use Rattle.conversion.specs.Converted.{resulting, converted}
+use Rattle.conversion.specs.Converted.{resulting, converted, SameBytes}
 use Rattle.conversion.proofs.FormerLayout.{former_iff}
 use Rattle.conversion.proofs.Alongside.{former_fault_iff}
 use Rattle.conversion.proofs.ReadInto.{read_into}
@@ -33,7 +33,6 @@ use Rattle.conversion.proofs.Refused.{first-fix-refused}
 use Rattle.conversion.proofs.Unchanged.{read_as_max-without}
 use Rattle.conversion.proofs.Accepted.{accepted-plain, accepted-unchanged, given_of, converted-accepted}
 use Rattle.conversion.proofs.Accepted.{converted_agrees, converted-tables}
-use Rattle.conversion.specs.Converted.{SameBytes}
 use Rattle.calls.specs.Call.{Left}
 use Rattle.calls.specs.Lent.{in_place_lem}
 use Rattle.calls.specs.Values.{OrRefusal, turned_away, number_values}
@@ -176,14 +175,18 @@ becomes sheet t Γ c same =
       none = none c.reads.layout.contents Γ own.0 w;
     }
 
+pub converted_to : (sheet : List ℕ) (Γ : Network) (reads : FormerReads sheet Γ) → resulting sheet Γ ≤ L.rules
+    → ConvertedTo sheet Γ reads (converted sheet Γ)
+converted_to sheet Γ reads few =
+    becomes sheet (converted sheet Γ) Γ (record { reads = reads; few = few; text = refl }) (same_bytes (known reads))
+
 writes : (sheet m : List ℕ)
     → let l = converting sheet m in WritesConverted sheet (in_place_lem m) (number_values l.answer) l.memory
-writes sheet m Γ reads few =
-    let c : Conversion sheet Γ (converted sheet Γ) = record { reads = reads; few = few; text = refl } in (
-      converted sheet Γ,
-      becomes sheet (converted sheet Γ) Γ c (same_bytes (known reads)),
-      written sheet m (converted sheet Γ) Γ c,
-    )
+writes sheet m Γ reads few = (
+  converted sheet Γ,
+  converted_to sheet Γ reads few,
+  written sheet m (converted sheet Γ) Γ (record { reads = reads; few = few; text = refl }),
+)
 
 pub conversions : Converting
 conversions = record {

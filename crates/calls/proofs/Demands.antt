@@ -22,7 +22,7 @@ use Rattle.calls.proofs.Writing.{wrote_into, listing-wrote}
 use Rattle.calls.proofs.Numbers.{numbers}
 use Rattle.calls.proofs.Benched.{benched}
 use Rattle.calls.proofs.Labels.{rule-holds, event_happens}
-use Rattle.calls.proofs.Former.{plain-contents, former_iff, former-first}
+use Rattle.calls.proofs.Former.{plain-points, plain-contents, former_iff, former-first}
 
 pub demands : Demands
 demands = record {
@@ -43,6 +43,7 @@ demands = record {
   judged = λ sheet σ Γ r l. judged Γ σ l;
   breach_first = λ sheet σ Γ b r. breach_iff Γ σ b;
   agree = λ sheet σ Γ r. hyperarcs_agree Γ σ (reads_well_formed r);
+  plain_points = λ sheet σ Γ r p u. plain-points Γ σ p u;
   plain = λ sheet σ Γ r. former_iff Γ σ;
   plain_first = λ sheet σ Γ b r p u. former-first Γ σ p u b;
   plain_sheet = λ sheet Γ r l. plain-contents (rw r.network at (network-contains sheet l)) l.keeps;

@@ -45,15 +45,15 @@ fault : (s : List ℕ) → longest < length s → Fault s too_long
 fault s h = inl (h, refl)
 
 pub table_first : (s : List ℕ) → table_text (first s) ≡ table_text s
-table_first = told_by_first table_text refused (λ s h. printing.table_refused s too_long (fault s h))
+table_first = told_by_first table_text refused (λ s h. (printing.table s).refused too_long (fault s h))
 
 pub form_first : (s : List ℕ) → form_text (first s) ≡ form_text s
-form_first = told_by_first form_text refused (λ s h. printing.house_refused s too_long (fault s h))
+form_first = told_by_first form_text refused (λ s h. (printing.house s).refused too_long (fault s h))
 
 pub converted_first : (s : List ℕ) → converted_text (first s) ≡ converted_text s
 converted_first =
     told_by_first converted_text refused
-    (λ s h. printing.convert_refused s too_long (inl (omega (arith, length-read_as_max s), refl)))
+    (λ s h. (printing.convert s).refused too_long (inl (omega (arith, length-read_as_max s), refl)))
 
 -- of a listing: the sheet's own refusal comes first, and 18 with line 1 before anything else
 listing_first : (s p : List ℕ) → judge_text s (first p) ≡ judge_text s p
@@ -62,14 +62,14 @@ listing_first s p = by_reading (read s) refl
     by_reading : (g : Result Network Refusal) → read s ≡ g → judge_text s (first p) ≡ judge_text s p
     by_reading (Err r) e =
         let f = (refused_iff s r).0 e in
-        printing.judge_refused s (first p) r f ∙ sym (printing.judge_refused s p r f)
+        (printing.judge s (first p)).refused r f ∙ sym ((printing.judge s p).refused r f)
     by_reading (Ok Γ) e =
         let a = accepts s Γ e in
         told_by_first (judge_text s) (refused_text (turned_away 0 (refusal OtherForm 1)))
-        (λ q h. printing.judge_misfit s q Γ 1 (record { accepted = a.0; network = a.1 }) (inl (h, refl))) p
+        (λ q h. (printing.judge s q).misfit Γ 1 (record { accepted = a.0; network = a.1 }) (inl (h, refl))) p
 
 pub judge_first : (s p : List ℕ) → judge_text (first s) (first p) ≡ judge_text s p
 judge_first s p =
     told_by_first (λ x. judge_text x (first p)) refused
-    (λ x h. printing.judge_refused x (first p) too_long (fault x h)) s
+    (λ x h. (printing.judge x (first p)).refused too_long (fault x h)) s
     ∙ listing_first s p

@@ -33,7 +33,7 @@ use Rattle.checker.specs.First.{First}
 use Rattle.checker.specs.declared.Breach.{Breach}
 use Rattle.checker.proofs.First.{first_alike}
 use Rattle.calls.specs.Former.{Prompt, Unlabelled, NoneBefore, FormerOnTime, FormerHolds, FormerAlike, Former}
-use Rattle.calls.specs.Former.{FormerFirst}
+use Rattle.calls.specs.Former.{PlainPoints, FormerFirst}
 use Rattle.calls.specs.Reacting.{AllOne}
 
 swap : {A B : Type 0} → A ↔ B → B ↔ A
@@ -121,6 +121,9 @@ module _ (Γ : Network) (σ : List ℕ) (prompt : Prompt Γ) where
       λ h n. h.alike (everywhere s u) (everywhere r u) (unknown-after s r _ n),
       λ f. record { alike = λ _ _ i. f (none_before s r _ i) },
     )
+
+    pub plain-points : PlainPoints Γ σ
+    plain-points = record { everywhere = everywhere; on_time = on_time_iff; holds = holds_iff; alike = alike_iff }
 
     pub former_iff : Solution Γ σ ↔ Former Γ σ
     former_iff = (

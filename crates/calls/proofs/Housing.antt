@@ -64,7 +64,7 @@ tables sheet f Γ Δ form reads =
 form : (sheet : List ℕ) (Γ : Network) → Reads sheet Γ → Form sheet Γ (house_text sheet Γ)
 form sheet Γ reads = record { reads = reads; form = refl }
 
-house_form : (sheet : List ℕ) (Γ : Network) → Reads sheet Γ → HouseForm sheet Γ (house_text sheet Γ)
+pub house_form : (sheet : List ℕ) (Γ : Network) → Reads sheet Γ → HouseForm sheet Γ (house_text sheet Γ)
 unfolding house_text
 house_form sheet Γ reads =
     let own = again sheet (house_text sheet Γ) Γ (form sheet Γ reads) in

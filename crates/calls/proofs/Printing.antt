@@ -1,19 +1,24 @@
 -- What the programs print, from what holds of the calls: the lent memory is long enough for every sheet. Assumes
 -- nothing.
-use mathlib.Core.Path.{◌≡◌, sym, ◌∙◌, ap}
+use mathlib.Core.Path.{◌≡◌, sym, ◌∙◌, ap, subst}
 use mathlib.Core.List.{List}
 use Prim.Native.Nat.{ℕ, ◌≤◌, ◌<◌}
 use native.Mathlib.Omega.{arith}
 use lib.ListN.{length, replicate, length-replicate}
+use Rattle.std.specs.Prelude.{Err}
+use Rattle.refusal.specs.declared.Refusal.{Refusal}
 use Rattle.network.specs.Limits as L
 use Rattle.network.specs.Build.{cells}
 use Rattle.network.specs.Least.{Least, Inconsistent}
 use Rattle.network.specs.WellFormed.{WellFormed, Named}
 use Rattle.network.specs.declared.Network.{Network}
 use Rattle.network.proofs.Least.{least_unique}
-use Rattle.sheet.specs.Reading.{longest, network_of, Accepts}
+use Rattle.sheet.specs.Reading.{longest, read, network_of, Accepts}
+use Rattle.sheet.specs.Fault.{Fault}
 use Rattle.sheet.proofs.Fault.{refused_iff}
 use Rattle.sheet.proofs.WellFormed.{accepted_well_formed}
+use Rattle.checker.specs.First.{First}
+use Rattle.checker.specs.declared.Breach.{Breach}
 use Rattle.listing.specs.Listing.{listing}
 use Rattle.listing.specs.Most.{most_listing}
 use Rattle.listing.proofs.Short.{listing-short, good-times}
@@ -24,15 +29,23 @@ use Rattle.conversion.proofs.Alongside.{former_fault_iff}
 use Rattle.conversion.proofs.FormerLayout.{former_iff}
 use Rattle.conversion.proofs.Accepted.{converted-short}
 use Rattle.canonical.proofs.Again.{form-short}
-use Rattle.calls.specs.Values.{OrRefusal, refused_as}
+use Rattle.calls.specs.Values.{OrRefusal, turned_away, refused_as}
 use Rattle.calls.specs.Call.{Left}
 use Rattle.calls.specs.Lent.{as_minutes, in_place_lem}
 use Rattle.calls.specs.Calls.{solving, listed, housed, converting}
 use Rattle.calls.specs.Recover.{recovering}
-use Rattle.calls.specs.Table.{refused_text, listing_on, table_on_lem, form_on, converted_on}
+use Rattle.calls.specs.Bench.{breach_values}
+use Rattle.calls.specs.Table.{refused_text, verdict_text, listing_on, table_on_lem, form_on, converted_on}
+use Rattle.calls.specs.Table.{table_text, form_text, converted_text, judge_text}
+use Rattle.calls.specs.Answers.{Reads}
 use Rattle.calls.specs.Numbers.{minutes}
+use Rattle.calls.specs.ReadingBack.{Printable}
+use Rattle.calls.specs.Housing.{HouseForm}
+use Rattle.calls.specs.Converting.{FormerReads, ConvertedTo}
 use Rattle.calls.specs.Printing.{Printing}
-use Rattle.calls.proofs.Converting.{counts_former}
+use Rattle.calls.proofs.Housing.{house_form}
+use Rattle.calls.proofs.Converting.{counts_former, converted_to}
+use Rattle.calls.proofs.Judging.{judge-breaches}
 use Rattle.calls.proofs.Handed.{cells-few, minutes_rightly}
 use Rattle.calls.proofs.Writing.{wrote, listing-wrote, house-wrote, converter-wrote, converter-many}
 use Rattle.calls.proofs.Solving.{solves-least, refuses_none}
@@ -100,43 +113,75 @@ table = replicate L.cells 0
 abbrev page : ℕ → List ℕ
 page n = replicate n 0
 
+-- the memory that is lent has room
+cells-lent : L.cells ≤ length table
+cells-lent = omega (arith, length-replicate {A = ℕ} L.cells 0)
+
+bytes-lent : (n : ℕ) → n ≤ length (page n)
+bytes-lent n = omega (arith, length-replicate {A = ℕ} n 0)
+
+-- the sheet is refused
+module _ (sheet : List ℕ) (r : Refusal) (f : Fault sheet r) where
+  abbrev unread : read sheet ≡ Err r
+  unread = (refused_iff sheet r).1 f
+
+  table-refused : table_text sheet ≡ refused_text (turned_away 0 r)
+  table-refused = refused-on (solving sheet table) r (listing_on (page most_listing) sheet) (rw unread)
+
+  house-refused : form_text sheet ≡ refused_text (turned_away 0 r)
+  house-refused = refused-on (housed sheet (page longest)) r (λ t. t) (rw unread)
+
+  judge-refused : (printed : List ℕ) → judge_text sheet printed ≡ refused_text (turned_away 0 r)
+  judge-refused printed = refused-on (recovering sheet printed table) r (judged sheet) (rw unread)
+
+printed-form : (sheet : List ℕ) (Γ : Network) → Reads sheet Γ → HouseForm sheet Γ (form_text sheet)
+printed-form sheet Γ r =
+    let same : house_text sheet Γ ≡ form_text sheet =
+    sym (form-on sheet r.accepted (page longest) (bytes-lent longest) ∙ ap (house_text sheet) r.network) in
+    subst (HouseForm sheet Γ) same (house_form sheet Γ r)
+
+printed-converted : (sheet : List ℕ) (Γ : Network) (reads : FormerReads sheet Γ) → resulting sheet Γ ≤ L.rules
+    → ConvertedTo sheet Γ reads (converted_text sheet)
+printed-converted sheet Γ reads few =
+    let same = counts_former reads in
+    let text : converted sheet Γ ≡ converted_text sheet =
+    sym (converted-on sheet ((former_iff sheet).1 reads.layout) (page longest) (omega (arith, few, same.0))
+    (bytes-lent longest) ∙ same.1) in
+    subst (ConvertedTo sheet Γ reads) text (converted_to sheet Γ reads few)
+
+printed-breach : (sheet printed σ : List ℕ) (Γ : Network) (b : Breach) → Reads sheet Γ → Printable Γ σ
+    → printed ≡ listing sheet Γ σ → First Γ σ b → judge_text sheet printed ≡ verdict_text (breach_values b)
+printed-breach sheet printed σ Γ b r = rw (← r.network)
+    (λ t e f.
+    let net = network_of sheet in
+    ap (judge_text sheet) e
+    ∙ judge-on sheet r.accepted table σ t cells-lent
+    ∙ ap verdict_text
+    ((judge-breaches sheet (as_minutes σ) (minutes σ) r.accepted (minutes_rightly σ net) t.sized b).1 f))
+
 pub printing : Printing
 printing = record {
-  table_refused = λ sheet r f.
-      let e = (refused_iff sheet r).1 f in
-      refused-on (solving sheet table) r (listing_on (page most_listing) sheet) (rw e);
-  house_refused = λ sheet r f.
-      let e = (refused_iff sheet r).1 f in
-      refused-on (housed sheet (page longest)) r (λ t. t) (rw e);
-  convert_refused = λ sheet r f.
-      let e = (refused_iff (read_as_max_lem sheet) r).1 ((former_fault_iff sheet r).0 f) in
-      refused-on (converting sheet (page longest)) r (λ t. t) (rw e);
-  none = λ sheet Γ r. rw (← r.network)
-      (λ i. none-on sheet r.accepted table (page most_listing) i
-      (omega (arith, length-replicate {A = ℕ} L.cells 0)));
-  many = λ sheet Γ r m.
-      many-on sheet ((former_iff sheet).1 r.layout) (page longest) (omega (arith, m, (counts_former r).0));
-  table = λ sheet σ Γ r. rw (← r.network)
-      (λ least.
-      table_on sheet r.accepted σ table (page most_listing) least
-      (omega (arith, length-replicate {A = ℕ} L.cells 0))
-      (omega (arith, length-replicate {A = ℕ} most_listing 0)));
-  house = λ sheet f Γ form.
-      let n = form.reads.network in
-      rw (form.form, ← n)
-      (form-on sheet form.reads.accepted (page longest) (omega (arith, length-replicate {A = ℕ} longest 0)));
-  convert = λ sheet t Γ c.
-      let same = counts_former c.reads in
-      converted-on sheet ((former_iff sheet).1 c.reads.layout) (page longest) (omega (arith, c.few, same.0))
-      (omega (arith, length-replicate {A = ℕ} longest 0))
-      ∙ same.1 ∙ sym c.text;
-  judge_refused = λ sheet bytes r f.
-      let e = (refused_iff sheet r).1 f in
-      refused-on (recovering sheet bytes table) r (judged sheet) (rw e);
-  judge_misfit = λ sheet bytes Γ l r. rw (← r.network) (misfit-on sheet r.accepted table bytes l);
-  judge_unread = λ sheet bytes Γ l r. rw (← r.network) (unread-on sheet r.accepted table bytes l);
-  judge = λ sheet σ Γ r. rw (← r.network)
-      (λ t. judge-on sheet r.accepted table σ t (omega (arith, length-replicate {A = ℕ} L.cells 0)));
-  judge_passes = λ sheet bytes Γ r. rw (← r.network)
-      (passes_on sheet r.accepted table bytes (omega (arith, length-replicate {A = ℕ} L.cells 0)));
+  table = λ sheet. record {
+    refused = table-refused sheet;
+    none = λ Γ r. rw (← r.network) (λ i. none-on sheet r.accepted table (page most_listing) i cells-lent);
+    table = λ σ Γ r. rw (← r.network)
+        (λ least.
+        table_on sheet r.accepted σ table (page most_listing) least cells-lent (bytes-lent most_listing));
+  };
+  house = λ sheet. record { refused = house-refused sheet; form = printed-form sheet };
+  convert = λ sheet. record {
+    refused = λ r f.
+        let e = (refused_iff (read_as_max_lem sheet) r).1 ((former_fault_iff sheet r).0 f) in
+        refused-on (converting sheet (page longest)) r (λ t. t) (rw e);
+    many = λ Γ r m.
+        many-on sheet ((former_iff sheet).1 r.layout) (page longest) (omega (arith, m, (counts_former r).0));
+    converted = printed-converted sheet;
+  };
+  judge = λ sheet printed. record {
+    refused = λ r f. judge-refused sheet r f printed;
+    misfit = λ Γ l r. rw (← r.network) (misfit-on sheet r.accepted table printed l);
+    unread = λ Γ l r. rw (← r.network) (unread-on sheet r.accepted table printed l);
+    passes = λ Γ r. rw (← r.network) (passes_on sheet r.accepted table printed cells-lent);
+    breach = printed-breach sheet printed;
+  };
 }

@@ -172,8 +172,8 @@ module _ (sheet other : List ℕ) (a : Accepts sheet) (b : Accepts other)
     verdicts = verdicts;
     tables = tables;
     due = λ t m hs. plays (as_minutes t) (λ Γ. due Γ t m hs) (due-same w t m hs);
-    due_on_lem = λ t m x. plays (as_minutes t) (λ Γ. due_on Γ t m x) (due-on-same w t m x);
-    bench_due_lem = λ t m text.
+    due_by_mask = λ t m x. plays (as_minutes t) (λ Γ. due_on Γ t m x) (due-on-same w t m x);
+    due_by_text = λ t m text.
         plays (as_bytes t) (λ Γ. due_text Γ (minutes_of t) m text)
         (ap (λ (d : Result ℕ Unanswered). cond (is_heard_lem text) d (Err Misnamed))
         (due-same w (minutes_of t) m (heard_in text)));

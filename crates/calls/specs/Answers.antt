@@ -18,7 +18,8 @@ names_line n = (leb 2 n && leb n 10) || (leb 18 n && leb n 22)
 abbrev pub OfSheet : ℕ → Type 0
 OfSheet n = (n ≤ 10) ⊎ ((20 ≤ n) × (n ≤ 22))
 
--- the sheet keeps every rule of its layout, and its network is Γ
+-- the sheet is accepted, which it is exactly where it keeps every rule of its layout (`accepted` in `Demands`), and its
+-- network, which holds what it contains (`contains`), is Γ
 pub record Reads (sheet : List ℕ) (Γ : Network) : Type 0 where
   pub accepted : Accepts sheet
   pub network : network_of sheet ≡ Γ

@@ -43,7 +43,7 @@ use Rattle.calls.specs.Judges.{Passes, Breaches}
 use Rattle.calls.specs.Solves.{RefusesNone, WritesLeast}
 use Rattle.calls.specs.Lists.{WritesListing}
 use Rattle.calls.specs.Labels.{LabelHolds}
-use Rattle.calls.specs.Former.{Prompt, Unlabelled, Former, FormerFirst}
+use Rattle.calls.specs.Former.{Prompt, Unlabelled, PlainPoints, Former, FormerFirst}
 use Rattle.calls.specs.Numbers.{minutes, Numbers}
 use Rattle.calls.specs.Benched.{Benched}
 
@@ -94,8 +94,10 @@ pub record Demands : Type 0 where
       → (verdict Γ σ ≡ Breached b) ↔ First Γ σ b
   -- point 3 and the hyperarcs agree, where events wait for the signals of their labels
   pub agree : (sheet σ : List ℕ) (Γ : Network) → Reads sheet Γ → Waiting Γ σ → Dynamic Γ σ ↔ Hyperarcs Γ σ
-  -- without labels of events and with reactions of 1 the good tables are document 01's: so a sheet without the
-  -- sections of requests 3 and 6 has the good tables that it had before them
+  -- without labels of events and with reactions of 1 the three points are document 01's, cell by cell, rule by rule and
+  -- pair by pair, where every event happens
+  pub plain_points : (sheet σ : List ℕ) (Γ : Network) → Reads sheet Γ → Prompt Γ → Unlabelled Γ → PlainPoints Γ σ
+  -- so the good tables are document 01's: a sheet without the last two sections has the good tables that it had before
   pub plain : (sheet σ : List ℕ) (Γ : Network) → Reads sheet Γ → Prompt Γ → Unlabelled Γ → Solution Γ σ ↔ Former Γ σ
   -- and of a bad table the first breach is the one of document 01's points
   pub plain_first : (sheet σ : List ℕ) (Γ : Network) (b : Breach) → Reads sheet Γ → Prompt Γ → Unlabelled Γ

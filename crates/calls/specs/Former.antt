@@ -2,12 +2,14 @@
 -- and every event happens in every case. They stand beside `Solution` so that a reader sees what the sections of
 -- reactions and of cases left as it was: of a network whose reactions are 1 and whose events have no labels these are
 -- the good tables, and of a bad one this is the first breach (`plain` and `plain_first` in `Demands`).
-use Rattle.std.specs.Prelude.{◌≡◌, true, false, List, ℕ, ◌≤◌, ◌<◌, length}
+use Rattle.std.specs.Prelude.{◌≡◌, ◌↔◌, true, false, List, ℕ, ◌≤◌, ◌<◌, length}
 use Rattle.network.specs.Limits as L
 use Rattle.network.specs.Build.{no_label, observation, event_label, constraint, scenarios, cells}
 use Rattle.network.specs.Scenario.{agree, satisfies}
+use Rattle.network.specs.Happens.{happens}
 use Rattle.network.specs.Constraint.{admits}
 use Rattle.network.specs.Strategy.{time, reaction}
+use Rattle.network.specs.Solution.{OnTime, Holds, Alike}
 use Rattle.network.specs.declared.Constraint.{Constraint}
 use Rattle.network.specs.declared.Network.{Network}
 use Rattle.checker.specs.First.{FirstOf}
@@ -55,3 +57,10 @@ module _ (Γ : Network) (σ : List ℕ) where
   -- the first breach of these points
   abbrev pub FormerFirst : Breach → Type 0
   FormerFirst b = FirstOf Γ FormerOnTime FormerHolds FormerAlike b
+
+  -- today's points are these, one by one, and every event happens in every case
+  pub record PlainPoints : Type 0 where
+    pub everywhere : (s u : ℕ) → happens Γ s u ≡ true
+    pub on_time : (s u : ℕ) → OnTime Γ σ s u ↔ FormerOnTime s u
+    pub holds : (s c : ℕ) → Holds Γ σ s (constraint Γ c) ↔ FormerHolds s c
+    pub alike : (s r u : ℕ) → Alike Γ σ s r u ↔ FormerAlike s r u

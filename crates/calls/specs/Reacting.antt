@@ -43,8 +43,8 @@ pub record SameAnswers (sheet other : List ℕ) : Type 0 where
   pub verdicts : (t : Handed) → judging sheet t ≡ judging other t
   pub tables : (m : Lent) → solving_into sheet m ≡ solving_into other m
   pub due : (t : List ℕ) (m : ℕ) (hs : List Heard) → events_due_lem sheet t m hs ≡ events_due_lem other t m hs
-  pub due_on_lem : (t : List ℕ) (m x : ℕ) → events_due_on_lem sheet t m x ≡ events_due_on_lem other t m x
-  pub bench_due_lem : (b : List ℕ) (m : ℕ) (text : List ℕ) → bench_due sheet b m text ≡ bench_due other b m text
+  pub due_by_mask : (t : List ℕ) (m x : ℕ) → events_due_on_lem sheet t m x ≡ events_due_on_lem other t m x
+  pub due_by_text : (b : List ℕ) (m : ℕ) (text : List ℕ) → bench_due sheet b m text ≡ bench_due other b m text
   pub listings : (t : Handed) (m : List ℕ) → listing_of sheet t m ≡ listing_of other t m
   pub recoveries : (printed : List ℕ) (m : Lent) → recovering_into sheet printed m ≡ recovering_into other printed m
   pub forms : (m : List ℕ) → housed sheet m ≡ housed other m

@@ -11,7 +11,7 @@ use Rattle.calls.specs.Values.{OrRefusal}
 use Rattle.calls.specs.Call.{Left, Leaves}
 use Rattle.calls.specs.Table.{or_refused, judge_text}
 use Rattle.calls.proofs.FirstBytes.{first, judge_first}
-use Rattle.report.specs.Run.{left}
+use Rattle.report.specs.Run.{left, PrintsWhat}
 
 as_left : {l : Left (OrRefusal ℕ)} {w : OrRefusal ℕ} {m : List ℕ} → Leaves l w m → left w m ≡ l
 as_left leaves = rw (leaves.answer, leaves.memory)
@@ -52,3 +52,18 @@ module _ {E : Type 0} (before after : Option (List ℕ)) (r : Result (Unit {0}) 
       ∙ ap (judge_text (first s)) fills'
       ∙ judge_first s p)
       prints
+
+  -- and what is to be printed has its meaning
+  pub meant : (text : List ℕ → List ℕ) (Means : List ℕ → List ℕ → Type 0) → ((s : List ℕ) → Means s (text s))
+      → (had : Option (List ℕ)) → IfSome had (λ s. Prints before after r (text s))
+      → IfSome had (λ s. PrintsWhat (Means s) before after r)
+  meant text Means is None prints = tt
+  meant text Means is (Some s) prints = (text s, is s, prints)
+
+  pub both_meant : (text : List ℕ → List ℕ → List ℕ) (Means : List ℕ → List ℕ → List ℕ → Type 0)
+      → ((s p : List ℕ) → Means s p (text s p)) → (had had' : Option (List ℕ))
+      → IfSome had (λ s. IfSome had' (λ p. Prints before after r (text s p)))
+      → IfSome had (λ s. IfSome had' (λ p. PrintsWhat (Means s p) before after r))
+  both_meant text Means is None had' prints = tt
+  both_meant text Means is (Some s) None prints = tt
+  both_meant text Means is (Some s) (Some p) prints = (text s p, is s p, prints)

@@ -4,7 +4,7 @@ use Rattle.std.specs.Io.KnownBytes.{Keeps}
 use Rattle.sheet.specs.Reading.{longest}
 use Rattle.calls.specs.Values.{OrRefusal}
 use Rattle.calls.specs.Call.{Left}
-use Rattle.files.specs.Whole.{GivesFirst}
+use Rattle.files.specs.Whole.{GivesFirst, Prints}
 
 -- what a call answered, and the memory that it left
 abbrev pub left : OrRefusal ℕ → List ℕ → Left (OrRefusal ℕ)
@@ -17,3 +17,8 @@ IsRead old new = GivesFirst (suc longest) old new
 -- where the program failed, nothing was written, or all had been read before
 abbrev pub ReadsFirst : {E : Type 0} → Option (List ℕ) → Option (List ℕ) → Result (Unit {0}) E → Type 0 → Type 0
 ReadsFirst old new r read = OnErr r (Keeps old new ⊎ read)
+
+-- a text that has this meaning is what is printed
+abbrev pub PrintsWhat : {E : Type 0} → (List ℕ → Type 0) → Option (List ℕ) → Option (List ℕ) → Result (Unit {0}) E
+    → Type 0
+PrintsWhat Means old new r = (text : List ℕ) × Means text × Prints old new r text

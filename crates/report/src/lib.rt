@@ -2,14 +2,15 @@
 // to. A read or a write that fails ends a program, and its error is handed on.
 #![tactic(auto)]
 
-ghost use Rattle.std.specs.Prelude.{ℕ, ◌≤◌, IfSome, length, replicate};
+ghost use Rattle.std.specs.Prelude.{◌≤◌, IfSome, length, replicate};
 ghost use Rattle.calls.specs.Values.{number_values, turned_away};
 ghost use Rattle.calls.specs.Bench.{judgement_values};
 ghost use Rattle.listing.specs.Most.{most_listing};
 ghost use Rattle.calls.specs.Table.{refused_text, or_refused, verdict_text, listing_on};
 ghost use Rattle.calls.specs.Table.{table_text, form_text, converted_text, judge_text};
+ghost use Rattle.calls.specs.Printing.{PrintsTable, PrintsForm, PrintsConverted, PrintsVerdict};
 ghost use Rattle.files.specs.Whole.{opened_remaining, Prints};
-ghost use Rattle.report.specs.Run.{left, IsRead, ReadsFirst};
+ghost use Rattle.report.specs.Run.{left, IsRead, ReadsFirst, PrintsWhat};
 
 mod print;
 
@@ -110,6 +111,8 @@ fn print_judgement<W: Write>(output: &mut W, sheet: &[u8], printed: &[u8]) -> io
 pub fn table<R: Read, W: Write>(input: &mut R, output: &mut W) -> io::Result<()>
     ensures text { IfSome (R.remaining input.old) (λ sheet.
         Prints (W.contents output.old) (W.contents output.new) result (table_text sheet)) }
+    ensures means { IfSome (R.remaining input.old) (λ sheet.
+        PrintsWhat (PrintsTable sheet) (W.contents output.old) (W.contents output.new) result) }
     ensures order { ReadsFirst (W.contents output.old) (W.contents output.new) result
         (IsRead (R.remaining input.old) (R.remaining input.new)) }
 {
@@ -122,6 +125,8 @@ pub fn table<R: Read, W: Write>(input: &mut R, output: &mut W) -> io::Result<()>
 pub fn house<R: Read, W: Write>(input: &mut R, output: &mut W) -> io::Result<()>
     ensures text { IfSome (R.remaining input.old) (λ sheet.
         Prints (W.contents output.old) (W.contents output.new) result (form_text sheet)) }
+    ensures means { IfSome (R.remaining input.old) (λ sheet.
+        PrintsWhat (PrintsForm sheet) (W.contents output.old) (W.contents output.new) result) }
     ensures order { ReadsFirst (W.contents output.old) (W.contents output.new) result
         (IsRead (R.remaining input.old) (R.remaining input.new)) }
 {
@@ -134,6 +139,8 @@ pub fn house<R: Read, W: Write>(input: &mut R, output: &mut W) -> io::Result<()>
 pub fn convert<R: Read, W: Write>(input: &mut R, output: &mut W) -> io::Result<()>
     ensures text { IfSome (R.remaining input.old) (λ sheet.
         Prints (W.contents output.old) (W.contents output.new) result (converted_text sheet)) }
+    ensures means { IfSome (R.remaining input.old) (λ sheet.
+        PrintsWhat (PrintsConverted sheet) (W.contents output.old) (W.contents output.new) result) }
     ensures order { ReadsFirst (W.contents output.old) (W.contents output.new) result
         (IsRead (R.remaining input.old) (R.remaining input.new)) }
 {
@@ -152,6 +159,9 @@ pub fn judge<S: Read, L: Read, W: Write>(
     ensures text { IfSome (opened_remaining S.remaining sheet_file.old) (λ sheet.
         IfSome (opened_remaining L.remaining listing_file.old) (λ printed.
         Prints (W.contents output.old) (W.contents output.new) result (judge_text sheet printed))) }
+    ensures means { IfSome (opened_remaining S.remaining sheet_file.old) (λ sheet.
+        IfSome (opened_remaining L.remaining listing_file.old) (λ printed.
+        PrintsWhat (PrintsVerdict sheet printed) (W.contents output.old) (W.contents output.new) result)) }
     ensures order { ReadsFirst (W.contents output.old) (W.contents output.new) result
         (IsRead (opened_remaining S.remaining sheet_file.old) (opened_remaining S.remaining sheet_file.new)
         × IsRead (opened_remaining L.remaining listing_file.old) (opened_remaining L.remaining listing_file.new)) }
