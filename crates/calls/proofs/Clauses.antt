@@ -23,7 +23,7 @@ use Rattle.calls.specs.Lists.{WritesListing}
 use Rattle.calls.specs.ReadingBack.{ReadsBack}
 use Rattle.calls.specs.Playing.{TellsRow}
 use Rattle.calls.specs.Housing.{WritesForm}
-use Rattle.calls.specs.Converting.{RefusesFormer, WritesConverted}
+use Rattle.calls.specs.Converting.{AnswersFormer, WritesConverted}
 use Rattle.calls.proofs.Handed.{Rightly}
 use Rattle.calls.proofs.Judging.{judge-answers, judge_passes, judge-breaches}
 use Rattle.calls.proofs.Solving.{solver_writes}
@@ -100,14 +100,12 @@ module _ (sheet : List ℕ) where
 
     pub convert-clauses : v ≡ number_values (converting sheet m).answer → x ≡ (converting sheet m).memory
         → record {
-          refusals : AnswersInto (read_as_max_lem sheet) (converts sheet m) m v x;
-          former : RefusesFormer sheet v;
+          refusals : AnswersFormer sheet m v x;
           converted : WritesConverted sheet (in_place_lem m) v x;
         }
     convert-clauses e f =
         rw (e, f) (record {
-          refusals = converter_writes sheet m;
-          former = λ r g. (conversions.refused sheet m r g).0;
+          refusals = conversions.answers sheet m;
           converted = conversions.writes sheet m;
         })
 

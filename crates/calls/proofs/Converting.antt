@@ -2,7 +2,7 @@
 use mathlib.Core.Path.{◌≡◌, refl, sym, ◌∙◌, ap}
 use mathlib.Core.Logic.{◌↔◌, inl, inr}
 use mathlib.Core.List.{List}
-use Prim.Native.Nat.{ℕ, ◌≤◌}
+use Prim.Native.Nat.{ℕ, ◌≤◌, ◌<◌}
 use native.Mathlib.Omega.{arith}
 use lib.ListN.{length}
 use Rattle.refusal.specs.Refusal.{number_of}
@@ -38,9 +38,9 @@ use Rattle.calls.specs.Lent.{in_place_lem}
 use Rattle.calls.specs.Values.{OrRefusal, turned_away, number_values}
 use Rattle.calls.specs.Calls.{writing, refusing, convert_tests, converting}
 use Rattle.calls.specs.Answers.{Reads, WroteText}
-use Rattle.calls.specs.Converting.{FormerReads, Conversion, ConvertedTo, WritesConverted, Converting}
+use Rattle.calls.specs.Converting.{FormerReads, Conversion, ConvertedTo, AnswersFormer, WritesConverted, Converting}
 use Rattle.calls.proofs.Call.{Ends, faulty, failed, worked, ends, call-refused, reads_well_formed}
-use Rattle.calls.proofs.Writing.{converter-wrote}
+use Rattle.calls.proofs.Writing.{converter-wrote, converter_writes}
 
 -- the network that today's reader makes of the former sheet
 abbrev former : List ℕ → Network
@@ -160,6 +160,15 @@ refused sheet m r f =
       sym (ap (λ (l : Left (OrRefusal ℕ)). l.memory) is),
     )
 
+-- 17 and 12 for as many rules, and a text of the same bytes
+abbrev Seventeen : List ℕ → ℕ → ℕ → List ℕ → Type 0
+Seventeen m n rules text =
+    ((n ≡ 17) ↔ (L.rules < rules))
+    × ((L.rules < rules → ⊥) → ((n ≡ 12) ↔ (length m < length text)) × ((length m < length text → ⊥) → n ≡ 0))
+
+exactly-as : (m : List ℕ) (n a b : ℕ) (s t : List ℕ) → a ≡ b → s ≡ t → Seventeen m n a s → Seventeen m n b t
+exactly-as m n a b s t p q h = rw (← p, ← q) h
+
 -- what the sheet becomes, with all that is said of it
 becomes : (sheet t : List ℕ) (Γ : Network) (c : Conversion sheet Γ t) → SameBytes sheet Γ t
     → ConvertedTo sheet Γ c.reads t
@@ -188,8 +197,30 @@ writes sheet m Γ reads few = (
   written sheet m (converted sheet Γ) Γ (record { reads = reads; few = few; text = refl }),
 )
 
+-- the refusals by the former rules are those of the sheet which is read
+pub answers-former : (sheet m : List ℕ)
+    → let l = converting sheet m in AnswersFormer sheet m (number_values l.answer) l.memory
+answers-former sheet m =
+    let all = converter_writes sheet m in
+    let by_read = all.answers in
+    record {
+      answers = record {
+        numbers = by_read.numbers;
+        lines = by_read.lines;
+        near = by_read.near;
+        at_fault = λ r f. by_read.at_fault r ((former_fault_iff sheet r).0 f);
+        exactly = λ Γ r.
+            let same = counts_former r in
+            exactly-as m _ _ _ _ _ same.0 same.1
+            (by_read.exactly (former sheet) (record { accepted = (former_iff sheet).1 r.layout; network = refl }));
+        refusal_empty = by_read.refusal_empty;
+      };
+      keeps = all.keeps;
+    }
+
 pub conversions : Converting
 conversions = record {
+  answers = answers-former;
   writes = writes;
   reads_former = former_iff;
   read_into = read_into;

@@ -39,25 +39,34 @@ abbrev pub OneOf : List Own → ℕ → Type 0
 OneOf [] n = ⊥
 OneOf (o ∷ os) n = (n ≡ o.number) ⊎ OneOf os n
 
--- of the values that a call with these refusals answers for the sheet, where `nothing` is what a refusal tells
-pub record Answers (sheet : List ℕ) (own : List Own) {A : Type 0} (nothing : A) (v : Values A) : Type 0 where
+-- of the values that a call with these refusals answers, where `nothing` is what a refusal tells: by what a fault of the
+-- sheet is, and what it is for the sheet to be read as a network
+pub record AnswersBy (Faulty : Refusal → Type 0) (ReadAs : Network → Type 0) (own : List Own) {A : Type 0} (nothing : A)
+    (v : Values A) : Type 0 where
   -- 0, a number from 1 to 10 or from 20 to 22, or one of the call's own
   pub numbers : OfSheet v.number ⊎ OneOf own v.number
   -- a line from 1 on exactly for the refusals that name one; no line is further on than the longest sheet allows
   pub lines : (1 ≤ v.line) ↔ (names_line v.number ≡ true)
   pub near : v.line ≤ suc longest
   -- the fault of a sheet is the answer of every call
-  pub at_fault : (r : Refusal) → Fault sheet r → v ≡ turned_away nothing r
+  pub at_fault : (r : Refusal) → Faulty r → v ≡ turned_away nothing r
   -- of a sheet with none, the call's own refusals decide
-  pub exactly : (Γ : Network) → Reads sheet Γ → Exactly own Γ v.number
+  pub exactly : (Γ : Network) → ReadAs Γ → Exactly own Γ v.number
   pub refusal_empty : (v.number ≡ 0 → ⊥) → v.value ≡ nothing
+
+-- for a sheet of today
+abbrev pub Answers : List ℕ → List Own → {A : Type 0} → A → Values A → Type 0
+Answers sheet own nothing v = AnswersBy (Fault sheet) (Reads sheet) own nothing v
 
 -- of a call that writes into lent memory, which held `before` and then holds `after`: it answers so, and "a refusal
 -- leaves each lent buffer unaltered"
-pub record AnswersInto (sheet : List ℕ) (own : List Own) (before : List ℕ) (v : Values ℕ) (after : List ℕ)
-    : Type 0 where
-  pub answers : Answers sheet own 0 v
+pub record AnswersIntoBy (Faulty : Refusal → Type 0) (ReadAs : Network → Type 0) (own : List Own) (before : List ℕ)
+    (v : Values ℕ) (after : List ℕ) : Type 0 where
+  pub answers : AnswersBy Faulty ReadAs own 0 v
   pub keeps : (v.number ≡ 0 → ⊥) → after ≡ before
+
+abbrev pub AnswersInto : List ℕ → List Own → List ℕ → Values ℕ → List ℕ → Type 0
+AnswersInto sheet own before v after = AnswersIntoBy (Fault sheet) (Reads sheet) own before v after
 
 -- such a call is defined to leave this
 abbrev pub Writes : List ℕ → List Own → Left (OrRefusal ℕ) → List ℕ → Type 0

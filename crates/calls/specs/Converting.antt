@@ -20,7 +20,8 @@ use Rattle.conversion.specs.Converted.{resulting, converted, converted_contents,
 use Rattle.calls.specs.Values.{Values, turned_away, number_values}
 use Rattle.calls.specs.Lent.{Lent, in_place_lem}
 use Rattle.calls.specs.Calls.{converting}
-use Rattle.calls.specs.Answers.{Reads, WroteInto, WroteText}
+use Rattle.calls.specs.Answers.{Reads, AnswersIntoBy, WroteInto, WroteText}
+use Rattle.calls.specs.Numbers.{converts}
 
 -- the sheet has the layout of a former sheet, and Γ is a network that holds what it contains
 pub record FormerReads (sheet : List ℕ) (Γ : Network) : Type 0 where
@@ -43,11 +44,13 @@ pub record ConvertedTo (sheet : List ℕ) (Γ : Network) (reads : FormerReads sh
   pub least : (σ : List ℕ) → FormerLeast reads.layout.contents Γ σ ↔ Least network σ
   pub none : FormerNone reads.layout.contents Γ ↔ Inconsistent network
 
--- the call refuses with the fault that the sheet has by the former rules
-abbrev pub RefusesFormer : List ℕ → Values ℕ → Type 0
-RefusesFormer sheet v = (r : Refusal) → FormerFault sheet r → v ≡ turned_away 0 r
+-- the call answers by the former rules: with the fault that the sheet has by them, and of a sheet with their layout 17 and
+-- 12 exactly where these hold
+abbrev pub AnswersFormer : List ℕ → List ℕ → Values ℕ → List ℕ → Type 0
+AnswersFormer sheet before v after =
+    AnswersIntoBy (FormerFault sheet) (FormerReads sheet) (converts sheet before) before v after
 
--- and otherwise, where there is room for the rules that result and for the text, it has written the converted sheet
+-- and where there is room for the rules that result and for the text, it has written the converted sheet
 abbrev pub WritesConverted : List ℕ → Lent → Values ℕ → List ℕ → Type 0
 WritesConverted sheet m v after =
     (Γ : Network) (reads : FormerReads sheet Γ) → resulting sheet Γ ≤ L.rules
@@ -70,6 +73,8 @@ pub record Converting : Type 0 where
       → (i : ℕ) × FirstFix r.layout.contents i × Fault sheet (refusal RetiredKind (suc (suc (heading_line Γ) + i)))
   pub for_fix : (sheet : List ℕ) (r : Refusal) → Fault sheet r → number_of r.cause ≡ 22 → fixes sheet ≡ 0 → ⊥
   pub never : (sheet m : List ℕ) → (number_values (converting sheet m).answer).number ≡ 22 → ⊥
+  pub answers : (sheet m : List ℕ)
+      → let l = converting sheet m in AnswersFormer sheet m (number_values l.answer) l.memory
   pub writes : (sheet m : List ℕ)
       → let l = converting sheet m in WritesConverted sheet (in_place_lem m) (number_values l.answer) l.memory
   -- where there is room the converted sheet is written, and everything behind it is unaltered

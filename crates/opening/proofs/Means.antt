@@ -7,7 +7,6 @@ use Rattle.checker.specs.declared.Verdict.{Verdict}
 use Rattle.dispatch.specs.Said.{said_from}
 use Rattle.dispatch.specs.declared.Heard.{Heard}
 use Rattle.sheet.specs.Reading.{network_of}
-use Rattle.conversion.specs.FormerRules.{read_as_max_lem}
 use Rattle.calls.specs.Values.{OrRefusal, number_values}
 use Rattle.calls.specs.Call.{Leaves}
 use Rattle.calls.specs.Lent.{as_minutes, in_place_lem}
@@ -16,7 +15,7 @@ use Rattle.calls.specs.Play.{events_due_lem, events_due_on_lem}
 use Rattle.calls.specs.Recover.{recovering}
 use Rattle.calls.specs.Bench.{no_finding, judgement_values}
 use Rattle.calls.specs.Answers.{Answers, AnswersInto}
-use Rattle.calls.specs.Numbers.{minutes, judges, solves, lists, houses, converts, recovers, plays}
+use Rattle.calls.specs.Numbers.{minutes, judges, solves, lists, houses, recovers, plays}
 use Rattle.calls.specs.Numbers.{misnamed_by, unheard_by, misnamed_on, unheard_on}
 use Rattle.calls.specs.Reader.{AcceptsLayout, RefusesFault, CountsContents}
 use Rattle.calls.specs.Judges.{Passes, Breaches}
@@ -25,7 +24,7 @@ use Rattle.calls.specs.Lists.{WritesListing}
 use Rattle.calls.specs.ReadingBack.{ReadsBack}
 use Rattle.calls.specs.Playing.{TellsRow}
 use Rattle.calls.specs.Housing.{WritesForm}
-use Rattle.calls.specs.Converting.{RefusesFormer, WritesConverted}
+use Rattle.calls.specs.Converting.{AnswersFormer, WritesConverted}
 use Rattle.calls.specs.declared.Counts.{Counts}
 use Rattle.calls.proofs.Numbers.{numbers}
 use Rattle.calls.proofs.Demands.{demands}
@@ -133,10 +132,9 @@ module _ (sheet : List ℕ) where
     pub convert_means : Leaves (converting sheet m) r x
         → record {
           outcome : Leaves (converting sheet m) r x;
-          refusals : AnswersInto (read_as_max_lem sheet) (converts sheet m) m (number_values r) x;
-          former : RefusesFormer sheet (number_values r);
+          refusals : AnswersFormer sheet m (number_values r) x;
           converted : WritesConverted sheet (in_place_lem m) (number_values r) x;
         }
     convert_means h =
         let w = convert-clauses sheet m _ x (ap number_values h.answer) h.memory in
-        record { outcome = h; refusals = w.refusals; former = w.former; converted = w.converted }
+        record { outcome = h; refusals = w.refusals; converted = w.converted }

@@ -4,7 +4,6 @@
 
 ghost use Rattle.std.specs.Prelude.{◌≡◌, List, [], Ok, Err, MatchResult, length};
 ghost use Rattle.dispatch.specs.Said.{said_from};
-ghost use Rattle.conversion.specs.FormerRules.{read_as_max_lem};
 ghost use Rattle.calls.specs.Values.{number_values};
 ghost use Rattle.calls.specs.Call.{Leaves};
 ghost use Rattle.calls.specs.Lent.{in_place_lem};
@@ -13,7 +12,7 @@ ghost use Rattle.calls.specs.Play.{events_due_lem, events_due_on_lem};
 ghost use Rattle.calls.specs.Recover.{recovering};
 ghost use Rattle.calls.specs.Bench.{no_finding, judgement_values};
 ghost use Rattle.calls.specs.Answers.{Answers, AnswersInto};
-ghost use Rattle.calls.specs.Numbers.{minutes, judges, solves, lists, houses, converts, recovers, plays};
+ghost use Rattle.calls.specs.Numbers.{minutes, judges, solves, lists, houses, recovers, plays};
 ghost use Rattle.calls.specs.Numbers.{misnamed_by, unheard_by, misnamed_on, unheard_on};
 ghost use Rattle.calls.specs.Reader.{AcceptsLayout, RefusesFault, CountsContents};
 ghost use Rattle.calls.specs.Judges.{Passes, Breaches};
@@ -22,7 +21,7 @@ ghost use Rattle.calls.specs.Lists.{WritesListing};
 ghost use Rattle.calls.specs.ReadingBack.{ReadsBack};
 ghost use Rattle.calls.specs.Playing.{TellsRow};
 ghost use Rattle.calls.specs.Housing.{WritesForm};
-ghost use Rattle.calls.specs.Converting.{RefusesFormer, WritesConverted};
+ghost use Rattle.calls.specs.Converting.{AnswersFormer, WritesConverted};
 ghost use Rattle.opening.specs.Prologue.{handed_in_lem, of_unread, of_unanswered};
 
 use calls::Counts;
@@ -154,9 +153,7 @@ pub fn write_house(sheet: &[u8], out: &mut [u8]) -> Result<usize, Refusal>
 // A former sheet with a `max` and a `min` row in the place of each `fix`, into the first bytes of out.
 pub fn convert_sheet(sheet: &[u8], out: &mut [u8]) -> Result<usize, Refusal>
     ensures outcome { Leaves (converting sheet.now out.old) result out.new }
-    ensures refusals { AnswersInto (read_as_max_lem sheet.now) (converts sheet.now out.old) out.old
-        (number_values result) out.new }
-    ensures former { RefusesFormer sheet.now (number_values result) }
+    ensures refusals { AnswersFormer sheet.now out.old (number_values result) out.new }
     ensures converted { WritesConverted sheet.now (in_place_lem out.old) (number_values result) out.new }
 {
     let former = conversion::read(sheet)?;

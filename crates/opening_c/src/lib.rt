@@ -7,7 +7,6 @@ ghost use Rattle.std.specs.Prelude.{◌≡◌, true, ◌/◌, ◌<◌, min, leng
 ghost use Rattle.pairs.specs.Pairs.{minutes_of};
 ghost use Rattle.network.specs.Limits as L;
 ghost use Rattle.dispatch.specs.HeardText.{is_heard_lem, heard_in};
-ghost use Rattle.conversion.specs.FormerRules.{read_as_max_lem};
 ghost use Rattle.calls.specs.Values.{number_values};
 ghost use Rattle.calls.specs.Call.{Leaves};
 ghost use Rattle.calls.specs.Lent.{in_place_lem, in_pairs};
@@ -15,7 +14,7 @@ ghost use Rattle.calls.specs.Calls.{housed, converting};
 ghost use Rattle.calls.specs.Bench as B;
 ghost use Rattle.calls.specs.Header.{told, found, shifted};
 ghost use Rattle.calls.specs.Answers.{Answers, AnswersInto};
-ghost use Rattle.calls.specs.Numbers.{bytes, judges, solves, lists, houses, converts, recovers, plays};
+ghost use Rattle.calls.specs.Numbers.{bytes, judges, solves, lists, houses, recovers, plays};
 ghost use Rattle.calls.specs.Numbers.{misnamed_in, unheard_by};
 ghost use Rattle.calls.specs.Judges.{Passes, Breaches};
 ghost use Rattle.calls.specs.Solves.{RefusesNone, WritesLeast};
@@ -23,7 +22,7 @@ ghost use Rattle.calls.specs.Lists.{WritesListing};
 ghost use Rattle.calls.specs.ReadingBack.{ReadsBack};
 ghost use Rattle.calls.specs.Playing.{TellsRow};
 ghost use Rattle.calls.specs.Housing.{WritesForm};
-ghost use Rattle.calls.specs.Converting.{RefusesFormer, WritesConverted};
+ghost use Rattle.calls.specs.Converting.{AnswersFormer, WritesConverted};
 ghost use Rattle.opening_c.specs.Packed.{HasRoom, packed_table_lem};
 
 mod answer;
@@ -130,9 +129,7 @@ pub extern "C" fn opening_house(sheet: &[u8], out: &mut [u8]) -> u64
 #[unsafe(no_mangle)]
 pub extern "C" fn opening_convert(sheet: &[u8], out: &mut [u8]) -> u64
     ensures outcome { Leaves (B.packed_left (converting sheet.now out.old)) result out.new }
-    ensures refusals { AnswersInto (read_as_max_lem sheet.now) (converts sheet.now out.old) out.old (told result)
-        out.new }
-    ensures former { RefusesFormer sheet.now (told result) }
+    ensures refusals { AnswersFormer sheet.now out.old (told result) out.new }
     ensures converted { WritesConverted sheet.now (in_place_lem out.old) (told result) out.new }
     ensures unused { shifted result 40 ≡ 0 }
 {

@@ -18,4 +18,4 @@ returns c =
     let h = packed-left (converting sheet m) c.convert_sheet.ensures.outcome c.packed_written.ensures in
     let t = left-tells (converting sheet m) h (benched.converter_holds sheet m) in
     let w = convert-clauses sheet m _ _ t.values h.memory in
-    record { outcome = h; refusals = w.refusals; former = w.former; converted = w.converted; unused = t.unused }
+    record { outcome = h; refusals = w.refusals; converted = w.converted; unused = t.unused }
