@@ -1,5 +1,5 @@
 -- What is found of the first n numbers of tables, as slices, is found of the tables. Assumes nothing.
-use mathlib.Core.Path.{◌≡◌, ◌∙◌}
+use mathlib.Core.Path.{◌≡◌, ap, ◌∙◌}
 use mathlib.Core.List.{List}
 use Prim.Native.Nat.{ℕ, ◌-◌, ◌*◌, ◌≤◌, ◌<◌}
 use native.Mathlib.Omega.{arith}
@@ -8,7 +8,7 @@ use Rattle.std.proofs.lemmas.List.{get_or-take, length-take-le}
 use Rattle.network.specs.Build.{scenarios}
 use Rattle.network.specs.declared.Network.{Network}
 use Rattle.rows.specs.Rows.{Times, Wrote}
-use Rattle.moves.specs.Moves.{Clipped}
+use Rattle.moves.specs.Moves.{clipped_lem, Clipped}
 use Rattle.moves.specs.Levels.{SomeRise}
 use Rattle.moves.proofs.Moves.{clipped_times, wrote-times}
 
@@ -26,11 +26,14 @@ module _ {n : ℕ} where
         wrote-times (λ i. get_or (take n x) i 0 - get_or (take n t) i 0) X (length-replicate {A = ℕ} 256 0)
         (rw l at W) (λ i b. omega (arith, get_or-take n x i 0 (omega arith)))
 
-    pub clip-times : {d o : List ℕ} → Times Γ d → n ≤ length d → Clipped (take n d) (length (take n d)) o → Times Γ o
-    clip-times {d} D h C =
+    pub clip-times : {d o : List ℕ} {top m : ℕ} → Times Γ d → n ≤ length d
+        → Clipped (take n d) top m (length (take n d)) o → Times Γ o
+    clip-times {d} {top = top} {m} D h C =
         let l = front_length d h in
         clipped_times D (record {
           sized = C.sized;
+          at = λ i b.
+              C.at i (omega arith) ∙ ap (clipped_lem top m) (get_or-take n d i 0 (omega arith));
           low = λ i b q. C.low i (omega arith) (omega (arith, get_or-take n d i 0 (omega arith)));
           none = λ i b q. C.none i (omega arith) (get_or-take n d i 0 (omega arith) ∙ q);
         })

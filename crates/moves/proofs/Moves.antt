@@ -28,7 +28,7 @@ module _ {Γ : Network} where
           let stays : j * part_of lo hi (get_or d i 0) ≡ 0 = rw none (mul-zero j) in
           omega (arith, P.at i b)
 
-  pub clipped_times : {d o : List ℕ} → Times Γ d → Clipped d (scenarios Γ * 16) o → Times Γ o
+  pub clipped_times : {d o : List ℕ} {top m : ℕ} → Times Γ d → Clipped d top m (scenarios Γ * 16) o → Times Γ o
   clipped_times D C = record {
     sized = C.sized;
     few = λ s u hs hu. C.low (s * 16 + u) (omega arith) (D.few s u hs hu);

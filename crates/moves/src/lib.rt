@@ -1,17 +1,17 @@
 // Tables moved on: each time by j times a part of its rise. Rises stand in tables like times, and a level is one of
-// their values; a slice has the times or rises of the cells that count. Nothing here knows of rounds. A test that says
-// true promises what it tested; one that says false promises nothing. Tables are written by index: of what
-// `iter_mut().zip(..)` writes a proof would know nothing, and since only the first cells of an array are written, a
-// part of it would have to be lent, and put back in the proof. That counts of moves and levels are at most a horizon is
-// asked where they come in: what holds them, `Guess` and `Tries`, says so.
+// their values; a slice has the times or rises of the cells that count. Nothing here knows of rounds. A test says true
+// where what it tests is so, and false where it is not. Tables are written by index: of what `iter_mut().zip(..)` writes
+// a proof would know nothing, and since only the first cells of an array are written, a part of it would have to be
+// lent, and put back in the proof. That counts of moves and levels are at most a horizon is asked where they come in:
+// what holds them, `Guess` and `Tries`, says so.
 #![tactic(auto)]
 
-ghost use Rattle.std.specs.Prelude.{◌≡◌, true, ◌+◌, ◌-◌, ◌*◌, ◌%◌, ◌≤◌, ◌<◌, length, get_or, replicate};
-ghost use Rattle.std.specs.Prelude.{MatchOption, IfSome, min, ltb};
+ghost use Rattle.std.specs.Prelude.{◌≡◌, ◌⊎◌, true, false, ◌+◌, ◌-◌, ◌*◌, ◌%◌, ◌≤◌, ◌<◌, length, get_or, replicate};
+ghost use Rattle.std.specs.Prelude.{MatchOption, min, ltb};
 ghost use Rattle.std.specs.List.{filter, reduce};
 ghost use Rattle.network.specs.Limits as L;
 ghost use Rattle.rows.specs.Rows.{Wrote};
-ghost use Rattle.moves.specs.Moves.{part_of, Placed, Between, Clipped};
+ghost use Rattle.moves.specs.Moves.{part_of, Placed, TooFar, Between, Outside, clipped_lem, Clipped};
 ghost use Rattle.moves.specs.Levels.{SomeRise, Highest, NextLevel};
 
 use network::Network;
@@ -76,7 +76,8 @@ impl Part {
     // Where j moves take the time t, whose rise is d, if that is at most the limit.
     fn moved(&self, t: u16, d: u16, j: u32, limit: u16) -> Option<u16>
         requires { j ≤ L.horizon }
-        ensures { IfSome result (λ v. (v ≡ t + j * part_of self.now.lo self.now.hi d) × (v ≤ limit)) }
+        ensures { MatchOption result (limit < t + j * part_of self.now.lo self.now.hi d)
+            (λ v. (v ≡ t + j * part_of self.now.lo self.now.hi d) × (v ≤ limit)) }
     {
         let v = reached(t, d.saturating_sub(self.lo).min(self.hi), j);
         if v <= u32::from(limit) {
@@ -90,7 +91,7 @@ impl Part {
     // The times t moved on j times by these parts of their rises d, if they stay within the limits.
     pub fn place(&self, t: &[u16], d: &[u16], j: u32, horizon: u16) -> Option<Table>
         requires { (length t.now ≤ L.cells) × (length d.now ≡ length t.now) × (j ≤ L.horizon) }
-        ensures { IfSome result
+        ensures { MatchOption result (TooFar t.now d.now self.now.lo self.now.hi j horizon (length t.now))
             (λ o. (length o ≡ L.cells)
             × Placed t.now d.now self.now.lo self.now.hi j horizon (length t.now) o) }
     {
@@ -106,7 +107,7 @@ impl Part {
 
 // Whether some rise is not 0.
 pub fn is_risen(d: &[u16]) -> bool
-    ensures { result ≡ true → SomeRise d.now (length d.now) }
+    ensures { (result ≡ true → SomeRise d.now (length d.now)) × (result ≡ false → Highest d.now 0 (length d.now)) }
 {
     d.iter().any(|rise| *rise != 0)
 }
@@ -136,7 +137,8 @@ pub struct Span {
 impl Span {
     // Whether the time o is so far after t.
     fn is_between(&self, t: u16, o: u16) -> bool
-        ensures { result ≡ true → (t + self.now.least ≤ o) × (o ≤ t + self.now.most) }
+        ensures { (result ≡ true → (t + self.now.least ≤ o) × (o ≤ t + self.now.most))
+            × (result ≡ false → (o < t + self.now.least) ⊎ (t + self.now.most < o)) }
     {
         o.checked_sub(t).is_some_and(|gone| self.least <= u32::from(gone)
             && u32::from(gone) <= self.most)
@@ -145,7 +147,8 @@ impl Span {
     // Whether each time whose rise is l has gone so far from t to o.
     pub fn between(&self, t: &[u16], o: &[u16], d: &[u16], l: u16) -> bool
         requires { (length o.now ≡ length t.now) × (length d.now ≡ length t.now) }
-        ensures { result ≡ true → Between t.now d.now l self.now.least self.now.most o.now (length t.now) }
+        ensures { (result ≡ true → Between t.now d.now l self.now.least self.now.most o.now (length t.now))
+            × (result ≡ false → Outside t.now d.now l self.now.least self.now.most o.now (length t.now)) }
     {
         t.iter()
             .zip(o)
@@ -154,15 +157,21 @@ impl Span {
     }
 }
 
-// The highest rise stays, none stays none, and any other becomes m. These are guesses at bounds: no more is promised
-// than that none is over a horizon where its rise is not, and that 0 stays.
+// The highest rise stays, none stays none, and any other becomes m.
+fn clipped(rise: u16, top: u16, m: u16) -> u16
+    ensures { result ≡ clipped_lem top m rise }
+{
+    if rise == 0 || rise == top { rise } else { m }
+}
+
+// All rises, clipped.
 pub fn clip(d: &[u16], top: u16, m: u16) -> Table
     requires { (length d.now ≤ L.cells) × (m ≤ L.horizon) }
-    ensures { Clipped d.now (length d.now) result }
+    ensures { Clipped d.now top m (length d.now) result }
 {
     let mut o = [0; Network::CELLS];
     for i in 0..d.len() {
-        o[i] = if d[i] == 0 || d[i] == top { d[i] } else { m };
+        o[i] = clipped(d[i], top, m);
     }
     o
 }

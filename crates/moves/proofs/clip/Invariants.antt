@@ -3,4 +3,4 @@ use Rattle.moves.specs.Moves.{Clipped}
 use Rattle.moves.proofs.clip.Given as goal
 
 abbrev pub invariant-loop-i : goal.invariant-loop-i
-invariant-loop-i l = Clipped l.d l.i l.o
+invariant-loop-i l = Clipped l.d l.top l.m l.i l.o
