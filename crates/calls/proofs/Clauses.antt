@@ -8,14 +8,13 @@ use Rattle.pairs.specs.Pairs.{minutes_of}
 use Rattle.network.specs.declared.Network.{Network}
 use Rattle.sheet.specs.Reading.{network_of}
 use Rattle.dispatch.specs.HeardText.{is_heard_lem, heard_in}
-use Rattle.conversion.specs.FormerRules.{read_as_max_lem}
 use Rattle.calls.specs.Values.{Values, number_values}
 use Rattle.calls.specs.Lent.{Handed, Lent, in_place_lem}
 use Rattle.calls.specs.Calls.{judging, solving_into, listing_of, housed, converting}
 use Rattle.calls.specs.Recover.{recovering_into}
 use Rattle.calls.specs.Bench.{Finding, no_finding, judgement_values, bench_due}
 use Rattle.calls.specs.Answers.{Answers, AnswersInto}
-use Rattle.calls.specs.Numbers.{bytes, judges, solves, lists, houses, converts, recovers}
+use Rattle.calls.specs.Numbers.{bytes, judges, solves, lists, houses, recovers}
 use Rattle.calls.specs.Numbers.{plays, misnamed_in, unheard_by}
 use Rattle.calls.specs.Judges.{Passes, Breaches}
 use Rattle.calls.specs.Solves.{RefusesNone, WritesLeast}
@@ -27,7 +26,7 @@ use Rattle.calls.specs.Converting.{AnswersFormer, WritesConverted}
 use Rattle.calls.proofs.Handed.{Rightly}
 use Rattle.calls.proofs.Judging.{judge-answers, judge_passes, judge-breaches}
 use Rattle.calls.proofs.Solving.{solver_writes}
-use Rattle.calls.proofs.Writing.{lister_writes, listing-wrote, house_writes, converter_writes}
+use Rattle.calls.proofs.Writing.{lister_writes, listing-wrote, house_writes}
 use Rattle.calls.proofs.Recovering.{recoverer-writes}
 use Rattle.calls.proofs.ReadingBack.{reading_back}
 use Rattle.calls.proofs.Housing.{housing}

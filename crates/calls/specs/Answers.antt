@@ -39,10 +39,10 @@ abbrev pub OneOf : List Own → ℕ → Type 0
 OneOf [] n = ⊥
 OneOf (o ∷ os) n = (n ≡ o.number) ⊎ OneOf os n
 
--- of the values that a call with these refusals answers, where `nothing` is what a refusal tells: by what a fault of the
--- sheet is, and what it is for the sheet to be read as a network
-pub record AnswersBy (Faulty : Refusal → Type 0) (ReadAs : Network → Type 0) (own : List Own) {A : Type 0} (nothing : A)
-    (v : Values A) : Type 0 where
+-- of the values that a call with these refusals answers, where `nothing` is what a refusal tells: by what a fault of
+-- the sheet is, and what it is for the sheet to be read as a network
+pub record AnswersBy (Faulty : Refusal → Type 0) (ReadAs : Network → Type 0) (own : List Own) {A : Type 0}
+    (nothing : A) (v : Values A) : Type 0 where
   -- 0, a number from 1 to 10 or from 20 to 22, or one of the call's own
   pub numbers : OfSheet v.number ⊎ OneOf own v.number
   -- a line from 1 on exactly for the refusals that name one; no line is further on than the longest sheet allows

@@ -44,8 +44,8 @@ pub record ConvertedTo (sheet : List ℕ) (Γ : Network) (reads : FormerReads sh
   pub least : (σ : List ℕ) → FormerLeast reads.layout.contents Γ σ ↔ Least network σ
   pub none : FormerNone reads.layout.contents Γ ↔ Inconsistent network
 
--- the call answers by the former rules: with the fault that the sheet has by them, and of a sheet with their layout 17 and
--- 12 exactly where these hold
+-- the call answers by the former rules: with the fault that the sheet has by them, and of a sheet with their layout 17
+-- and 12 exactly where these hold
 abbrev pub AnswersFormer : List ℕ → List ℕ → Values ℕ → List ℕ → Type 0
 AnswersFormer sheet before v after =
     AnswersIntoBy (FormerFault sheet) (FormerReads sheet) (converts sheet before) before v after

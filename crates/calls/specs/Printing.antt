@@ -44,8 +44,8 @@ pub record PrintsConverted (sheet text : List ℕ) : Type 0 where
   pub converted : (Γ : Network) (reads : FormerReads sheet Γ) → resulting sheet Γ ≤ L.rules
       → ConvertedTo sheet Γ reads text
 
--- `judge`: "the line that `table` prints for a refusal", the sheet's own first, then 18 and 19; otherwise the listing is
--- that of a table, and `pass` is printed exactly where that is a good one, and else the first breach
+-- `judge`: "the line that `table` prints for a refusal", the sheet's own first, then 18 and 19; otherwise the listing
+-- is that of a table, and `pass` is printed exactly where that is a good one, and else the first breach
 pub record PrintsVerdict (sheet printed text : List ℕ) : Type 0 where
   pub refused : (r : Refusal) → Fault sheet r → text ≡ refused_text (turned_away 0 r)
   pub misfit : (Γ : Network) (l : ℕ) → Reads sheet Γ → Misfit (header sheet Γ) Γ.signals Γ.events printed l

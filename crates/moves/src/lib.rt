@@ -1,9 +1,9 @@
 // Tables moved on: each time by j times a part of its rise. Rises stand in tables like times, and a level is one of
 // their values; a slice has the times or rises of the cells that count. Nothing here knows of rounds. A test says true
-// where what it tests is so, and false where it is not. Tables are written by index: of what `iter_mut().zip(..)` writes
-// a proof would know nothing, and since only the first cells of an array are written, a part of it would have to be
-// lent, and put back in the proof. That counts of moves and levels are at most a horizon is asked where they come in:
-// what holds them, `Guess` and `Tries`, says so.
+// where what it tests is so, and false where it is not. Tables are written by index: of what `iter_mut().zip(..)`
+// writes a proof would know nothing, and since only the first cells of an array are written, a part of it would have to
+// be lent, and put back in the proof. That counts of moves and levels are at most a horizon is asked where they come
+// in: what holds them, `Guess` and `Tries`, says so.
 #![tactic(auto)]
 
 ghost use Rattle.std.specs.Prelude.{◌≡◌, ◌⊎◌, true, false, ◌+◌, ◌-◌, ◌*◌, ◌%◌, ◌≤◌, ◌<◌, length, get_or, replicate};

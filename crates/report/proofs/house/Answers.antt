@@ -7,11 +7,13 @@ use Rattle.report.proofs.house.Goals as goal
 
 pub returns-in_err-n-clause-text : goal.returns-in_err-n-clause-text
 returns-in_err-n-clause-text g c =
-    whatever (g.R.Read.remaining c.args.input.now) (λ s. nothing_printed _ _ c.from_residual.ensures.0 (form_text s))
+    whatever (g.R.Read.remaining c.args.input.now)
+    (λ s. nothing_printed _ _ c.from_residual.ensures.0 (form_text s))
 
 pub returns-in_err-n-clause-means : goal.returns-in_err-n-clause-means
 returns-in_err-n-clause-means g c =
-    meant _ _ _ form_text PrintsForm printing.house (g.R.Read.remaining c.args.input.now) (returns-in_err-n-clause-text g c)
+    meant _ _ _ form_text PrintsForm printing.house (g.R.Read.remaining c.args.input.now)
+    (returns-in_err-n-clause-text g c)
 
 pub returns-clause-text : goal.returns-clause-text
 returns-clause-text g c =
@@ -20,4 +22,5 @@ returns-clause-text g c =
 
 pub returns-clause-means : goal.returns-clause-means
 returns-clause-means g c =
-    meant _ _ _ form_text PrintsForm printing.house (g.R.Read.remaining c.args.input.now) (returns-clause-text g c)
+    meant _ _ _ form_text PrintsForm printing.house (g.R.Read.remaining c.args.input.now)
+    (returns-clause-text g c)
