@@ -1,5 +1,5 @@
 -- What holds of the call that converts former sheets (02, point 7), for every sheet and lent buffer: "the good tables
--- before and after are the same set". Where it refuses stands in `Numbers`.
+-- before and after are the same set". Where it refuses stands in `answers`, and in `Numbers` as it is computed.
 use Rattle.std.specs.Prelude.{◌≡◌, ◌↔◌, List, ℕ, suc, ◌+◌, ◌≤◌, length}
 use Rattle.refusal.specs.Refusal.{number_of, refusal}
 use Rattle.refusal.specs.declared.Cause.TheVariants.{RetiredKind}

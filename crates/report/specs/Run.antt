@@ -14,7 +14,7 @@ left answer memory = record { answer = answer; memory = memory }
 abbrev pub IsRead : Option (List ℕ) → Option (List ℕ) → Type 0
 IsRead old new = GivesFirst (suc longest) old new
 
--- where the program failed, nothing was written, or all had been read before
+-- where the program answers with an error, nothing was written, or all was read
 abbrev pub ReadsFirst : {E : Type 0} → Option (List ℕ) → Option (List ℕ) → Result (Unit {0}) E → Type 0 → Type 0
 ReadsFirst old new r read = OnErr r (Keeps old new ⊎ read)
 
