@@ -1,5 +1,6 @@
 -- Where rounds from tables lead: none, some after others, one, and p from a table that is placed. Assumes nothing.
 use mathlib.Core.Path.{◌≡◌, refl, ◌∙◌, ap}
+use mathlib.Core.Logic.{inr}
 use mathlib.Core.List.{List}
 use Prim.Native.Nat.{ℕ, ◌+◌, ◌*◌, ◌≤◌}
 use native.Mathlib.Omega.{arith}
@@ -22,7 +23,7 @@ use Rattle.moves.proofs.Moves.{wrote_at, wrote-times}
 use Rattle.std.specs.Option.{MatchOption, unwrap_or}
 use Rattle.std.specs.declared.option.Option.{Option}
 use Rattle.std.specs.declared.option.Option.TheVariants.{None, Some}
-use Rattle.leap.specs.Tables.{Advanced, Far}
+use Rattle.leap.specs.Tables.{Advanced, Halted, Far, NoneFar}
 use Rattle.leap.proofs.Strategies.{held-few, held_same, held_moved, placed-within}
 
 module _ {Γ : Network} where
@@ -62,6 +63,14 @@ module _ {Γ : Network} where
     made = A.led.made ∙ ap (iterate p (propagate Γ)) (held_moved Γ few P);
     inside = A.led.inside (placed-within Γ few O P);
   }
+
+  -- or why they are not all made
+  pub far_or_none : {t d o : List ℕ} {lo hi j : ℕ} (p : ℕ) (r : Option (List ℕ)) → Γ.events ≤ 16
+      → Times Γ o × Placed t d lo hi j Γ.horizon (scenarios Γ * 16) o
+      → MatchOption r (Halted Γ p o) (λ u. Advanced Γ p o u)
+      → MatchOption r (NoneFar Γ p j t d lo hi) (λ u. Far Γ p j t d lo hi u)
+  far_or_none {o = o} p None few P H = inr (o, P.1, H)
+  far_or_none p (Some u) few P A = far_of few P.0 P.1 A
 
   -- from one that is placed by all of its rises
   pub far-whole_of : {t d o u : List ℕ} {lo hi p j : ℕ} → Γ.events ≤ 16 → (lo ≡ 0) × (hi ≡ 10080)

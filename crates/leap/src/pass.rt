@@ -1,5 +1,5 @@
 // The leap: rounds passed over at once, if p of them are seen to add the same rises again and again.
-ghost use Rattle.std.specs.Prelude.{◌≡◌, ◌+◌, ◌*◌, ◌≤◌, ◌<◌, MatchOption};
+ghost use Rattle.std.specs.Prelude.{◌≡◌, ◌+◌, ◌*◌, ◌≤◌, ◌<◌, take, MatchOption};
 ghost use Rattle.network.specs.Limits as L;
 ghost use Rattle.network.specs.Build as N;
 ghost use Rattle.rows.specs.Rows.{Times};
@@ -60,7 +60,11 @@ impl<'a, 'b> Stretch<'a, 'b> {
     }
 
     // The turn of this number, whose round was made.
-    pub fn turn(&self, number: u32) -> Turn<'_> {
+    pub fn turn(&self, number: u32) -> Turn<'_>
+        ensures { let cells = self.now.compiled.now.frame.scenarios * L.events in
+            (result.number ≡ number) × (result.before.now ≡ take cells self.now.reached.now)
+            × (result.after.now ≡ take cells self.now.next.now) }
+    {
         let cells = self.compiled.frame.cells();
         Turn {
             number,

@@ -1,7 +1,7 @@
 // Whether p rounds add the rises d to a table, and j times again, or at most d, or at least d: by rounds from tables
 // far on. Each test says true only where it is so; where it says false nothing is known. `Far` stands in three
 // `requires`, since a type for it would have to hold the guess a second time.
-ghost use Rattle.std.specs.Prelude.{◌≡◌, true, ◌*◌, ◌≤◌, ◌<◌, IfSome, MatchOption};
+ghost use Rattle.std.specs.Prelude.{◌≡◌, true, ◌*◌, ◌≤◌, ◌<◌, MatchOption};
 ghost use Rattle.fixpoint.specs.Near.{iterate};
 ghost use Rattle.fixpoint.specs.Straight.{AtMost, AtLeast};
 ghost use Rattle.network.specs.Limits as L;
@@ -9,9 +9,9 @@ ghost use Rattle.network.specs.Build as N;
 ghost use Rattle.rows.specs.Rows.{Times};
 ghost use Rattle.rounds.specs.Propagate.{propagate};
 ghost use Rattle.rounds.specs.Rounds.{held};
-ghost use Rattle.moves.specs.Moves.{Placed, Between};
+ghost use Rattle.moves.specs.Moves.{Placed, TooFar, Between};
 ghost use Rattle.moves.specs.Levels.{Highest, NextLevel};
-ghost use Rattle.leap.specs.Tables.{Advanced, Far};
+ghost use Rattle.leap.specs.Tables.{Advanced, Halted, Far, NoneFar};
 ghost use Rattle.leap.specs.Levels.{AtLevel, Level, Faster, Slower};
 
 use moves::{Part, Span};
@@ -19,10 +19,11 @@ use network::Network;
 use rounds::{Compiled, Effect};
 use rows::Table;
 
-// p rounds from a table on, if each of them raises within the limits.
+// p rounds from a table on, where each of them raises within the limits.
 pub fn advance(compiled: &Compiled, from: &Table, p: u32) -> Option<Table>
     requires { Times compiled.now.frame.network from.now }
-    ensures { IfSome result (λ u. Advanced compiled.now.frame.network p from.now u) }
+    ensures { MatchOption result (Halted compiled.now.frame.network p from.now)
+        (λ u. Advanced compiled.now.frame.network p from.now u) }
 {
     let mut a = *from;
     let mut b = [0; Network::CELLS];
@@ -56,9 +57,12 @@ impl Guess<'_> {
         self.j * self.p
     }
 
-    // t moved on by the part of d, if it stays within the limits.
+    // t moved on by the part of d, where it stays within the limits.
     pub fn place(&self, part: Part) -> Option<Table>
-        ensures { IfSome result
+        ensures { MatchOption result
+            (TooFar self.now.t.now self.now.d.now part.lo part.hi self.now.j
+            self.now.compiled.now.frame.network.horizon
+            (N.scenarios self.now.compiled.now.frame.network * L.events))
             (λ o. Times self.now.compiled.now.frame.network o
             × Placed self.now.t.now self.now.d.now part.lo part.hi self.now.j
             self.now.compiled.now.frame.network.horizon
@@ -70,9 +74,11 @@ impl Guess<'_> {
         part.place(&t[..cells], &d[..cells], self.j, horizon)
     }
 
-    // What p rounds make of the table so moved on, if each of them raises within the limits.
+    // What p rounds make of the table so moved on, where each of them raises within the limits.
     pub fn far(&self, part: Part) -> Option<Table>
-        ensures { IfSome result
+        ensures { MatchOption result
+            (NoneFar self.now.compiled.now.frame.network self.now.p self.now.j self.now.t.now self.now.d.now
+            part.lo part.hi)
             (λ o. Far self.now.compiled.now.frame.network self.now.p self.now.j self.now.t.now self.now.d.now
             part.lo part.hi o) }
     {

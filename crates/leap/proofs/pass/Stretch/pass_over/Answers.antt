@@ -18,8 +18,8 @@ hop-more-requires c =
     let d = (goal.at.hop-more-requires c).After-rise-d in
     let here = c.loop.invariant in
     let T = risen d in
-    let S =
-    some_risen (omega (arith, T.sized, d.cells-cells.ensures.1)) (c.is_risen.ensures.0 c.if-not-is_risen.false) in
+    let some = c.is_risen.ensures.0 c.if-not-is_risen.false in
+    let S = some_risen (omega (arith, T.sized, d.cells-cells.ensures.1)) some in
     rw here.1 (T, c.loop.tries.small, omega (arith, here.2, c.if-self-gt65535.false), rw (cells d) at S)
 
 pub loop-preserved : goal.loop-preserved
