@@ -16,4 +16,5 @@ pub mod Bytes
 pub mod Lists
 pub mod Mapped
 pub mod Cells
+pub mod Sums
 pub mod Examples
