@@ -7,7 +7,7 @@ use lib.Dec.{eqb, leb}
 use lib.ListN.{get_or}
 use Rattle.prelude.specs.Bytes.{same}
 use Rattle.fixpoint.specs.Run.{room, End, Rests, Passes, Spent, Run, run_from, run}
-use Rattle.fixpoint.specs.Near.{iterate}
+use Rattle.fixpoint.specs.Iterate.{iterate}
 use Rattle.fixpoint.specs.Straight.{moved}
 
 -- the second of two entries rises by one a round, up to the first

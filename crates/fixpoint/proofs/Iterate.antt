@@ -6,7 +6,8 @@ use native.Mathlib.Nat.{add-zero, add-suc, zero-mul, suc-mul}
 use native.Mathlib.Omega.{arith}
 use lib.ListN.{length}
 use Rattle.fixpoint.specs.Order.{Below}
-use Rattle.fixpoint.specs.Near.{Over, Nonexpansive, iterate}
+use Rattle.fixpoint.specs.Near.{Over, Nonexpansive}
+use Rattle.fixpoint.specs.Iterate.{iterate}
 
 module _ (step : List ℕ → List ℕ) where
   pub iterate-add : (a b : ℕ) (t : List ℕ) → iterate (a + b) step t ≡ iterate b step (iterate a step t)

@@ -14,7 +14,7 @@ use Rattle.prelude.proofs.Bytes.{same_true}
 use Rattle.prelude.proofs.Tests.{false_of_not-true}
 use Rattle.fixpoint.specs.Order.{Below}
 use Rattle.fixpoint.specs.Step.{Rising}
-use Rattle.fixpoint.specs.Near.{iterate}
+use Rattle.fixpoint.specs.Iterate.{iterate}
 use Rattle.fixpoint.specs.Run.{within, run_from}
 use Rattle.fixpoint.specs.Leads.{Leads}
 use Rattle.fixpoint.proofs.Order.{below-refl, below_trans}

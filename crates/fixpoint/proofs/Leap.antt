@@ -13,7 +13,8 @@ use lib.ListN.{length, get_or}
 use Rattle.prelude.proofs.Tests.{false_of_not-true, clash}
 use Rattle.fixpoint.specs.Order.{Below}
 use Rattle.fixpoint.specs.Step.{Rising}
-use Rattle.fixpoint.specs.Near.{Nonexpansive, iterate}
+use Rattle.fixpoint.specs.Near.{Nonexpansive}
+use Rattle.fixpoint.specs.Iterate.{iterate}
 use Rattle.fixpoint.specs.Run.{within}
 use Rattle.fixpoint.specs.Straight.{moved, AtMost, AtLeast}
 use Rattle.fixpoint.specs.Leads.{Leads, PassesIn}

@@ -10,7 +10,8 @@ use native.Mathlib.Nat.{add-mul, suc-mul, zero-mul}
 use native.Mathlib.Omega.{arith}
 use lib.ListN.{length, get_or}
 use Rattle.fixpoint.specs.Order.{Below}
-use Rattle.fixpoint.specs.Near.{Nonexpansive, iterate}
+use Rattle.fixpoint.specs.Near.{Nonexpansive}
+use Rattle.fixpoint.specs.Iterate.{iterate}
 use Rattle.fixpoint.specs.Straight.{moved, AtMost, AtLeast}
 use Rattle.fixpoint.proofs.Order.{below_by, below_trans, below_antisymm}
 use Rattle.fixpoint.proofs.Iterate.{iterate-sized, near-monotone}

@@ -10,7 +10,7 @@ use lib.ListN.{length}
 use Rattle.prelude.specs.Bytes.{same}
 use Rattle.prelude.proofs.Tests.{either, eq_or_ne, lt_or_ge, clash}
 use Rattle.prelude.proofs.Bytes.{same_true, same_of_eq}
-use Rattle.fixpoint.specs.Near.{iterate}
+use Rattle.fixpoint.specs.Iterate.{iterate}
 use Rattle.fixpoint.specs.Step.{Rising}
 use Rattle.fixpoint.specs.Run.{within, room, Rests, Passes, Spent, Run, run_from, run}
 use Rattle.fixpoint.specs.Takes.{IsLast, Takes}

@@ -1,6 +1,6 @@
 -- What is known of a run some rounds on, without making them one by one.
 use Rattle.std.specs.Prelude.{◌≡◌, true, List, ℕ, ◌+◌}
-use Rattle.fixpoint.specs.Near.{iterate}
+use Rattle.fixpoint.specs.Iterate.{iterate}
 use Rattle.fixpoint.specs.Run.{within, Passes, ran, run_from}
 
 module _ (step : List ℕ → List ℕ) (cap : List ℕ) where

@@ -1,5 +1,5 @@
--- Steps under which no difference grows, and their iterates.
-use Rattle.std.specs.Prelude.{◌≡◌, List, ℕ, zero, suc, ◌+◌, ◌≤◌, length, get_or}
+-- Steps under which no difference grows.
+use Rattle.std.specs.Prelude.{◌≡◌, List, ℕ, ◌+◌, ◌≤◌, length, get_or}
 
 -- no entry of u is more than c above t's at its place
 pub record Over (c : ℕ) (t u : List ℕ) : Type 0 where
@@ -9,8 +9,3 @@ pub record Over (c : ℕ) (t u : List ℕ) : Type 0 where
 pub record Nonexpansive (n : ℕ) (step : List ℕ → List ℕ) : Type 0 where
   pub sized : (t : List ℕ) → length t ≡ n → length (step t) ≡ n
   pub near : (c : ℕ) (t u : List ℕ) → length t ≡ n → length u ≡ n → Over c t u → Over c (step t) (step u)
-
--- a step k times
-abbrev pub iterate : ℕ → (List ℕ → List ℕ) → List ℕ → List ℕ
-iterate zero step t = t
-iterate (suc k) step t = step (iterate k step t)

@@ -1,7 +1,7 @@
 -- How many rounds a run takes, told without making it: the first round that raises nothing, or that takes an entry over
 -- its cap, is the last of them. It is counted too.
 use Rattle.std.specs.Prelude.{◌≡◌, false, ◌⊎◌, List, ℕ, suc, ◌<◌}
-use Rattle.fixpoint.specs.Near.{iterate}
+use Rattle.fixpoint.specs.Iterate.{iterate}
 use Rattle.fixpoint.specs.Run.{within}
 
 module _ (step : List ℕ → List ℕ) (cap floor : List ℕ) where

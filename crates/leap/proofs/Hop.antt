@@ -4,7 +4,7 @@ use mathlib.Core.List.{List}
 use Prim.Native.Nat.{ℕ, ◌*◌, ◌≤◌}
 use native.Mathlib.Omega.{arith}
 use lib.ListN.{get_or}
-use Rattle.fixpoint.specs.Near.{iterate}
+use Rattle.fixpoint.specs.Iterate.{iterate}
 use Rattle.fixpoint.specs.Straight.{moved, AtMost, AtLeast}
 use Rattle.fixpoint.proofs.Leap.{leads_leap}
 use Rattle.network.specs.Build.{scenarios}

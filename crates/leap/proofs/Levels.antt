@@ -8,7 +8,7 @@ use native.Mathlib.Omega.{arith}
 use lib.ListN.{length, get_or}
 use Rattle.prelude.proofs.Tests.{eq_or_ne}
 use Rattle.prelude.proofs.Cells.{by-cell, cell_lt}
-use Rattle.fixpoint.specs.Near.{iterate}
+use Rattle.fixpoint.specs.Iterate.{iterate}
 use Rattle.fixpoint.specs.Straight.{moved}
 use Rattle.fixpoint.proofs.Moved.{length_moved, moved_at}
 use Rattle.fixpoint.proofs.Leads.{later}

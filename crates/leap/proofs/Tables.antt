@@ -5,7 +5,7 @@ use mathlib.Core.List.{List}
 use Prim.Native.Nat.{ℕ, ◌+◌, ◌*◌, ◌≤◌}
 use native.Mathlib.Omega.{arith}
 use lib.ListN.{length, get_or}
-use Rattle.fixpoint.specs.Near.{iterate}
+use Rattle.fixpoint.specs.Iterate.{iterate}
 use Rattle.fixpoint.specs.Straight.{moved}
 use Rattle.fixpoint.proofs.Moved.{moved_ext}
 use Rattle.fixpoint.proofs.Leads.{leads_none, leads_join}

@@ -1,6 +1,6 @@
 -- In which round a limit is passed.
 use Rattle.std.specs.Prelude.{◌≡◌, true, false, List, ℕ, ◌-◌}
-use Rattle.fixpoint.specs.Near.{iterate}
+use Rattle.fixpoint.specs.Iterate.{iterate}
 use Rattle.fixpoint.specs.Run.{within}
 use Rattle.fixpoint.specs.Leads.{PassesIn}
 use Rattle.network.specs.declared.Network.{Network}

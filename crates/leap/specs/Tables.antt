@@ -1,6 +1,6 @@
 -- Where rounds from a table lead.
 use Rattle.std.specs.Prelude.{◌≡◌, ◌≢◌, ◌⊎◌, true, List, ℕ, ◌*◌, ◌<◌, get_or}
-use Rattle.fixpoint.specs.Near.{iterate}
+use Rattle.fixpoint.specs.Iterate.{iterate}
 use Rattle.fixpoint.specs.Run.{within}
 use Rattle.fixpoint.specs.Straight.{moved}
 use Rattle.fixpoint.specs.Leads.{Leads}

@@ -2,7 +2,7 @@
 // far on. Each test says true only where it is so; where it says false nothing is known. `Far` stands in three
 // `requires`, since a type for it would have to hold the guess a second time.
 ghost use Rattle.std.specs.Prelude.{◌≡◌, true, ◌*◌, ◌≤◌, ◌<◌, MatchOption};
-ghost use Rattle.fixpoint.specs.Near.{iterate};
+ghost use Rattle.fixpoint.specs.Iterate.{iterate};
 ghost use Rattle.fixpoint.specs.Straight.{AtMost, AtLeast};
 ghost use Rattle.network.specs.Limits as L;
 ghost use Rattle.network.specs.Build as N;

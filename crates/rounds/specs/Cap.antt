@@ -1,5 +1,5 @@
--- The limit of each cell: "the horizon, or 0 for the start" (02, point 8); and 0 where an event does not happen, so
--- that such a cell never leaves the zero that it starts from.
+-- The limit of each cell, which a round passes where it takes the cell beyond: 0 for the start, and the horizon for any
+-- other event; and 0 where an event does not happen, so that such a cell never leaves the zero that it starts from.
 use Rattle.std.specs.Prelude.{Bool, ◌||◌, not, cond, List, ℕ, ◌/◌, ◌%◌, eqb}
 use Rattle.prelude.specs.Bounded.{tabulate}
 use Rattle.network.specs.Build.{cells}

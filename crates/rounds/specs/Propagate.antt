@@ -1,5 +1,7 @@
--- One round: the time of each event that happens goes up to what the constraints, the waits of labels and the hyperarcs
--- ask of the strategy before it (004, Theorem 1: value iteration). Document 02, point 8, fixes this round.
+-- One round of value iteration (004, Theorem 1): each cell takes the greatest of its own time and of each bound that the
+-- constraints, the waits of labels and the hyperarcs set there. All bounds are read off the strategy before the round, so
+-- that no cell sees what another becomes in it; and a cell without its event stays. Counts of rounds are counts of these:
+-- the round is fixed, since another one would change what the solver's callers are told.
 use Rattle.std.specs.Prelude.{cond, List, ℕ, suc, ◌+◌, ◌-◌, ◌/◌, ◌%◌, max, ℤ, pos, negsuc, eqb}
 use Rattle.prelude.specs.Bounded.{max_below, tabulate}
 use Rattle.network.specs.Build.{constraint, event_label, scenarios, cells}
@@ -50,7 +52,7 @@ module _ (Γ : Network) (σ : List ℕ) where
   abbrev pub hyperarcs_bound : ℕ → ℕ → ℕ
   hyperarcs_bound s u = max_below (scenarios Γ) (λ r. cond (happens Γ r u) (hyperarc s r u) 0)
 
-  -- "each cell takes the greatest of its own value and each bound" (02, point 8)
+  -- the greatest of the cell's own time and each bound
   abbrev pub greatest_bound : ℕ → ℕ → ℕ
   greatest_bound s u = max (at s u) (max (constraints_bound s u) (max (waits_bound s u) (hyperarcs_bound s u)))
 

@@ -1,5 +1,5 @@
--- The run that the solver makes: rounds from all zeros, until nothing rises or a limit is passed (02, point 8); and the
--- table that it finds.
+-- The run that the solver makes: rounds from all zeros, until one raises nothing or passes a limit; and the table that
+-- it finds.
 use Rattle.std.specs.Prelude.{ℕ, List, replicate}
 use Rattle.fixpoint.specs.Run.{Run, run}
 use Rattle.network.specs.Limits as L
