@@ -16,6 +16,7 @@ use Rattle.refusal.specs.declared.Cause.{Cause}
 use Rattle.network.specs.declared.Network.{Network}
 use Rattle.line.specs.Tests.{section_tests, event_tests, signal_tests, kind_tests, ends_tests, rule_tests}
 use Rattle.line.specs.Tests.{letter_tests, reaction_tests, placed_tests, label_tests}
+use Rattle.line.specs.TwoCounts.{two_counts_tests}
 use Rattle.line.specs.Sections.{heading_of_lem, heading_tests}
 use Rattle.line.specs.declared.Section.TheVariants.{Events, Cases}
 
@@ -80,6 +81,14 @@ abbrev labelled_twice : ℕ → String → Example
 labelled_twice n l =
     let behind = parts_of 2 (0 ∷ 5 ∷ []) (5 ∷ 4 ∷ []) 1 (ascii "p") (1 ∷ []) (0 ∷ []) (false ∷ true ∷ []) in
     (n, first_failing_lem (label_tests names behind (fields (ascii l))))
+
+-- two counts: the first from 2 to 16, the second from 0 to 10,080
+abbrev counts : ℕ → String → Example
+counts n l = (
+  n,
+  first_failing_lem (two_counts_tests (record { least = 2; most = 16 }) (record { least = 0; most = 10080 })
+      (fields (ascii l))),
+)
 
 abbrev examples : List Example
 examples =
@@ -154,6 +163,18 @@ examples =
     ∷ label 0 "door,-"
     ∷ label 0 "door,!p"
     ∷ labelled_twice 0 "start,p"
+    -- two counts; two faults: the lowest number, whichever field it is of
+    ∷ counts 3 "4"
+    ∷ counts 3 "4,60,"
+    ∷ counts 4 "04,60"
+    ∷ counts 4 "1,-0"
+    ∷ counts 4 "17,x"
+    ∷ counts 5 "1,60"
+    ∷ counts 5 "17,10080"
+    ∷ counts 5 "-4,60"
+    ∷ counts 5 "4,10081"
+    ∷ counts 0 "2,0"
+    ∷ counts 0 "16,10080"
     ∷ []
 
 abbrev number : Option Cause → ℕ
@@ -166,5 +187,5 @@ all_are (x ∷ xs) = eqb (number x.1) x.0 && all_are xs
 
 pub examples_are : all_are examples ≡ true
 unfolding is_number in_range section_tests event_tests signal_tests kind_tests ends_tests rule_tests letter_tests
-    reaction_tests placed_tests label_tests
+    reaction_tests placed_tests label_tests two_counts_tests
 examples_are = refl

@@ -11,6 +11,7 @@ use network::accepted::Accepted;
 use network::formed::Formed;
 use refusal::{Cause, Refusal};
 use section::Reader;
+pub use section::on_line;
 
 // The most bytes of a sheet.
 pub const LONGEST: usize = 4096;

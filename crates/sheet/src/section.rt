@@ -22,8 +22,8 @@ pub(crate) struct Reached {
     pub line: u16,
 }
 
-// What a line says, or why it is refused, with its number.
-fn on_line<T>(number: u16, read: Result<T, Cause>) -> Result<T, Refusal>
+/// What a line says, or why it is refused, with its number.
+pub fn on_line<T>(number: u16, read: Result<T, Cause>) -> Result<T, Refusal>
     ensures { result ≡ on_line number read }
 {
     read.map_err(|cause| Refusal::at(cause, number))
