@@ -48,51 +48,74 @@
  *
  * Calls and answers
  *
- * But for the pointers, nothing has to be tested before a call: any bytes may be handed in as a sheet, a listing or text, any length
- * as a table, any minute from 0 to 65,535 (C cuts a wider number before the call). A pointer must point to as many bytes as
- * the length says, and must not be NULL, even if the length is 0. Memory that a call writes into must not overlap any other
- * memory that is handed to the same call. The library keeps no pointer, has no memory of its own between calls and allocates
- * nothing, so calls may run beside each other.
+ * But for the pointers, nothing has to be tested before a call: any bytes may be handed in as a sheet, a listing, a
+ * line or text, any length as a table, any minute from 0 to 65,535 (C cuts a wider number before the call). A pointer
+ * must point to as many bytes as the length says, and must not be NULL, even if the length is 0. Memory that a call
+ * writes into must not overlap any other memory that is handed to the same call. The library keeps no pointer, has no
+ * memory of its own between calls and allocates nothing, so calls may run beside each other.
  *
  * Each function answers with a uint64_t of eight bytes. Read it with the functions at the end, each of which says for which
  * answers it is:
  *
  *     byte     opening_solve        opening_judge       opening_due        opening_listing,     opening_read_listing
  *                                                                          opening_house,
- *                                                                          opening_convert
+ *                                                                          opening_convert,
+ *                                                                          opening_ring
  *     0        number               number              number             number               number
  *     1, 2     line                 line                line               line                 line
  *     3        minutes, low byte    word                events 0 to 7      bytes, low byte      minutes, low byte
  *     4        minutes, high byte   first               events 8 to 15     bytes, high byte     minutes, high byte
- *     5        reserved             second              0                  0                    0
- *     6        reserved             third               0                  0                    0
- *     7        reserved             0                   0                  0                    0
+ *     5        rounds, low byte     second              0                  0                    0
+ *     6        rounds, middle byte  third               0                  0                    0
+ *     7        rounds, high byte    0                   0                  0                    0
  *
- * number is 0 if the call was not refused, or says why it was; line is a line of the sheet, or with 18 and 19 of the listing,
- * low byte first; minutes and bytes are as many as were written; word is 0 pass, 1 Late, 2 Rule or 3 Unheard; of the events
- * due, event u is bit u of the two bytes. Byte 0 is the lowest: (answer & 0xff) is the number. On a refusal bytes 3 and 4 are
- * 0, and bytes 5 to 7 of all but the solver's. Those are reserved for a count of rounds, which may then stand beside number 13
- * too; they are 0 at present, so ask opening_number, and don't compare a whole answer of the solver.
+ * number is 0 if the call was not refused, or says why it was; line is a line of the sheet, with 18 and 19 of the
+ * listing, and of opening_ring of what that reads, low byte first; minutes and bytes are as many as were written;
+ * rounds are as many as the solver made; word is 0 pass, 1 Late, 2 Rule or 3 Unheard; of the events due, event u is bit
+ * u of the two bytes. Byte 0 is the lowest: (answer & 0xff) is the number. On a refusal all bytes from 3 on are 0, save
+ * that the rounds stand beside number 13 too.
  *
- * The number of a refusal, and its line (the first line is 1; line 0 where none is to blame):
+ * Rounds
+ *
+ * The solver begins with 0 in every cell, that is for every event in every case, and makes rounds. In a round each cell
+ * takes the greatest of its own value and of what bounds it from below, all of it read off the table as it was before
+ * the round:
+ *
+ *     - a `min` rule sets its `to` at least the limit after its `from`, a `max` rule its `from` at least the minute of
+ *       its `to` less the limit, in each case of its label in which both happen;
+ *     - each other case in which the event happens sets it at least its minute there or, if that is sooner, the first
+ *       minute here at which a signal counts that tells the two cases apart: as long as they can't be told apart, it
+ *       comes no sooner here than there. A signal counts its reaction after its event, and only if it is given here;
+ *     - each signal in the event's label sets it at least that signal's reaction after the signal's event.
+ *
+ * Cells without their event take no part. A round that raised nothing ends the run, and the table is the least good
+ * one; a round that passed a limit, which is the horizon, or 0 for the start, ends it with number 13. That last round
+ * is counted too: a run whose first round raises nothing takes 1. With C the number of cells in which an event other
+ * than the start happens, and H the horizon, a run takes at most C * H + 1 rounds. The library need not make each of
+ * them, as it may pass over rounds that go on as those before; they are counted all the same.
+ *
+ * The number of a refusal, and its line (the first line is 1; line 0 where none is to blame). What opening_ring reads
+ * is refused as a sheet of one line:
  *
  *      1  the sheet is longer than 4,096 bytes                                                             (line 0)
  *      2  the sheet ends where a line is due, or that line has no line feed: the line that is due, if need be one
  *         behind the last
  *      3  the line has another count of fields, another section word or another kind than its place asks; so has an
- *         empty line, but where a name is due
+ *         empty line, but where a name is due; ring: not two fields
  *      4  an ill-formed number: `010`, `-0`, `+5`, nothing
- *      5  a well-formed number beyond its range, however many digits it has
+ *      5  a well-formed number beyond its range, however many digits it has;
+ *         ring: n is not from 2 to 16, or H not from 0 to 10,080
  *      6  an ill-formed name, letter or label; an empty line where a name is due
  *      7  a name or letter defined a second time, an event that already gives a signal, a letter that already has a line
  *         among the reactions, or an event that already has one among the cases
  *      8  an event or letter that is not defined
  *      9  a label with one letter twice, with either sign
  *     10  bytes behind the last line of the cases, a lone line feed or a NUL too: the line that they begin; bytes behind
- *         the rules, or behind the reactions, that are no such section are 2 to 5
+ *         the rules, or behind the reactions, that are no such section are 2 to 5;
+ *         ring: bytes behind the line feed                                                                 (line 2)
  *     11  judge, due, listing: not exactly n * 2^k minutes in the table, or an odd number of bytes         (line 0)
  *     12  solve, read_listing: the table has fewer than n * 2^k whole pairs of bytes;
- *         listing, house, convert: out is shorter than the text                                            (line 0)
+ *         listing, house, convert, ring: out is shorter than the text                                      (line 0)
  *     13  solve: the sheet is in order, and no good table exists                                           (line 0)
  *     14  due: the table does not pass the judge                                                           (line 0)
  *     15  due: the text is not of the form above, or a letter in it is undefined or stands twice, with
@@ -108,11 +131,12 @@
  *     21  an event's or rule's label lacks part of the label of an event whose signal it uses: the last line of the cases
  *     22  the row is a `fix`, which 3 takes for a kind; never of convert
  *
- * Of the sheet, 1 is tried before any line; then its first line at fault decides, and on it the lowest number, but 22 is tried
- * directly after 3, before 4. 20 and 21 look at all labels, and are tried on the last line of the cases, if that section has
- * lines. A fault of the sheet (1 to 10, 20 to 22) comes before all others. Then each call has its own, in this order: solve 12,
- * 13; judge 11; due 11, 14, 15, 16; listing 11, 12; house 12; convert 17, 12; read_listing 18, 19, 12, where 18 is tried over
- * the whole listing before any 19.
+ * Of the sheet, 1 is tried before any line; then its first line at fault decides, and on it the lowest number, but 22
+ * is tried directly after 3, before 4. 20 and 21 look at all labels, and are tried on the last line of the cases, if
+ * that section has lines. A fault of the sheet (1 to 10, 20 to 22) comes before all others. Then each call has its own,
+ * in this order: solve 12, 13; judge 11; due 11, 14, 15, 16; listing 11, 12; house 12; convert 17, 12; read_listing 18,
+ * 19, 12, where 18 is tried over the whole listing before any 19. Of ring the order is 1, then on its line 2, 3, 4 and
+ * 5, where a 4 in either field is before a 5 in the other, then 10, and then 12.
  *
  * Example, with <stdio.h> and <string.h>:
  *
@@ -128,6 +152,7 @@
  *     }
  *     for (unsigned i = 0; i < opening_minutes(solved); i++)
  *         printf("%u\n", table[2 * i] + 256u * table[2 * i + 1]);            // prints 0, 5, 6 and 0, 5, 20
+ *     printf("%u rounds\n", opening_rounds(solved));                         // prints 3 rounds
  *
  *     uint64_t judged = opening_judge(sheet, strlen(text), table, 2 * opening_minutes(solved));
  *     if (opening_number(judged) == 0 && opening_word(judged) == OPENING_PASS)
@@ -157,7 +182,7 @@ extern "C" {
 #endif
 
 enum {
-    OPENING_SHEET_MOST = 4096,   /* bytes of the longest sheet that is read; no house form or converted sheet is longer */
+    OPENING_SHEET_MOST = 4096,   /* bytes of the longest sheet that is read; none that is written is longer */
     OPENING_TABLE_MOST = 512,    /* bytes of the largest table: 16 events, 16 cases, two bytes each */
     OPENING_LISTING_MOST = 1765, /* bytes of the longest listing: that of such a table, long names, five digits everywhere */
     OPENING_PRINTED_MOST = 4096  /* bytes of the longest listing that is read back; a longer one is refused with 18 */
@@ -169,8 +194,9 @@ enum { OPENING_PASS = 0, OPENING_LATE = 1, OPENING_RULE = 2, OPENING_UNHEARD = 3
 /* Writes the least good table of the sheet, that is the good table in which no event that happens is later than in any other.
  *
  * Whole pairs are counted: of an odd table_len the last byte is not used. If the answer's number is 0, the first
- * 2 * opening_minutes(answer) bytes of the table are written, and all bytes behind them are unaltered; a table longer than
- * needed is no fault. Otherwise the table keeps all its contents. */
+ * 2 * opening_minutes(answer) bytes of the table are written, and all bytes behind them are unaltered; a table longer
+ * than needed is no fault. Otherwise the table keeps all its contents. With number 0, and with 13, opening_rounds(answer)
+ * says how many rounds it took; with every other number that is 0. */
 uint64_t opening_solve(const uint8_t *sheet, size_t sheet_len, uint8_t *table, size_t table_len);
 
 /* Says whether a table, whoever wrote it, is good for the sheet, and if not, what the first breach is.
@@ -250,6 +276,31 @@ uint64_t opening_house(const uint8_t *sheet, size_t sheet_len, uint8_t *out, siz
  * bytes are always enough. Otherwise out keeps all its contents. */
 uint64_t opening_convert(const uint8_t *sheet, size_t sheet_len, uint8_t *out, size_t out_len);
 
+/* Reads one line `n,H` and writes the heaviest sheet: of those with n events, the horizon H and no signal it is one
+ * that takes the most rounds, exactly (n - 1) * H + 1, and opening_solve answers it with 13.
+ *
+ * n is from 2 to 16 and H from 0 to 10,080, each a number as in a sheet; the line ends with a line feed, behind which
+ * there is nothing. The events are a, b, c and so on; the rules are `min` rows labelled `-`, of 0 from b on to each
+ * next event, then of 1 from the last back to b. For the line `4,60` it is
+ *
+ *     horizon,60
+ *     events,4
+ *     a
+ *     b
+ *     c
+ *     d
+ *     signals,0
+ *     rules,3
+ *     min,b,c,0,-
+ *     min,c,d,0,-
+ *     min,d,b,1,-
+ *
+ * and for two events the one row is `min,b,b,1,-`. The line is refused as a sheet of one line is, with 1 to 5 or 10; 12
+ * comes after these. If the answer's number is 0, the first opening_bytes(answer) bytes of out are the sheet, with no
+ * NUL behind it, and all bytes behind them are unaltered; an out longer than needed is no fault, and OPENING_SHEET_MOST
+ * bytes are always enough (no such sheet takes more than 255). Otherwise out keeps all its contents. */
+uint64_t opening_ring(const uint8_t *line, size_t line_len, uint8_t *out, size_t out_len);
+
 /* Of every answer: the number of the refusal, or 0. */
 static inline unsigned opening_number(uint64_t answer) { return (unsigned)(answer & 0xff); }
 
@@ -259,10 +310,15 @@ static inline unsigned opening_line(uint64_t answer) { return (unsigned)(answer 
 /* Of the answers of opening_solve and opening_read_listing: how many minutes were written, n * 2^k, or 0 on a refusal. */
 static inline unsigned opening_minutes(uint64_t answer) { return (unsigned)(answer >> 24 & 0xffff); }
 
+/* Of the answer of opening_solve: how many rounds the solver made, the last one included, with number 13 too; 0 with
+ * every other refusal. */
+static inline unsigned opening_rounds(uint64_t answer) { return (unsigned)(answer >> 40 & 0xffffff); }
+
 /* Of the answer of opening_due: the events due, bit u for event u. 0 on a refusal too, so look at the number first. */
 static inline unsigned opening_events(uint64_t answer) { return (unsigned)(answer >> 24 & 0xffff); }
 
-/* Of the answers of opening_listing, opening_house and opening_convert: how many bytes were written, or 0 on a refusal. */
+/* Of the answers of opening_listing, opening_house, opening_convert and opening_ring: how many bytes were written, or 0
+ * on a refusal. */
 static inline unsigned opening_bytes(uint64_t answer) { return (unsigned)(answer >> 24 & 0xffff); }
 
 /* Of the judge's answer: the word, and its three numbers. All are 0 on a refusal, so look at the number first. */

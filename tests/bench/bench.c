@@ -1,6 +1,6 @@
 /* The workshop bench: calls the library as a C program does, and compares every answer and every lent byte with what
- * document 01 and points 1 to 4, 6 and 7 of document 02 ask. The answers here were written by hand from the papers; where a
- * table is played, or its listing read back, what the solver wrote is to come out.
+ * document 01 and points 1 to 4 and 6 to 8 of document 02 ask. The answers here were written by hand from the papers;
+ * where a table is played, or its listing read back, what the solver wrote is to come out.
  *
  * cc -std=c11 -O2 -Wall -Wextra -Werror -o bench bench.c DIR/libopening.a
  *
@@ -82,10 +82,10 @@ static size_t pairs(uint8_t *bytes, const uint16_t *minutes, size_t count)
 
 /* ---------------------------------------------------------------- Solver and judge */
 
-/* Solves with a table of so many bytes. Wanted: a refusal with its line, or with number 0 these minutes; the whole
- * answer is compared. */
-static void solve(const char *about, const char *sheet, size_t sheet_len, size_t table_len, unsigned number, unsigned line,
-                  const uint16_t *minutes, size_t count)
+/* Solves with a table of so many bytes. Wanted: a refusal with its line, or with number 0 these minutes; and so many
+ * rounds; the whole answer is compared. */
+static void solve(const char *about, const char *sheet, size_t sheet_len, size_t table_len, unsigned number,
+                  unsigned line, unsigned rounds, const uint16_t *minutes, size_t count)
 {
     static struct lent paper, paper_before, table, wanted;
     lend(&paper, sheet, sheet_len, '\n');
@@ -100,7 +100,7 @@ static void solve(const char *about, const char *sheet, size_t sheet_len, size_t
     expect(about, "the number", opening_number(answer), number);
     expect(about, "the line", opening_line(answer), line);
     expect(about, "the count of minutes", opening_minutes(answer), number == 0 ? count : 0);
-    expect(about, "the number in the unused bytes", answer >> 40, 0);
+    expect(about, "the count of rounds", opening_rounds(answer), rounds);
     expect_memory(about, "table", &table, &wanted);
     expect_memory(about, "sheet", &paper, &paper_before);
 }
@@ -242,6 +242,28 @@ static void convert(const char *about, const char *sheet, size_t sheet_len, size
     calls++;
     expect_text(about, answer, &room, number, line, text);
     expect_memory(about, "sheet", &paper, &paper_before);
+}
+
+static void ring(const char *about, const char *line, size_t line_len, size_t length, unsigned number,
+                 unsigned refused_line, const char *text)
+{
+    static struct lent typed, typed_before, room;
+    lend(&typed, line, line_len, '\n');
+    lend_room(&room, length);
+    typed_before = typed;
+
+    uint64_t answer = opening_ring(slice(&typed), line_len, slice(&room), length);
+    calls++;
+    expect_text(about, answer, &room, number, refused_line, text);
+    expect_memory(about, "line", &typed, &typed_before);
+}
+
+/* Wanted: a refusal, whatever room is lent. */
+static void not_ringed(const char *about, const char *line, size_t line_len, unsigned number, unsigned refused_line)
+{
+    ring(about, line, line_len, OPENING_SHEET_MOST, number, refused_line, NULL);
+    ring(about, line, line_len, 40, number, refused_line, NULL);
+    ring(about, line, line_len, 0, number, refused_line, NULL);
 }
 
 /* Wanted: a refusal, whatever room is lent. */
@@ -475,6 +497,7 @@ static void readers(void)
     expect("readers", "opening_number", opening_number(answer), 0x11);
     expect("readers", "opening_line", opening_line(answer), 0x3322);
     expect("readers", "opening_minutes", opening_minutes(answer), 0x5544);
+    expect("readers", "opening_rounds", opening_rounds(answer), 0x887766);
     expect("readers", "opening_word", opening_word(answer), 0x44);
     expect("readers", "opening_first", opening_first(answer), 0x55);
     expect("readers", "opening_second", opening_second(answer), 0x66);
@@ -494,6 +517,7 @@ static void readers_bit_by_bit(void)
         {"opening_number", opening_number, 0, 1},
         {"opening_line", opening_line, 1, 2},
         {"opening_minutes", opening_minutes, 3, 2},
+        {"opening_rounds", opening_rounds, 5, 3},
         {"opening_word", opening_word, 3, 1},
         {"opening_first", opening_first, 4, 1},
         {"opening_second", opening_second, 5, 1},
@@ -513,15 +537,15 @@ static void readers_bit_by_bit(void)
 static void solver_lengths(void)
 {
     const size_t length = strlen(example);
-    solve("solve, exact", example, length, 12, 0, 0, opened, 6);
-    solve("solve, a byte more", example, length, 13, 0, 0, opened, 6);
-    solve("solve, a pair more", example, length, 14, 0, 0, opened, 6);
-    solve("solve, generous", example, length, OPENING_TABLE_MOST, 0, 0, opened, 6);
-    solve("solve, a byte less", example, length, 11, 12, 0, NULL, 0);
-    solve("solve, a pair less", example, length, 10, 12, 0, NULL, 0);
-    solve("solve, one byte", example, length, 1, 12, 0, NULL, 0);
-    solve("solve, no bytes", example, length, 0, 12, 0, NULL, 0);
-    solve("solve, both bytes of a minute", high, strlen(high), 4, 0, 0, high_opened, 2);
+    solve("solve, exact", example, length, 12, 0, 0, 3, opened, 6);
+    solve("solve, a byte more", example, length, 13, 0, 0, 3, opened, 6);
+    solve("solve, a pair more", example, length, 14, 0, 0, 3, opened, 6);
+    solve("solve, generous", example, length, OPENING_TABLE_MOST, 0, 0, 3, opened, 6);
+    solve("solve, a byte less", example, length, 11, 12, 0, 0, NULL, 0);
+    solve("solve, a pair less", example, length, 10, 12, 0, 0, NULL, 0);
+    solve("solve, one byte", example, length, 1, 12, 0, 0, NULL, 0);
+    solve("solve, no bytes", example, length, 0, 12, 0, 0, NULL, 0);
+    solve("solve, both bytes of a minute", high, strlen(high), 4, 0, 0, 2, high_opened, 2);
 }
 
 /* Trials 6, 8, 9 and 11 of document 01, and two signals. */
@@ -531,11 +555,11 @@ static void solver_trials(void)
     static const char edge[] = "horizon,10\nevents,2\nstart\ndoor\nsignals,0\nrules,1\nmin,start,door,10,-\n";
     static const char back[] = "horizon,60\nevents,2\nstart\ndoor\nsignals,0\nrules,1\nmax,door,start,-5,-\n";
     static const char apart[] = HEAD "min,start,call,5,-\nmin,start,door,10,p\nmax,start,door,6,!p\n";
-    solve("trial 6", own, strlen(own), 2, 0, 0, (const uint16_t[]){0}, 1);
-    solve("trial 8", edge, strlen(edge), 4, 0, 0, (const uint16_t[]){0, 10}, 2);
-    solve("trial 9", back, strlen(back), 4, 0, 0, (const uint16_t[]){0, 5}, 2);
-    solve("trial 11", apart, strlen(apart), 12, 0, 0, (const uint16_t[]){0, 5, 6, 0, 5, 10}, 6);
-    solve("weights", weights, strlen(weights), 24, 0, 0, weights_opened, 12);
+    solve("trial 6", own, strlen(own), 2, 0, 0, 1, (const uint16_t[]){0}, 1);
+    solve("trial 8", edge, strlen(edge), 4, 0, 0, 2, (const uint16_t[]){0, 10}, 2);
+    solve("trial 9", back, strlen(back), 4, 0, 0, 2, (const uint16_t[]){0, 5}, 2);
+    solve("trial 11", apart, strlen(apart), 12, 0, 0, 3, (const uint16_t[]){0, 5, 6, 0, 5, 10}, 6);
+    solve("weights", weights, strlen(weights), 24, 0, 0, 3, weights_opened, 12);
     judge("trial 6, judged", own, (const uint16_t[]){0}, 1, OPENING_PASS, 0, 0, 0);
     judge("at the horizon exactly", edge, (const uint16_t[]){0, 10}, 2, OPENING_PASS, 0, 0, 0);
 }
@@ -551,16 +575,16 @@ static void slow_signals(void)
     static const uint16_t too_quick_for_q[] = {0, 2, 4, 0, 2, 20, 0, 2, 10, 0, 2, 20};
     static const uint16_t too_quick_for_p[] = {0, 2, 1, 0, 2, 20, 0, 2, 10, 0, 2, 20};
     static const uint16_t only_p_opened[] = {0, 2, 2, 0, 2, 9, 0, 2, 2, 0, 2, 9};
-    solve("p after 1 minute", after_1, strlen(after_1), 12, 0, 0, opened, 6);
-    solve("no lines of reactions", none, strlen(none), 12, 0, 0, opened, 6);
-    solve("p after 2 minutes", after_2, strlen(after_2), 12, 0, 0, opened_after_2, 6);
-    solve("p after 2 minutes, a pair less", after_2, strlen(after_2), 10, 12, 0, NULL, 0);
-    solve("p after 15 minutes", after_15, strlen(after_15), 12, 0, 0, opened_after_15, 6);
-    solve("p after 60 minutes", after_60, strlen(after_60), 12, 0, 0, opened_after_60, 6);
-    solve("two slow signals", slow_pair, strlen(slow_pair), 24, 0, 0, pair_opened, 12);
-    solve("each its own reaction", only_p, strlen(only_p), 24, 0, 0, only_p_opened, 12);
+    solve("p after 1 minute", after_1, strlen(after_1), 12, 0, 0, 3, opened, 6);
+    solve("no lines of reactions", none, strlen(none), 12, 0, 0, 3, opened, 6);
+    solve("p after 2 minutes", after_2, strlen(after_2), 12, 0, 0, 3, opened_after_2, 6);
+    solve("p after 2 minutes, a pair less", after_2, strlen(after_2), 10, 12, 0, 0, NULL, 0);
+    solve("p after 15 minutes", after_15, strlen(after_15), 12, 0, 0, 4, opened_after_15, 6);
+    solve("p after 60 minutes", after_60, strlen(after_60), 12, 0, 0, 3, opened_after_60, 6);
+    solve("two slow signals", slow_pair, strlen(slow_pair), 24, 0, 0, 3, pair_opened, 12);
+    solve("each its own reaction", only_p, strlen(only_p), 24, 0, 0, 3, only_p_opened, 12);
     judge("each its own reaction, judged", only_p, only_p_opened, 12, OPENING_PASS, 0, 0, 0);
-    solve("trial 11, p after 2 minutes", apart, strlen(apart), 12, 13, 0, NULL, 0);
+    solve("trial 11, p after 2 minutes", apart, strlen(apart), 12, 13, 0, 3, NULL, 0);
     judge("p after 1 minute, judged", after_1, opened, 6, OPENING_PASS, 0, 0, 0);
     judge("a minute too quick", after_2, opened, 6, OPENING_UNHEARD, 0, 1, 2);
     judge("p after 2 minutes, judged", after_2, opened_after_2, 6, OPENING_PASS, 0, 0, 0);
@@ -575,10 +599,10 @@ static void slow_signals(void)
 static void solver_without_table(void)
 {
     const size_t length = strlen(no_table);
-    solve("no good table, exact", no_table, length, 12, 13, 0, NULL, 0);
-    solve("no good table, generous", no_table, length, 100, 13, 0, NULL, 0);
-    solve("no good table, a pair less: 12 comes first", no_table, length, 10, 12, 0, NULL, 0);
-    solve("no good table, no bytes: 12 comes first", no_table, length, 0, 12, 0, NULL, 0);
+    solve("no good table, exact", no_table, length, 12, 13, 0, 3, NULL, 0);
+    solve("no good table, generous", no_table, length, 100, 13, 0, 3, NULL, 0);
+    solve("no good table, a pair less: 12 comes first", no_table, length, 10, 12, 0, 0, NULL, 0);
+    solve("no good table, no bytes: 12 comes first", no_table, length, 0, 12, 0, 0, NULL, 0);
 }
 
 /* Sheets with a `fix`, the refusal by all but the converter, and the converter's own: 0 if there is none. */
@@ -613,8 +637,8 @@ static const struct {
 
 static void refused_by_all_calls(const char *about, const char *sheet, unsigned number, unsigned line)
 {
-    solve(about, sheet, strlen(sheet), 100, number, line, NULL, 0);
-    solve(about, sheet, strlen(sheet), 0, number, line, NULL, 0);
+    solve(about, sheet, strlen(sheet), 100, number, line, 0, NULL, 0);
+    solve(about, sheet, strlen(sheet), 0, number, line, 0, NULL, 0);
     judge_refused(about, sheet, 12, number, line);
     judge_refused(about, sheet, 0, number, line);
     judge_refused(about, sheet, 7, number, line);
@@ -653,8 +677,8 @@ static void long_sheets(void)
     const unsigned behind[6] = {10, 16, 0, 0, 0, 0}, too_long[6] = {1, 0, 0, 0, 0, 0};
     memset(sheet, 'x', sizeof sheet);
     memcpy(sheet, duress, strlen(duress));
-    solve("4,096 bytes", sheet, OPENING_SHEET_MOST, 12, 10, 16, NULL, 0);
-    solve("4,097 bytes", sheet, OPENING_SHEET_MOST + 1, 12, 1, 0, NULL, 0);
+    solve("4,096 bytes", sheet, OPENING_SHEET_MOST, 12, 10, 16, 0, NULL, 0);
+    solve("4,097 bytes", sheet, OPENING_SHEET_MOST + 1, 12, 1, 0, 0, NULL, 0);
     judge_bytes("4,096 bytes, judged", sheet, OPENING_SHEET_MOST, bytes, sizeof bytes, behind);
     judge_bytes("4,097 bytes, judged", sheet, OPENING_SHEET_MOST + 1, bytes, sizeof bytes, too_long);
     refused_by_all("4,096 bytes, by the others", sheet, OPENING_SHEET_MOST, 10, 16);
@@ -857,9 +881,9 @@ static void labelled_events(void)
     };
     uint8_t bytes[12];
     const struct handed handed = {duress, strlen(duress), bytes, pairs(bytes, duress_turned, 6)};
-    solve("a second turn after duress", duress, strlen(duress), 12, 0, 0, duress_turned, 6);
-    solve("a second turn after duress, a pair less", duress, strlen(duress), 10, 12, 0, NULL, 0);
-    solve("labelled with its own signal", ring, strlen(ring), 12, 13, 0, NULL, 0);
+    solve("a second turn after duress", duress, strlen(duress), 12, 0, 0, 3, duress_turned, 6);
+    solve("a second turn after duress, a pair less", duress, strlen(duress), 10, 12, 0, 0, NULL, 0);
+    solve("labelled with its own signal", ring, strlen(ring), 12, 13, 0, 55, NULL, 0);
     judge("a second turn after duress, judged", duress, duress_turned, 6, OPENING_PASS, 0, 0, 0);
     judge("wrongly filled", duress, (const uint16_t[]){0, 5, 8, 0, 5, 8}, 6, OPENING_LATE, 0, 2, 0);
     judge("wrongly filled with 0", duress, (const uint16_t[]){0, 5, 0, 0, 5, 8}, 6, OPENING_LATE, 0, 2, 0);
@@ -1279,7 +1303,7 @@ static void fourth_trial(void)
     expect("trial 4", "the number", opening_number(answer), 0);
     char sheet[OPENING_SHEET_MOST + 1] = "";
     memcpy(sheet, room, opening_bytes(answer));
-    solve("trial 4", sheet, strlen(sheet), 12, 0, 0, (const uint16_t[]){0, 5, 20, 0, 5, 20}, 6);
+    solve("trial 4", sheet, strlen(sheet), 12, 0, 0, 2, (const uint16_t[]){0, 5, 20, 0, 5, 20}, 6);
     judge("trial 4, a minute sooner", sheet, (const uint16_t[]){0, 5, 19, 0, 5, 20}, 6, OPENING_RULE, 0, 3, 0);
     judge("trial 4, a minute later", sheet, (const uint16_t[]){0, 5, 20, 0, 5, 21}, 6, OPENING_RULE, 1, 2, 0);
 }
@@ -1318,9 +1342,9 @@ static void largest_table(void)
     play(sheet, 16, "abcd", (const unsigned[]){1, 2, 3, 4});
     for (size_t i = 0; i < 256; i++)
         minutes[i] = (uint16_t)(i % 16);
-    solve("256 minutes, exact", sheet, end, 512, 0, 0, minutes, 256);
-    solve("256 minutes, generous", sheet, end, 600, 0, 0, minutes, 256);
-    solve("256 minutes, a pair less", sheet, end, 510, 12, 0, NULL, 0);
+    solve("256 minutes, exact", sheet, end, 512, 0, 0, 2, minutes, 256);
+    solve("256 minutes, generous", sheet, end, 600, 0, 0, 2, minutes, 256);
+    solve("256 minutes, a pair less", sheet, end, 510, 12, 0, 0, NULL, 0);
     judge("256 minutes", sheet, minutes, 256, OPENING_PASS, 0, 0, 0);
     minutes[255] = 61;
     judge("the last of 256 late", sheet, minutes, 256, OPENING_LATE, 15, 15, 0);
@@ -1328,14 +1352,153 @@ static void largest_table(void)
     judge("the last rule broken in the last case", sheet, minutes, 256, OPENING_RULE, 15, 14, 0);
 }
 
-/* What the solver wrote, handed on to the judge as it is. */
-static void solve_then_judge(const char *sheet)
+/* How long a sheet keeps the solver: the start's own row, a climb that a signal ends, and one that a limit ends. */
+static void counted_rounds(void)
+{
+#define TWO_EVENTS "events,2\na\nb\nsignals,0\n"
+    /* b one later in each round, up to the horizon, which the round behind passes */
+    static const char climb[] = "horizon,60\n" TWO_EVENTS "rules,1\nmin,b,b,1,-\n";
+    static const char short_climb[] = "horizon,0\n" TWO_EVENTS "rules,1\nmin,b,b,1,-\n";
+    /* by 7 in each round: 7, 14, .., 56, 63 */
+    static const char steps[] = "horizon,60\n" TWO_EVENTS "rules,1\nmin,b,b,7,-\n";
+    /* the start itself: 0 is its limit, whatever the horizon */
+    static const char start[] = "horizon,60\n" TWO_EVENTS "rules,1\nmin,a,a,1,-\n";
+    /* the start is raised where b is later than 40: by the round behind the one in which b has reached 41 */
+    static const char held[] = "horizon,60\n" TWO_EVENTS "rules,2\nmin,b,b,1,-\nmax,a,b,40,-\n";
+    /* c, then b, one later than the other before the round: c stands at 1, 1, 3, 3, .. and b at 0, 2, 2, 4, .. */
+    static const char pair[] = "horizon,60\nevents,3\na\nb\nc\nsignals,0\nrules,2\nmin,b,c,1,-\nmin,c,b,1,-\n";
+    /* a chain: each round raises one more event to its minute, and the one behind the last raises nothing */
+    static const char chain[] = "horizon,60\nevents,4\na\nb\nc\nd\nsignals,0\nrules,3\n"
+                                "min,c,d,1,-\nmin,b,c,1,-\nmin,a,b,1,-\n";
+    /* the same chain typed from its end, as `max` rows */
+    static const char turned[] = "horizon,60\nevents,4\na\nb\nc\nd\nsignals,0\nrules,3\n"
+                                 "max,d,c,-1,-\nmax,c,b,-1,-\nmax,b,a,-1,-\n";
+    /* b and c drive each other while the cases can't be told apart, that is until 51. A minute takes four rounds: b is
+     * raised where p is false, then where it is true, then c there, then c where p is false. The last is b, to 52 in
+     * round 4 * 51 + 1, and the round behind it raises nothing. */
+    static const char until_heard[] = "horizon,60\nevents,4\na\nkey\nb\nc\nsignals,1\np,key\nrules,3\n"
+                                      "min,a,key,50,-\nmin,b,c,0,p\nmin,c,b,1,!p\n";
+    solve("a climb", climb, strlen(climb), 4, 13, 0, 61, NULL, 0);
+    solve("a climb, a pair less", climb, strlen(climb), 2, 12, 0, 0, NULL, 0);
+    solve("a climb, no bytes", climb, strlen(climb), 0, 12, 0, 0, NULL, 0);
+    solve("a climb to 0", short_climb, strlen(short_climb), 4, 13, 0, 1, NULL, 0);
+    solve("steps of 7", steps, strlen(steps), 4, 13, 0, 9, NULL, 0);
+    solve("the start raised", start, strlen(start), 4, 13, 0, 1, NULL, 0);
+    solve("the start raised at last", held, strlen(held), 4, 13, 0, 42, NULL, 0);
+    solve("two that climb", pair, strlen(pair), 6, 13, 0, 61, NULL, 0);
+    solve("a chain", chain, strlen(chain), 8, 0, 0, 4, (const uint16_t[]){0, 1, 2, 3}, 4);
+    solve("a chain, turned about", turned, strlen(turned), 8, 0, 0, 4, (const uint16_t[]){0, 1, 2, 3}, 4);
+    solve("until it is heard", until_heard, strlen(until_heard), 16, 0, 0, 206,
+          (const uint16_t[]){0, 50, 52, 51, 0, 50, 51, 51}, 8);
+}
+
+/* The heaviest sheets by hand, and how many rounds they take: (n - 1) * H + 1. */
+static const struct {
+    const char *line, *sheet;
+    unsigned rounds;
+} heaviest[] = {
+    {"2,0\n", "horizon,0\nevents,2\na\nb\nsignals,0\nrules,1\nmin,b,b,1,-\n", 1},
+    {"2,10080\n", "horizon,10080\nevents,2\na\nb\nsignals,0\nrules,1\nmin,b,b,1,-\n", 10081},
+    {"3,7\n", "horizon,7\nevents,3\na\nb\nc\nsignals,0\nrules,2\nmin,b,c,0,-\nmin,c,b,1,-\n", 15},
+    {"4,60\n",
+     "horizon,60\nevents,4\na\nb\nc\nd\nsignals,0\nrules,3\nmin,b,c,0,-\nmin,c,d,0,-\nmin,d,b,1,-\n", 181},
+    {"11,100\n",
+     "horizon,100\nevents,11\na\nb\nc\nd\ne\nf\ng\nh\ni\nj\nk\nsignals,0\nrules,10\n"
+     "min,b,c,0,-\nmin,c,d,0,-\nmin,d,e,0,-\nmin,e,f,0,-\nmin,f,g,0,-\nmin,g,h,0,-\nmin,h,i,0,-\n"
+     "min,i,j,0,-\nmin,j,k,0,-\nmin,k,b,1,-\n", 1001},
+    {"16,10080\n",
+     "horizon,10080\nevents,16\na\nb\nc\nd\ne\nf\ng\nh\ni\nj\nk\nl\nm\nn\no\np\nsignals,0\nrules,15\n"
+     "min,b,c,0,-\nmin,c,d,0,-\nmin,d,e,0,-\nmin,e,f,0,-\nmin,f,g,0,-\nmin,g,h,0,-\nmin,h,i,0,-\n"
+     "min,i,j,0,-\nmin,j,k,0,-\nmin,k,l,0,-\nmin,l,m,0,-\nmin,m,n,0,-\nmin,n,o,0,-\nmin,o,p,0,-\n"
+     "min,p,b,1,-\n", 151201},
+};
+
+static void heaviest_sheets(void)
+{
+    for (size_t i = 0; i < sizeof heaviest / sizeof heaviest[0]; i++) {
+        const char *line = heaviest[i].line, *sheet = heaviest[i].sheet;
+        const size_t length = strlen(line), exact = strlen(sheet);
+        char about[64];
+        sprintf(about, "heaviest sheet %u", (unsigned)i);
+        ring(about, line, length, exact, 0, 0, sheet);
+        ring(about, line, length, exact + 1, 0, 0, sheet);
+        ring(about, line, length, OPENING_SHEET_MOST, 0, 0, sheet);
+        for (size_t room = 0; room < exact; room++)
+            ring(about, line, length, room, 12, 0, NULL);
+        solve(about, sheet, exact, OPENING_TABLE_MOST, 13, 0, heaviest[i].rounds, NULL, 0);
+        solve(about, sheet, exact, 2, 12, 0, 0, NULL, 0);
+        house(about, sheet, exact, 0, 12, 0, NULL);
+    }
+    expect("heaviest sheets", "the longest", strlen(heaviest[5].sheet), 255);
+}
+
+/* Lines that are turned away, each whatever room is lent. */
+static const struct {
+    unsigned number, refused_line;
+    const char *line;
+} turned_away[] = {
+    {2, 1, ""},          {2, 1, "4,60"},        {2, 1, "4"},         {2, 1, "010,10081"},  {2, 1, "4,60\r"},
+    {3, 1, "\n"},        {3, 1, "4\n"},         {3, 1, "4,60,\n"},   {3, 1, "4,60,1\n"},  {3, 1, "4;60\n"},
+    {3, 1, ",,\n"},      {3, 1, "010\n"},       {3, 1, "17,10081,0\n"}, {3, 1, "4\n60\n"},
+    {4, 1, ",\n"},       {4, 1, "4,\n"},        {4, 1, ",60\n"},     {4, 1, "04,60\n"},   {4, 1, "4,060\n"},
+    {4, 1, "4,-0\n"},    {4, 1, "+4,60\n"},     {4, 1, "4, 60\n"},   {4, 1, "4 ,60\n"},   {4, 1, "4,60\r\n"},
+    {4, 1, "n,H\n"},     {4, 1, "1,060\n"},     {4, 1, "17,-0\n"},   {4, 1, "04,10081\n"}, {4, 1, ",-1\n"},
+    {4, 1, "-,10081\n"}, {4, 1, "horizon,60\n"}, {4, 1, "4,6O\n"},   {4, 1, "18446744073709551620,x\n"},
+    {5, 1, "1,60\n"},    {5, 1, "17,60\n"},     {5, 1, "0,60\n"},    {5, 1, "-4,60\n"},   {5, 1, "4,10081\n"},
+    {5, 1, "4,-1\n"},    {5, 1, "1,10081\n"},   {5, 1, "60,4\n"},    {5, 1, "65540,60\n"}, {5, 1, "4,65596\n"},
+    {5, 1, "4294967300,60\n"}, {5, 1, "4,18446744073709551676\n"},   {5, 1, "99999999999999999999999999999999,0\n"},
+    {10, 2, "4,60\n\n"}, {10, 2, "4,60\nx"},    {10, 2, "2,0\n2,0\n"}, {10, 2, "4,60\n\r\n"}, {10, 2, "16,10080\n "},
+    {3, 1, "\n4,60\n"},  {4, 1, "04,60\nx"},    {5, 1, "17,60\n\n"}, {3, 1, "4,60,1\n4,60\n"},
+};
+
+static void lines_turned_away(void)
+{
+    static char line[OPENING_SHEET_MOST + 1];
+    for (size_t i = 0; i < sizeof turned_away / sizeof turned_away[0]; i++) {
+        char about[64];
+        sprintf(about, "line %u (refusal %u)", (unsigned)i, turned_away[i].number);
+        not_ringed(about, turned_away[i].line, strlen(turned_away[i].line), turned_away[i].number,
+                   turned_away[i].refused_line);
+    }
+    not_ringed("a NUL behind the line", "4,60\n", 6, 10, 2);
+    not_ringed("a NUL for the feed", "4,60", 5, 2, 1);
+    memset(line, '1', sizeof line);
+    not_ringed("4,096 digits", line, OPENING_SHEET_MOST, 2, 1);
+    not_ringed("4,097 digits", line, OPENING_SHEET_MOST + 1, 1, 0);
+    memcpy(line, "4,", 2);
+    line[OPENING_SHEET_MOST - 1] = '\n';
+    not_ringed("4,096 bytes, most of them digits", line, OPENING_SHEET_MOST, 5, 1);
+    not_ringed("4,096 bytes, and one behind", line, OPENING_SHEET_MOST + 1, 1, 0);
+    line[2] = '0';
+    not_ringed("4,096 bytes, a leading zero", line, OPENING_SHEET_MOST, 4, 1);
+    memcpy(line, "4,60\n", 5);
+    not_ringed("4,096 bytes, most of them behind", line, OPENING_SHEET_MOST, 10, 2);
+    not_ringed("4,097 bytes, most of them behind", line, OPENING_SHEET_MOST + 1, 1, 0);
+}
+
+/* A line's sheet, handed on to the solver as it is. */
+static void ring_then_solve(const char *line, unsigned rounds)
+{
+    static const char about[] = "ring, then solve";
+    uint8_t sheet[OPENING_SHEET_MOST], table[OPENING_TABLE_MOST];
+    uint64_t written = opening_ring((const uint8_t *)line, strlen(line), sheet, sizeof sheet);
+    expect(about, "the writer's number", opening_number(written), 0);
+    uint64_t solved = opening_solve(sheet, opening_bytes(written), table, sizeof table);
+    expect(about, "the solver's number", opening_number(solved), 13);
+    expect(about, "the line", opening_line(solved), 0);
+    expect(about, "the count of minutes", opening_minutes(solved), 0);
+    expect(about, "the count of rounds", opening_rounds(solved), rounds);
+    calls += 2;
+}
+
+/* What the solver wrote, after so many rounds, handed on to the judge as it is. */
+static void solve_then_judge(const char *sheet, unsigned rounds)
 {
     uint8_t table[OPENING_TABLE_MOST];
     const uint8_t *bytes = (const uint8_t *)sheet;
     uint64_t solved = opening_solve(bytes, strlen(sheet), table, sizeof table);
     expect("solve, then judge", "the number", opening_number(solved), 0);
-    expect("solve, then judge", "the number in the unused bytes", solved >> 40, 0);
+    expect("solve, then judge", "the count of rounds", opening_rounds(solved), rounds);
     uint64_t judged = opening_judge(bytes, strlen(sheet), table, 2 * opening_minutes(solved));
     expect("solve, then judge", "the judge's answer", judged, 0);
     calls += 2;
@@ -1374,13 +1537,18 @@ int main(void)
     converted_sheets();
     rows_resulting();
     fourth_trial();
-    solve_then_judge(example);
-    solve_then_judge(signal_last);
-    solve_then_judge(two_signals);
-    solve_then_judge(high);
-    solve_then_judge(after_60);
-    solve_then_judge(slow_pair);
-    solve_then_judge(duress);
+    counted_rounds();
+    heaviest_sheets();
+    lines_turned_away();
+    for (size_t i = 0; i < sizeof heaviest / sizeof heaviest[0]; i++)
+        ring_then_solve(heaviest[i].line, heaviest[i].rounds);
+    solve_then_judge(example, 3);
+    solve_then_judge(signal_last, 1);
+    solve_then_judge(two_signals, 1);
+    solve_then_judge(high, 2);
+    solve_then_judge(after_60, 3);
+    solve_then_judge(slow_pair, 3);
+    solve_then_judge(duress, 3);
     printf("bench: %u calls, all answers and all lent bytes as the papers ask\n", calls);
     return 0;
 }

@@ -1,16 +1,19 @@
-//! The mode without a word: the C calls of `libopening.a` on generated sheets, tables, minutes, texts and listings,
-//! against the model.
+//! The mode without a word: the C calls of `libopening.a` on generated sheets, tables, minutes, texts, listings and
+//! lines, against the model.
 
 use crate::gen::{self, Rng};
 use crate::lent::{lend_bytes, lend_room, lend_text, Lent};
 use crate::library::{self, Library, Question};
 use crate::model::{self, Net, Refusal, Verdict};
-use crate::{alike, count, pace, text_of, Counts};
+use crate::rounds::{self, Run};
+use crate::program::told;
+use crate::{alike, count, lines, pace, text_of, Counts};
 use std::process::exit;
 
 // ---------------------------------------------------------------- The answers that the papers ask for
 
-/// The number and the line stand in the lowest three bytes of every answer; on a refusal the other numbers are 0.
+/// The number and the line stand in the lowest three bytes of every answer; on a refusal the other numbers are 0, but
+/// for the count of rounds beside 13.
 fn refusal_answer(refusal: Refusal) -> u64 {
     u64::from(refusal.number) | (refusal.line as u64) << 8
 }
@@ -18,6 +21,15 @@ fn refusal_answer(refusal: Refusal) -> u64 {
 /// What is written or due stands in the next two bytes.
 fn value_answer(value: usize) -> u64 {
     (value as u64) << 24
+}
+
+/// The count of rounds stands in the three bytes behind the minutes. It "goes with a solver's table and with refusal
+/// 13"; beside every other refusal it is 0.
+pub fn rounds_answer(outcome: &Result<&[u16], Refusal>, count: u32) -> u64 {
+    match outcome {
+        Ok(_) | Err(Refusal { number: 13, .. }) => u64::from(count) << 40,
+        Err(_) => 0,
+    }
 }
 
 /// The word and its three bytes: "Late case, event; Rule case, rule; Unheard case, case, event".
@@ -77,20 +89,30 @@ pub fn played(net: &Net, table: &[u16], minute: u16, heard: Option<Vec<(u8, bool
 
 // ---------------------------------------------------------------- compare
 
-/// A generated sheet and what the model reads in it.
+/// A generated sheet, what the model reads in it, its table, and how many rounds this takes.
 struct Case {
     sheet: Lent,
     reading: Result<Net, Refusal>,
     solved: Option<Vec<u16>>,
+    rounds: u32,
 }
 
 impl Case {
-    /// Its table is only asked for where the sheet is for the solver too.
-    fn new(rng: &mut Rng, sheet: &[u8], solve: fn(&Net) -> Option<Vec<u16>>) -> Self {
+    /// Its table and its rounds are only asked for where the sheet is for the solver too.
+    fn new(rng: &mut Rng, sheet: &[u8], run: fn(&Net) -> Run) -> Self {
         let reading = model::read(sheet);
-        let solved = reading.as_ref().ok().and_then(solve);
-        Case { sheet: lend_text(rng, sheet), reading, solved }
+        let Run { count, table } = reading.as_ref().map_or(NO_RUN, run);
+        Case { sheet: lend_text(rng, sheet), reading, solved: table, rounds: count }
     }
+}
+
+const NO_RUN: Run = Run { count: 0, table: None };
+
+/// Plain rounds, whose table is the one by raising.
+fn solve(net: &Net) -> Run {
+    let run = rounds::run(net);
+    assert_eq!(run.table, model::solve(net), "raising and rounds do not agree");
+    run
 }
 
 pub fn compare(seed: u64, cases: u64) {
@@ -107,12 +129,13 @@ pub fn compare(seed: u64, cases: u64) {
     println!("{cases} cases from seed {seed}: no difference");
 }
 
-/// All calls for the sheet of one seed, the converter's for one that is made for it too, and at times those that write
-/// other texts for a second sheet, which has more of what they turn on.
+/// All calls for the sheet of one seed, the converter's for one that is made for it too, at times those that write
+/// other texts for a second sheet, which has more of what they turn on, and the writer of the heaviest sheets for a
+/// line.
 pub fn compare_one(library: &Library, seed: u64, counts: &mut Counts) -> Result<(), String> {
     let mut rng = Rng::new(seed);
     let sheet = gen::sheet(&mut rng);
-    let case = Case::new(&mut rng, &sheet, model::solve);
+    let case = Case::new(&mut rng, &sheet, solve);
     count(counts, reading_kind(&case.reading));
     for length in solver_lengths(&mut rng, &case.reading) {
         let table = lend_room(&mut rng, length);
@@ -137,7 +160,7 @@ pub fn compare_one(library: &Library, seed: u64, counts: &mut Counts) -> Result<
     ask_for_house_form(&mut rng, library, &case, counts)?;
     ask_for_conversion(&mut rng, library, &case, counts)?;
     let former = gen::former_sheet(&mut rng);
-    let former = Case::new(&mut rng, &former, |_| None);
+    let former = Case::new(&mut rng, &former, |_| NO_RUN);
     ask_for_conversion(&mut rng, library, &former, counts)?;
     if rng.chance(15) {
         compare_long_texts(library, &mut rng, counts)?;
@@ -146,13 +169,13 @@ pub fn compare_one(library: &Library, seed: u64, counts: &mut Counts) -> Result<
         let listing = gen::listing(&mut rng, &sheet, case.reading.as_ref().ok(), case.solved.as_deref());
         ask_to_read(&mut rng, library, &case, &listing, counts)?;
     }
-    Ok(())
+    ask_for_ring(&mut rng, library, counts)
 }
 
 /// House forms of about 64 rows, and listings with minutes of five digits.
 fn compare_long_texts(library: &Library, rng: &mut Rng, counts: &mut Counts) -> Result<(), String> {
     let sheet = gen::text_sheet(rng);
-    let case = Case::new(rng, &sheet, |_| None);
+    let case = Case::new(rng, &sheet, |_| NO_RUN);
     if let Ok(net) = &case.reading {
         let minutes = gen::wide_table(rng, net);
         let table = lend_bytes(rng, &gen::bytes_of(&minutes));
@@ -211,6 +234,21 @@ fn ask_for_conversion(rng: &mut Rng, library: &Library, case: &Case, counts: &mu
     Ok(())
 }
 
+/// A line, and the rooms of other texts: exact or a byte less, and another; where it is in order, all four.
+fn ask_for_ring(rng: &mut Rng, library: &Library, counts: &mut Counts) -> Result<(), String> {
+    let line = lines::line(rng);
+    let text = model::ring(&line);
+    let line = lend_text(rng, &line);
+    let mut lengths = rooms(rng, &text).to_vec();
+    if let Ok(text) = &text {
+        lengths = vec![text.len(), text.len() - 1, text.len() + 1 + rng.below(64), lengths[1], 0];
+    }
+    for room in lengths {
+        compare_ring(library, &line, &text, &lend_room(rng, room), counts)?;
+    }
+    Ok(())
+}
+
 /// A listing is read into tables as they are lent to the solver, of which some are enough where it is refused; where
 /// it is not, what was read is printed.
 fn ask_to_read(
@@ -254,7 +292,7 @@ fn rooms(rng: &mut Rng, text: &Result<Vec<u8>, Refusal>) -> [usize; 2] {
 
 // ---------------------------------------------------------------- One call
 
-/// One call of the solver. Its bytes from the sixth on are kept for a count of rounds, and 0 until there is one.
+/// One call of the solver, with its count of rounds.
 fn compare_solver(library: &Library, case: &Case, table: &Lent, counts: &mut Counts) -> Result<(), String> {
     let outcome = solver_outcome(case, table.length);
     let (sheet, mut lent) = (case.sheet.clone(), table.clone());
@@ -263,7 +301,11 @@ fn compare_solver(library: &Library, case: &Case, table: &Lent, counts: &mut Cou
         Err(refusal) => (refusal_answer(refusal), table.clone()),
         Ok(minutes) => (value_answer(minutes.len()), table.with(&gen::bytes_of(minutes))),
     };
+    let right = right | rounds_answer(&outcome, case.rounds);
     count(counts, solver_kind(case, &outcome));
+    if right >> 40 != 0 {
+        count(counts, rounds_kind(&outcome, case.rounds));
+    }
     check("solver", (right, answer), &[("table", &asked, &lent), ("sheet", &case.sheet, &sheet)])
         .map_err(|words| words + &scene(case, Some(table)))
 }
@@ -336,6 +378,19 @@ fn compare_convert(
     count(counts, text_kind(changed, &outcome));
     check("converter", (right, answer), &[("buffer", &asked, &out), ("sheet", &case.sheet, &sheet)])
         .map_err(|words| format!("{words}room for {} bytes\n{}", room.length, scene(case, None)))
+}
+
+/// One call of the writer of the heaviest sheets.
+fn compare_ring(
+    library: &Library, line: &Lent, text: &Result<Vec<u8>, Refusal>, room: &Lent, counts: &mut Counts,
+) -> Result<(), String> {
+    let (asked, outcome) = written(text, room);
+    let (asking, mut out) = (line.clone(), room.clone());
+    let answer = (library.ring)(asking.slice(), out.slice_mut());
+    let right = outcome.map_or_else(refusal_answer, value_answer);
+    count(counts, text_kind("heaviest sheet", &outcome));
+    check("heaviest sheet", (right, answer), &[("buffer", &asked, &out), ("line", line, &asking)])
+        .map_err(|words| format!("{words}room for {} bytes\nline of {}", room.length, told(line.slice())))
 }
 
 /// One call of the reader of listings.
@@ -424,6 +479,16 @@ fn due_kind(outcome: &Result<u16, Refusal>, heard: &[u8]) -> String {
             format!("player, {signals} signals heard: {}", if *events == 0 { "nothing is due" } else { "events are due" })
         }
         Err(refusal) => format!("player refused {:>2}", refusal.number),
+    }
+}
+
+/// How many rounds: few most often.
+fn rounds_kind(outcome: &Result<&[u16], Refusal>, rounds: u32) -> String {
+    let to = if outcome.is_ok() { "a table" } else { "13" };
+    match rounds {
+        0..=9 => format!("solver's rounds to {to}: {rounds}"),
+        10..=255 => format!("solver's rounds to {to}: 10 to 255"),
+        _ => format!("solver's rounds to {to}: more than 255"),
     }
 }
 

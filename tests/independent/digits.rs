@@ -1,6 +1,6 @@
-//! The mode `numbers`: each number that a listing, a house form or a converted sheet can have in a place, through the C
-//! calls, against the digits that Rust prints. And wrong programs that write numbers by counting off, as 02, point 5
-//! asks, with a slip.
+//! The mode `numbers`: each number that a listing, a house form, a converted or a heaviest sheet can have in a place,
+//! through the C calls, against the digits that Rust prints. And wrong programs that write numbers by counting off, as
+//! 02, point 5 asks, with a slip.
 
 use crate::library::{own, Library};
 use crate::model;
@@ -26,10 +26,12 @@ const LABELS: usize = 15;
 pub fn words() -> String {
     let forms = format!("{LIMITS} limits, {HORIZONS} horizons, {REACTIONS} reactions and every count of a section");
     let counts = "every count of rules before and behind the converter";
-    format!("{MINUTES} minutes in listings, {forms} in house forms, and {counts}: no difference")
+    let rings = "every n and as many horizons in heaviest sheets";
+    format!("{MINUTES} minutes in listings, {forms} in house forms, {counts}, and {rings}: no difference")
 }
 
-/// Listings first, then house forms, then converted sheets; a difference has its place among all of these texts.
+/// Listings first, then house forms, converted sheets and heaviest sheets; a difference has its place among all of
+/// these texts.
 pub fn compare_all(library: &Library) -> Result<(), Difference> {
     let limits: Vec<i64> = (-10_080..=10_080).collect();
     assert_eq!(limits.len() as i64, LIMITS);
@@ -48,6 +50,8 @@ pub fn compare_all(library: &Library) -> Result<(), Difference> {
     let counts = (0..=RULES).flat_map(|count| (0..=count.min(RULES - count)).map(move |fixes| (count, fixes)));
     let all = listings.chain(forms.map(|form| compare_form(library, &form)));
     let all = all.chain(counts.map(|(count, fixes)| compare_count(library, count, fixes)));
+    let rings = (2..=EVENTS).map(|events| (events, 0)).chain((0..HORIZONS).map(|horizon| (2, horizon)));
+    let all = all.chain(rings.map(|(events, horizon)| compare_ring(library, events, horizon)));
     (1..).zip(all).try_for_each(|(place, compared)| compared.map_err(|words| (place, words)))
 }
 
@@ -109,6 +113,11 @@ fn compare_count(library: &Library, count: usize, fixes: usize) -> Result<(), St
     compare_text(text.as_bytes(), |out| (library.convert)(former.as_bytes(), out))
 }
 
+fn compare_ring(library: &Library, events: usize, horizon: i64) -> Result<(), String> {
+    let text = model::ring_of(events, horizon);
+    compare_text(text.as_bytes(), |out| (library.ring)(format!("{events},{horizon}\n").as_bytes(), out))
+}
+
 fn compare_text(text: &[u8], call: impl Fn(&mut [u8]) -> u64) -> Result<(), String> {
     let mut out = vec![b'?'; ROOM];
     let answer = call(&mut out);
@@ -139,7 +148,7 @@ pub enum Slip {
     NineIsEight,
 }
 
-pub const FAULTS: [(&str, Library); 15] = [
+pub const FAULTS: [(&str, Library); 21] = [
     ("listing-place-skipped", Library { listing: |s, t, out| listed(s, t, out, Slip::PlaceSkipped), ..own::LIBRARY }),
     ("listing-leading-zero", Library { listing: |s, t, out| listed(s, t, out, Slip::LeadingZero), ..own::LIBRARY }),
     ("listing-ten-ones", Library { listing: |s, t, out| listed(s, t, out, Slip::TenOnes), ..own::LIBRARY }),
@@ -155,6 +164,12 @@ pub const FAULTS: [(&str, Library); 15] = [
     ("convert-leading-zero", Library { convert: |s, out| converted(s, out, Slip::LeadingZero), ..own::LIBRARY }),
     ("convert-ten-ones", Library { convert: |s, out| converted(s, out, Slip::TenOnes), ..own::LIBRARY }),
     ("convert-nothing-for-0", Library { convert: |s, out| converted(s, out, Slip::NothingForZero), ..own::LIBRARY }),
+    ("ring-place-skipped", Library { ring: |line, out| ringed(line, out, Slip::PlaceSkipped), ..own::LIBRARY }),
+    ("ring-leading-zero", Library { ring: |line, out| ringed(line, out, Slip::LeadingZero), ..own::LIBRARY }),
+    ("ring-ten-ones", Library { ring: |line, out| ringed(line, out, Slip::TenOnes), ..own::LIBRARY }),
+    ("ring-zeros-lost", Library { ring: |line, out| ringed(line, out, Slip::ZerosLost), ..own::LIBRARY }),
+    ("ring-nothing-for-0", Library { ring: |line, out| ringed(line, out, Slip::NothingForZero), ..own::LIBRARY }),
+    ("ring-nine-is-eight", Library { ring: |line, out| ringed(line, out, Slip::NineIsEight), ..own::LIBRARY }),
 ];
 
 /// The same without a slip, so that it is the slip that is noticed.
@@ -162,6 +177,7 @@ pub const RIGHT: Library = Library {
     listing: |s, t, out| listed(s, t, out, Slip::None),
     house: |s, out| housed(s, out, Slip::None),
     convert: |s, out| converted(s, out, Slip::None),
+    ring: |line, out| ringed(line, out, Slip::None),
     ..own::LIBRARY
 };
 
@@ -177,6 +193,10 @@ fn housed(sheet: &[u8], out: &mut [u8], slip: Slip) -> u64 {
 /// Here the count alone is written anew: it is the only number of a converted sheet that is not copied.
 fn converted(sheet: &[u8], out: &mut [u8], slip: Slip) -> u64 {
     own::write_text(model::convert(sheet).map(|text| recounted(&text, slip)), out)
+}
+
+fn ringed(line: &[u8], out: &mut [u8], slip: Slip) -> u64 {
+    own::write_text(model::ring(line).map(|text| respelled(&text, slip)), out)
 }
 
 /// An accepted sheet with the count of its rules written anew.

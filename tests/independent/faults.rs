@@ -12,6 +12,7 @@ use crate::leaps::{self, Slip as Solved};
 use crate::model::{self, truth, Kind, Label, Net, Refusal, Rule, Verdict, BLANK};
 use crate::readers::{self, Slip as Back};
 use crate::retired::{self, Slip as Retired};
+use crate::rounds::{self, Run};
 use crate::sections::{self, up_to_reactions, Slip};
 use std::ops::RangeInclusive;
 
@@ -51,9 +52,10 @@ const REFUSES_ALL: Library = Library {
     house: |_, _| refused_call(12),
     read_listing: |_, _, _| refused_call(12),
     convert: |_, _| refused_call(17),
+    ring: |_, _| refused_call(12),
 };
 
-pub const FAULTS: [(&str, Library); 452] = [
+pub const FAULTS: [(&str, Library); 450] = [
     ("13-at-once", solver(|sheet, table| with_solver(sheet, table, |_| None))),
     ("refuses-all", REFUSES_ALL),
     ("minute-0-throughout", solver(|sheet, table| with_solver(sheet, table, |net| model::solve(net).map(|good| vec![0; good.len()])))),
@@ -69,11 +71,9 @@ pub const FAULTS: [(&str, Library); 452] = [
     ("writes-odd-byte", solver(writes_odd_byte)),
     ("writes-before-13", solver(writes_before_13)),
     ("writes-before-12", solver(writes_before_12)),
-    ("13-before-12", solver(|sheet, table| if solves_to_none(sheet) { refused_call(13) } else { own::solve(sheet, table) })),
+    ("13-before-12", solver(thirteen_before_12)),
     ("high-byte-first", solver(high_byte_first)),
     ("half-pair-counts", solver(half_pair_counts)),
-    ("rounds-with-a-table", solver(|sheet, table| with_rounds(own::solve(sheet, table), 0))),
-    ("rounds-with-13", solver(|sheet, table| with_rounds(own::solve(sheet, table), 13))),
     ("passes-all", judge(|sheet, table| with_judge(sheet, table, |_, _| Verdict::Pass))),
     ("case-0-only", judge(|sheet, table| with_judge(sheet, table, case_0_only))),
     ("one-signal-judge", judge(|sheet, table| with_judge(sheet, table, |net, table| judge_with(net, table, ONE_SIGNAL)))),
@@ -510,18 +510,14 @@ pub const FAULTS: [(&str, Library); 452] = [
 
 // ---------------------------------------------------------------- Wrong solvers
 
+/// The right solver's calls and its count of rounds, with another table.
 fn with_solver(sheet: &[u8], table: &mut [u8], solve: impl Fn(&Net) -> Option<Vec<u16>>) -> u64 {
-    match model::read(sheet) {
-        Ok(net) if table.len() / 2 >= net.cells() => match solve(&net) {
-            None => refused_call(13),
-            Some(minutes) => write(&minutes, table),
-        },
-        _ => own::solve(sheet, table),
-    }
+    own::solve_by(sheet, table, |net| Run { table: solve(net), ..rounds::run(net) })
 }
 
-fn solves_to_none(sheet: &[u8]) -> bool {
-    model::read(sheet).is_ok_and(|net| model::solve(&net).is_none())
+fn thirteen_before_12(sheet: &[u8], table: &mut [u8]) -> u64 {
+    let with_room = own::solve(sheet, &mut [0; 512]);
+    if with_room & 0xff == 13 { with_room } else { own::solve(sheet, table) }
 }
 
 fn case_0_copied(net: &Net) -> Option<Vec<u16>> {
@@ -629,7 +625,7 @@ fn odd_byte_filled(answer: u64, table: &mut [u8]) -> u64 {
 
 fn writes_before_13(sheet: &[u8], table: &mut [u8]) -> u64 {
     let answer = own::solve(sheet, table);
-    if answer == 13 {
+    if answer & 0xff == 13 {
         let cells = model::read(sheet).unwrap().cells();
         table[..2 * cells].fill(0);
     }
@@ -665,11 +661,6 @@ fn rounded_up(table: &mut [u8], call: impl Fn(&mut [u8]) -> u64) -> u64 {
     let length = table.len();
     table.copy_from_slice(&longer[..length]);
     answer
-}
-
-/// A round counted in the bytes that are kept for it, where the answer has this number.
-fn with_rounds(answer: u64, number: u64) -> u64 {
-    if answer & 0xff == number { answer | 1 << 40 } else { answer }
 }
 
 // ---------------------------------------------------------------- Wrong judges

@@ -981,7 +981,7 @@ fn put(rng: &mut Rng, paper: &mut Paper, place: Place, field: usize, text: Vec<u
     }
 }
 
-fn odd_number(rng: &mut Rng) -> Vec<u8> {
+pub fn odd_number(rng: &mut Rng) -> Vec<u8> {
     const NUMBERS: [&str; 36] = [
         "010", "-0", "-0", "-0", "+5", "-", "", "18446744073709551621", "18446744073709551621",
         "18446744073709551621", "18446744073709551616", "4294967301", "65541", "10081", "-10081", "10080", "-10080",
@@ -1488,7 +1488,7 @@ fn some_byte(rng: &mut Rng) -> u8 {
 }
 
 /// A byte changed, removed or inserted.
-fn change_byte(rng: &mut Rng, bytes: &mut Vec<u8>) {
+pub fn change_byte(rng: &mut Rng, bytes: &mut Vec<u8>) {
     let byte = some_byte(rng);
     if bytes.is_empty() {
         return bytes.push(byte);

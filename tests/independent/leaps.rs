@@ -111,7 +111,17 @@ pub fn turns(sheet: &[u8]) -> u64 {
 
 /// The table of a solver with a slip.
 pub fn table_with(net: &Net, slip: Slip) -> Option<Vec<u16>> {
-    Leaper::new(net, slip).run().0.table
+    run_with(net, slip).table
+}
+
+/// Its table and its count.
+pub fn run_with(net: &Net, slip: Slip) -> Run {
+    Leaper::new(net, slip).run().0
+}
+
+/// The run of the right one, and how many rounds it makes one by one.
+pub fn run_and_turns(net: &Net) -> (Run, u32) {
+    Leaper::new(net, Slip::None).run()
 }
 
 fn answer(sheet: &[u8], slip: Slip) -> u64 {

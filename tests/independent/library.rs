@@ -11,6 +11,7 @@ pub struct Library {
     pub house: fn(sheet: &[u8], out: &mut [u8]) -> u64,
     pub read_listing: fn(sheet: &[u8], listing: &[u8], table: &mut [u8]) -> u64,
     pub convert: fn(sheet: &[u8], out: &mut [u8]) -> u64,
+    pub ring: fn(line: &[u8], out: &mut [u8]) -> u64,
 }
 
 /// What the player of a table is asked; `heard` is the text of the signals heard before the minute.
@@ -40,7 +41,7 @@ pub use own::{LIBRARY, TALLY};
 mod linked {
     use super::{Library, Question, Tally};
 
-    pub const LIBRARY: Library = Library { solve, judge, due, listing, house, read_listing, convert };
+    pub const LIBRARY: Library = Library { solve, judge, due, listing, house, read_listing, convert, ring };
     pub const TALLY: Tally = Tally { leaping, plain, turns };
 
     #[link(name = "opening", kind = "static")]
@@ -59,6 +60,7 @@ mod linked {
             table_len: usize,
         ) -> u64;
         fn opening_convert(sheet: *const u8, sheet_len: usize, out: *mut u8, out_len: usize) -> u64;
+        fn opening_ring(line: *const u8, line_len: usize, out: *mut u8, out_len: usize) -> u64;
     }
 
     #[link(name = "tally", kind = "static")]
@@ -97,6 +99,10 @@ mod linked {
         unsafe { opening_convert(sheet.as_ptr(), sheet.len(), out.as_mut_ptr(), out.len()) }
     }
 
+    fn ring(line: &[u8], out: &mut [u8]) -> u64 {
+        unsafe { opening_ring(line.as_ptr(), line.len(), out.as_mut_ptr(), out.len()) }
+    }
+
     fn leaping(sheet: &[u8]) -> u64 {
         unsafe { tally_leaping(sheet.as_ptr(), sheet.len()) }
     }
@@ -114,9 +120,10 @@ mod linked {
 pub mod own {
     use super::{Library, Question, Tally};
     use crate::model::{self, Net, Refusal, Verdict};
-    use crate::{leaps, rounds};
+    use crate::leaps;
+    use crate::rounds::{self, Run};
 
-    pub const LIBRARY: Library = Library { solve, judge, due, listing, house, read_listing, convert };
+    pub const LIBRARY: Library = Library { solve, judge, due, listing, house, read_listing, convert, ring };
     pub const TALLY: Tally = Tally { leaping: leaps::leaping, plain, turns: leaps::turns };
 
     /// The bytes, lowest first: refusal number; line (two bytes); then five bytes that each call fills in its own way.
@@ -125,7 +132,7 @@ pub mod own {
         u64::from_le_bytes([number, line[0], line[1], rest[0], rest[1], rest[2], rest[3], rest[4]])
     }
 
-    /// opening.h: "On a refusal all bytes from 3 on are 0."
+    /// opening.h: on a refusal all bytes from 3 on are 0, but for the count beside 13.
     pub fn refused(refusal: Refusal) -> u64 {
         pack(refusal.number, refusal.line, [0; 5])
     }
@@ -182,6 +189,11 @@ pub mod own {
 
     /// The sheet's own refusals, then 12, then 13; "the solver counts the whole pairs it is lent".
     pub fn solve(sheet: &[u8], table: &mut [u8]) -> u64 {
+        solve_by(sheet, table, rounds::run)
+    }
+
+    /// The same with another run.
+    pub fn solve_by(sheet: &[u8], table: &mut [u8], run: impl Fn(&Net) -> Run) -> u64 {
         let net = match model::read(sheet) {
             Err(refusal) => return refused(refusal),
             Ok(net) => net,
@@ -189,10 +201,14 @@ pub mod own {
         if table.len() / 2 < net.cells() {
             return refused_call(12);
         }
-        match model::solve(&net) {
-            None => refused_call(13),
-            Some(minutes) => write(&minutes, table),
-        }
+        let Run { count, table: found } = run(&net);
+        let answer = found.map_or_else(|| refused_call(13), |minutes| write(&minutes, table));
+        with_rounds(answer, count)
+    }
+
+    /// The count of rounds "goes with a solver's table and with refusal 13": three bytes behind the minutes.
+    pub fn with_rounds(answer: u64, count: u32) -> u64 {
+        answer | u64::from(count) << 40
     }
 
     /// The sheet's own refusals, then 11, or the verdict.
@@ -231,6 +247,11 @@ pub mod own {
     /// The sheet's own refusals by the former rules, then 17, then 12.
     pub fn convert(sheet: &[u8], out: &mut [u8]) -> u64 {
         write_text(model::convert(sheet), out)
+    }
+
+    /// The line's own refusals, then 12.
+    pub fn ring(line: &[u8], out: &mut [u8]) -> u64 {
+        write_text(model::ring(line), out)
     }
 
     /// The sheet's own refusals, then 18, 19 and 12; whole pairs are counted, as for the solver.

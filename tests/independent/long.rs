@@ -45,9 +45,9 @@ fn long_sheet(rng: &mut Rng, make: Maker, mut horizon: i64) -> Vec<u8> {
     }
 }
 
-/// Request 8's ring: "Its events are a, b, c and so on; its rules are `min` rows labelled `-`, of 0 from b on to each next event, then of
-/// 1 from the last back to b."
-pub fn request_8(events: usize, horizon: i64) -> Vec<u8> {
+/// The heaviest sheet: "Its events are a, b, c and so on; its rules are `min` rows labelled `-`, of 0 from b on to each
+/// next event, then of 1 from the last back to b."
+pub fn heaviest(events: usize, horizon: i64) -> Vec<u8> {
     let names = (0..events).map(|event| char::from(b'a' + event as u8).to_string()).collect();
     let places: Vec<usize> = (1..events).collect();
     let rules = ring_rows(&places, 1, |_| vec![]);

@@ -1,33 +1,39 @@
-//! The comparison of `libopening.a` and `libtally.a`, and of programs that print tables, house forms, converted sheets
-//! or verdicts, with the model of documents 01 and 02.
+//! The comparison of `libopening.a` and `libtally.a`, and of programs that print tables, house forms, converted sheets,
+//! verdicts or the heaviest sheets, with the model of documents 01 and 02.
 //!
-//! compare [SEED [COUNT]]                  generated sheets, tables, texts and listings, every answer and every lent
-//!                                         byte compared
+//! compare [SEED [COUNT]]                  generated sheets, tables, texts, listings and lines, every answer and every
+//!                                         lent byte compared
 //! compare table PROGRAM [SEED [COUNT]]    generated sheets, what a program that prints tables prints for each compared
 //! compare house PROGRAM [SEED [COUNT]]    the same for a program that prints house forms
 //! compare convert PROGRAM [SEED [COUNT]]  the same for a program that prints sheets without their `fix` rows
 //! compare judge PROGRAM [SEED [COUNT]]    generated sheets and listings, as files in a folder for a program that
 //!                                         judges a listing's table, what it prints for each pair compared
-//! compare numbers                         each number that the library can write, in listings, house forms and
-//!                                         converted sheets
-//! compare count [SEED [COUNT]]            generated sheets of many rounds, the count of rounds and the table compared
+//! compare ring PROGRAM [SEED [COUNT]]     the heaviest sheets for every n at some H, what a program prints, what the
+//!                                         library writes and how many rounds it takes to solve it; then generated
+//!                                         lines, what the program prints for each
+//! compare numbers                         each number that the library can write, in listings, house forms, converted
+//!                                         and heaviest sheets
+//! compare count [SEED [COUNT]]            generated sheets of many rounds, the count of rounds and the table compared,
+//!                                         also of the C call
 //! compare count-files FILE..              the same for given sheets, with a line for each
 //! compare expected DIR                    the answers that the papers ask for the trial files DIR/001.csv or 001.fix,
 //!                                         002.csv or 002.fix, ..
 //! compare selftest [SEED [COUNT]]         the model's solvers against each other, and forms and converted sheets
 //!                                         against sheets, on tiny sheets; its readers of listings against each other
 //!
-//! compare faults [SEED [COUNT]]           that the comparison notices each wrong program of faults.rs
+//! compare faults [SEED [COUNT]]           that the comparison notices each wrong program of faults.rs and heavy.rs
 //! compare table-faults [SEED [COUNT]]     that `table` notices each wrong program of printers.rs, for tables
 //! compare house-faults [SEED [COUNT]]     that `house` notices each wrong program of printers.rs, for house forms
 //! compare convert-faults [SEED [COUNT]]   that `convert` notices each wrong program of printers.rs, for sheets
 //! compare judge-faults [SEED [COUNT]]     that `judge` notices each wrong program of verdicts.rs
+//! compare ring-faults [SEED [COUNT]]      that `ring` notices each wrong program of heavy.rs
 //! compare numbers-faults                  that `numbers` notices each wrong program of digits.rs
 //! compare count-faults [SEED [COUNT]]     that `count` notices each wrong program of leaps.rs
 //! compare table-standin [FAULT]           the model as a program that prints tables, or one of the wrong ones
 //! compare house-standin [FAULT]           the same for house forms
 //! compare convert-standin [FAULT]         the same for sheets without their `fix` rows
 //! compare judge-standin [FAULT]           the same for verdicts on the listing in the folder that it is started in
+//! compare ring-standin [FAULT]            the same for the heaviest sheets
 //!
 //! Build: rustc --edition 2021 -O -o compare main.rs -L native=DIR   (DIR has libopening.a and libtally.a)
 //!    or: rustc --edition 2021 -O -o compare main.rs --cfg standalone
@@ -38,18 +44,22 @@ mod converters;
 mod digits;
 mod faults;
 mod gen;
+mod heavy;
 mod house;
 mod judge;
 mod labels;
 mod leaps;
 mod lent;
 mod library;
+mod lines;
 mod long;
 mod model;
 mod printers;
 mod program;
 mod readers;
 mod retired;
+mod ring;
+mod ringers;
 mod rounds;
 mod sections;
 mod table;
@@ -73,6 +83,7 @@ use std::ops::Range;
 use std::path::Path;
 use std::process::exit;
 use table::TABLE;
+use tally::Counting;
 use verdicts::{Judging, JUDGE_FAULTS};
 
 const SEED: u64 = 1;
@@ -86,11 +97,14 @@ const LONG_FAULT_COUNT: u64 = 100;
 const FEW_ROUNDS: u32 = 300;
 
 const USAGE: &str = "usage: compare [SEED [COUNT]] | table PROGRAM [SEED [COUNT]] | house PROGRAM [SEED [COUNT]] | \
-    convert PROGRAM [SEED [COUNT]] | judge PROGRAM [SEED [COUNT]] | numbers | count [SEED [COUNT]] | \
-    count-files FILE.. | expected DIR | selftest [SEED [COUNT]] | faults [SEED [COUNT]] | \
+    convert PROGRAM [SEED [COUNT]] | judge PROGRAM [SEED [COUNT]] | ring PROGRAM [SEED [COUNT]] | numbers | \
+    count [SEED [COUNT]] | count-files FILE.. | expected DIR | selftest [SEED [COUNT]] | faults [SEED [COUNT]] | \
     table-faults [SEED [COUNT]] | house-faults [SEED [COUNT]] | convert-faults [SEED [COUNT]] | \
-    judge-faults [SEED [COUNT]] | numbers-faults | count-faults [SEED [COUNT]] | table-standin [FAULT] | \
-    house-standin [FAULT] | convert-standin [FAULT] | judge-standin [FAULT]";
+    judge-faults [SEED [COUNT]] | ring-faults [SEED [COUNT]] | numbers-faults | count-faults [SEED [COUNT]] | \
+    table-standin [FAULT] | house-standin [FAULT] | convert-standin [FAULT] | judge-standin [FAULT] | \
+    ring-standin [FAULT]";
+
+const NO_FAULT: &str = "this is no fault of printers.rs, verdicts.rs or heavy.rs";
 
 fn main() {
     let arguments: Vec<String> = std::env::args().skip(1).collect();
@@ -100,6 +114,7 @@ fn main() {
         ["house", program, ref numbers @ ..] => program::compare(&HOUSE, program, seeds(numbers, PROGRAM_COUNT)),
         ["convert", program, ref numbers @ ..] => program::compare(&CONVERT, program, seeds(numbers, PROGRAM_COUNT)),
         ["judge", program, ref numbers @ ..] => judge::compare(program, seeds(numbers, PROGRAM_COUNT)),
+        ["ring", program, ref numbers @ ..] => ring::compare(program, seeds(numbers, PROGRAM_COUNT)),
         ["numbers"] => compare_numbers(),
         ["count", ref numbers @ ..] => tally::compare(number(numbers, 0, SEED), number(numbers, 1, LONG_COUNT)),
         ["count-files", ref paths @ ..] if !paths.is_empty() => tally::compare_files(paths),
@@ -116,6 +131,7 @@ fn main() {
             notice_printers(&CONVERT, printers::convert_by_rows, &CONVERT_FAULTS, seeds(numbers, PROGRAM_COUNT))
         }
         ["judge-faults", ref numbers @ ..] => notice_judges(seeds(numbers, PROGRAM_COUNT)),
+        ["ring-faults", ref numbers @ ..] => notice_rings(seeds(numbers, PROGRAM_COUNT)),
         ["numbers-faults"] => notice("numbers-faults", &digits::RIGHT, &digits::FAULTS, digits::compare_all),
         ["count-faults", ref numbers @ ..] => {
             notice_count_faults(number(numbers, 0, SEED), number(numbers, 1, LONG_FAULT_COUNT))
@@ -128,6 +144,8 @@ fn main() {
         ["convert-standin", name] => standin(fault_named(&CONVERT_FAULTS, name)),
         ["judge-standin"] => judge_standin(verdicts::right),
         ["judge-standin", name] => judge_standin(fault_named(&JUDGE_FAULTS, name)),
+        ["ring-standin"] => standin(model::ring),
+        ["ring-standin", name] => standin(heavy::printer(name).unwrap_or_else(|| fail(2, NO_FAULT))),
         ref numbers => calls::compare(number(numbers, 0, SEED), number(numbers, 1, COUNT)),
     }
 }
@@ -195,9 +213,14 @@ fn pace(net: &Net) -> &'static str {
 /// Raising, searching and rounds agree on tiny sheets, and so do a sheet and its house form, and its forms and those of
 /// another typing; and so do other tiny sheets, by the former rules, and what they are converted to. Raising and rounds
 /// agree on other sheets of few rounds, and two readers of rows, of reactions and of labels on all of those. The two
-/// converters agree on sheets that are made for them, and the readers of listings on other sheets and listings.
+/// converters agree on sheets that are made for them, the readers of listings on other sheets and listings, and the
+/// writers of the heaviest sheets on lines; plain rounds of those are as many as was promised.
 fn selftest(seed: u64, cases: u64) {
     let mut counts = Counts::new();
+    if let Err(words) = selftest_ring_rounds() {
+        println!("{words}");
+        exit(1);
+    }
     for seed in seed..seed + cases {
         let sheet = gen::tiny_sheet(&mut Rng::new(seed));
         let net = model::read(&sheet).expect("a valid sheet");
@@ -214,8 +237,9 @@ fn selftest(seed: u64, cases: u64) {
             .map_err(|words| format!("{words}\nof {}", text_of(&former)));
         let others_alike = || selftest_rounds(&other).and_then(|_| selftest_reader(&other));
         let judged_alike = || selftest_judge(&sheet, seed).and_then(|_| selftest_judge(&other, seed));
-        let mut read_alike = || selftest_listings(&gen::files(&mut Rng::new(seed)), &mut counts);
         let all_alike = alike_otherwise.and(converted_alike).and_then(|_| others_alike()).and_then(|_| judged_alike());
+        let all_alike = all_alike.and_then(|_| selftest_ring(&lines::line(&mut Rng::new(seed)), &mut counts));
+        let mut read_alike = || selftest_listings(&gen::files(&mut Rng::new(seed)), &mut counts);
         if let Err(words) = all_alike.and_then(|_| read_alike()) {
             println!("{words}\n{}again: compare selftest {seed} 1", text_of(&sheet));
             exit(1);
@@ -226,8 +250,8 @@ fn selftest(seed: u64, cases: u64) {
     for (kind, count) in &counts {
         println!("{count:>8}  {kind}");
     }
-    let agree = "raising, searching and rounds agree, sheets, house forms and converted sheets too, and readers of as \
-        many listings";
+    let agree = "raising, searching and rounds agree, sheets, house forms and converted sheets too, readers of as \
+        many listings, and writers of the heaviest sheets on as many lines";
     println!("{cases} tiny sheets from seed {seed}: {agree}");
 }
 
@@ -330,6 +354,38 @@ fn selftest_listings(files: &Files, counts: &mut Counts) -> Result<(), String> {
     if back.as_ref() == Ok(&wide) { Ok(()) } else { Err(format!("printed {wide:?}\nread {back:?}\n{}", scene())) }
 }
 
+/// The model's writer, that of `ringers.rs` without a slip, and that of `long.rs`.
+fn selftest_ring(line: &[u8], counts: &mut Counts) -> Result<(), String> {
+    let (one, other) = (model::ring(line), ringers::ring_again(line));
+    let differ = |what: &str| Err(format!("{what}: {one:?}\nagain {other:?}\nfor a line of {}", program::told(line)));
+    if one != other {
+        return differ("two heaviest sheets");
+    }
+    let number = one.as_ref().map_or_else(|refusal| refusal.number, |_| 0);
+    count(counts, if number == 0 { "heaviest sheet".to_string() } else { format!("line refused {number:>2}") });
+    match one.as_ref().map(|sheet| (sheet, model::read(sheet))) {
+        Err(_) => Ok(()),
+        Ok((sheet, Ok(net))) if *sheet == long::heaviest(net.events.len(), net.horizon) => Ok(()),
+        Ok(_) => differ("not the heaviest sheet"),
+    }
+}
+
+/// For every n, plain rounds of the heaviest sheet: no table, and "exactly (n - 1) × H + 1 rounds, the most for n
+/// events, that H and no signal", the most being C × H + 1.
+fn selftest_ring_rounds() -> Result<(), String> {
+    for events in model::RING_LEAST as usize..=model::EVENTS_MOST as usize {
+        for horizon in [0, 1, 2, 60, 999, model::MINUTES_MOST] {
+            let net = model::read(model::ring_of(events, horizon).as_bytes()).expect("a sheet");
+            let (run, right) = (rounds::run(&net), model::ring_rounds(events, horizon));
+            let most = net.free_cells() as i64 * horizon + 1;
+            if (run.count, &run.table) != (right, &None) || i64::from(right) != most {
+                return Err(format!("{run:?} and not 13 with {right} rounds for {events},{horizon}"));
+            }
+        }
+    }
+    Ok(())
+}
+
 /// "The form reads back to the same good tables, and a second pass changes no byte"; points 1 and 2, the reactions and
 /// the labels have all that may differ. A procedure that differs in one reaction or one label has another form.
 fn selftest_house(sheet: &[u8], net: &Net, seed: u64) -> Result<(), String> {
@@ -386,7 +442,7 @@ fn all_compared(seeds: Range<u64>, compare_one: impl Fn(u64) -> Result<(), Strin
 }
 
 fn notice_faults(seeds: Range<u64>) {
-    notice("faults", &own::LIBRARY, &FAULTS, |library| {
+    notice("faults", &own::LIBRARY, &[&FAULTS[..], &heavy::faults()].concat(), |library| {
         all_compared(seeds.clone(), |seed| calls::compare_one(library, seed, &mut Counts::new()))
     });
 }
@@ -406,14 +462,23 @@ fn notice_judges(seeds: Range<u64>) {
     });
 }
 
+fn notice_rings(seeds: Range<u64>) {
+    notice("ring-faults", &heavy::RIGHT, &heavy::ring_faults(), |ringing| ring::compare_both(ringing, seeds.clone()));
+}
+
+/// The counters of `leaps.rs` by themselves, and some solvers of `heavy.rs` beside the right counters.
 fn notice_count_faults(seed: u64, sheets: u64) {
-    notice("count-faults", &own::TALLY, &COUNT_FAULTS, |tally| tally::compare_sheets(tally, seed, sheets).map(drop));
+    let counters = COUNT_FAULTS.map(|(name, tally)| (name, Counting { tally, solve: None }));
+    let solvers = heavy::SOLVERS.map(|(name, solve)| (name, Counting { tally: own::TALLY, solve: Some(solve) }));
+    let right = Counting { tally: own::TALLY, solve: Some(heavy::leaping) };
+    let faults = [&counters[..], &solvers].concat();
+    notice("count-faults", &right, &faults, |counting| tally::compare_sheets(counting, seed, sheets).map(drop));
 }
 
 fn fault_named<T: Copy>(faults: &[(&str, T)], name: &str) -> T {
     match faults.iter().find(|fault| fault.0 == name) {
         Some(fault) => fault.1,
-        None => fail(2, "this is no fault of printers.rs or verdicts.rs"),
+        None => fail(2, NO_FAULT),
     }
 }
 

@@ -12,6 +12,8 @@ pub const SHEET_MOST: usize = 4096;
 pub const MINUTES_MOST: i64 = 10_080;
 /// "n from 1 to 16".
 pub const EVENTS_MOST: i64 = 16;
+/// Of the heaviest sheet: "n from 2 to 16".
+pub const RING_LEAST: i64 = 2;
 /// "k from 0 to 4".
 pub const SIGNALS_MOST: i64 = 4;
 /// "m from 0 to 64".
@@ -230,6 +232,20 @@ impl Lines<'_> {
             return Err(self.refuse(3));
         }
         number(fields[1], least, most).map_err(|number| self.refuse(number))
+    }
+
+    /// A line `n,H`, "n from 2 to 16", refused "as a sheet of one line is": on it the lowest number over both fields
+    /// decides (refusals 3, 4 and 5).
+    fn size(&mut self) -> Result<(usize, i64), Refusal> {
+        let line = self.take()?;
+        let fields = fields(&self.sheet[line]);
+        if fields.len() != 2 {
+            return Err(self.refuse(3));
+        }
+        match (number(fields[0], RING_LEAST, EVENTS_MOST), number(fields[1], 0, MINUTES_MOST)) {
+            (Ok(events), Ok(horizon)) => Ok((events as usize, horizon)),
+            (events, horizon) => Err(self.refuse(lowest(&[events.err(), horizon.err()]).unwrap())),
+        }
     }
 
     /// "A section `reactions,r` .. may follow the rules, with lines `letter,minutes`"; "Any byte after the last rule
@@ -1199,4 +1215,34 @@ pub fn convert(sheet: &[u8]) -> Result<Vec<u8>, Refusal> {
 /// Whether two networks with equal events allow a case the same rows by points 1 and 2; for small networks only.
 pub fn same_lawful_rows(one: &Net, other: &Net) -> bool {
     (0..one.cases()).all(|case| lawful_rows(one, case) == lawful_rows(other, case))
+}
+
+// ---------------------------------------------------------------- The heaviest sheet
+
+/// Document 02, point 8: from one line `n,H`, "refused with 1 to 5 or 10 as a sheet of one line is", a sheet "without
+/// signals that takes exactly (n - 1) × H + 1 rounds".
+pub fn ring(line: &[u8]) -> Result<Vec<u8>, Refusal> {
+    if line.len() > SHEET_MOST {
+        return Err(Refusal { number: 1, line: 0 });
+    }
+    let mut lines = Lines { sheet: line, at: 0, number: 0 };
+    let (events, horizon) = lines.size()?;
+    lines.end()?;
+    Ok(ring_of(events, horizon).into_bytes())
+}
+
+/// "Its events are a, b, c and so on; its rules are `min` rows labelled `-`, of 0 from b on to each next event, then of
+/// 1 from the last back to b."
+pub fn ring_of(events: usize, horizon: i64) -> String {
+    let name = |event: usize| char::from(b'a' + event as u8);
+    let mut text = format!("horizon,{horizon}\nevents,{events}\n");
+    (0..events).for_each(|event| text += &format!("{}\n", name(event)));
+    text += &format!("signals,0\nrules,{}\n", events - 1);
+    (1..events - 1).for_each(|event| text += &format!("min,{},{},0,-\n", name(event), name(event + 1)));
+    text + &format!("min,{},b,1,-\n", name(events - 1))
+}
+
+/// "exactly (n - 1) × H + 1 rounds, the most for n events, that H and no signal".
+pub fn ring_rounds(events: usize, horizon: i64) -> u32 {
+    (events as u32 - 1) * horizon as u32 + 1
 }

@@ -33,8 +33,13 @@ pub fn printed(outcome: Result<Vec<u8>, Refusal>) -> Vec<u8> {
 
 /// Compares a program, given by its path and its arguments with spaces between, on the sheets of some seeds.
 pub fn compare(mode: &Mode, command: &str, seeds: Range<u64>) {
+    with_program(command, |program| all_compared(mode, command, seeds, program));
+}
+
+/// Prints what comes of a comparison of such a program.
+pub fn with_program(command: &str, compared: impl FnOnce(Program) -> Result<String, String>) {
     let words: Vec<&str> = command.split_whitespace().collect();
-    end(all_compared(mode, command, seeds, &|sheet| run(&words, sheet)));
+    end(compared(&|sheet| run(&words, sheet)));
 }
 
 /// What was compared, or what differs, or the kind that is missing.

@@ -3,17 +3,19 @@
 //! rustc --edition 2021 -O -C panic=abort --cfg standalone --crate-type staticlib -o DIR/libopening.a standin.rs
 //! cp DIR/libopening.a DIR/libtally.a
 //!
-//! With FAULT=name in the environment it is one of the wrong programs of `faults.rs` or of `leaps.rs` instead.
+//! With FAULT=name in the environment it is one of the wrong programs of `faults.rs`, `heavy.rs` or `leaps.rs` instead.
 #![allow(dead_code)]
 
 mod converters;
 mod faults;
+mod heavy;
 mod labels;
 mod leaps;
 mod library;
 mod model;
 mod readers;
 mod retired;
+mod ringers;
 mod rounds;
 mod sections;
 
@@ -22,13 +24,14 @@ use std::slice::{from_raw_parts, from_raw_parts_mut};
 /// The fault of this list that the environment names, if any.
 fn fault<T: Copy>(faults: &[(&str, T)]) -> Option<T> {
     let name = std::env::var("FAULT").ok()?;
-    let known = faults::FAULTS.iter().any(|fault| fault.0 == name) || leaps::COUNT_FAULTS.iter().any(|fault| fault.0 == name);
-    assert!(known, "FAULT is no fault of faults.rs or leaps.rs");
+    let known = |list: &[(&str, library::Library)]| list.iter().any(|fault| fault.0 == name);
+    let known = known(&faults::FAULTS) || known(&heavy::faults());
+    assert!(known || leaps::COUNT_FAULTS.iter().any(|fault| fault.0 == name), "FAULT is no fault of ours");
     faults.iter().find(|fault| fault.0 == name).map(|fault| fault.1)
 }
 
 fn chosen() -> library::Library {
-    fault(&faults::FAULTS).unwrap_or(library::LIBRARY)
+    fault(&faults::FAULTS).or_else(|| fault(&heavy::faults())).unwrap_or(library::LIBRARY)
 }
 
 fn chosen_tally() -> library::Tally {
@@ -90,6 +93,13 @@ pub unsafe extern "C" fn opening_read_listing(
 #[no_mangle]
 pub unsafe extern "C" fn opening_convert(sheet: *const u8, sheet_len: usize, out: *mut u8, out_len: usize) -> u64 {
     (chosen().convert)(from_raw_parts(sheet, sheet_len), from_raw_parts_mut(out, out_len))
+}
+
+/// # Safety
+/// The slices are valid, and the last does not overlap the first.
+#[no_mangle]
+pub unsafe extern "C" fn opening_ring(line: *const u8, line_len: usize, out: *mut u8, out_len: usize) -> u64 {
+    (chosen().ring)(from_raw_parts(line, line_len), from_raw_parts_mut(out, out_len))
 }
 
 /// # Safety

@@ -1,16 +1,26 @@
-//! The modes `count` and `count-files`: the count of rounds (02, point 8) and the table by a run that passes over rounds, by plain rounds, and
-//! by the model.
+//! The modes `count` and `count-files`: the count of rounds (02, point 8) and the table by a run that passes over
+//! rounds, by plain rounds, by the solver's C call, and by the model.
 
 use crate::gen::Rng;
 use crate::lent::lend_text;
-use crate::library::{Tally, TALLY};
+use crate::library::own::{refused, refused_call, with_rounds, write};
+use crate::library::{Tally, LIBRARY, TALLY};
 use crate::model::Refusal;
-use crate::rounds::{self, NO_TABLE};
+use crate::rounds::{self, Run, NO_TABLE};
 use crate::{fail, long, model, text_of};
 use std::process::exit;
 
 /// With fewer sheets than these it is not asked how many leapt.
 const ENOUGH: u64 = 100;
+
+/// What counts: the three calls, and the solver's if it is asked too.
+#[derive(Clone, Copy)]
+pub struct Counting {
+    pub tally: Tally,
+    pub solve: Option<fn(sheet: &[u8], table: &mut [u8]) -> u64>,
+}
+
+const COUNTING: Counting = Counting { tally: TALLY, solve: Some(LIBRARY.solve) };
 
 /// What was compared.
 #[derive(Default)]
@@ -38,10 +48,10 @@ struct Counted {
     labelled: bool,
 }
 
-/// Compares on request 8's rings and on generated sheets.
+/// Compares on the heaviest sheets and on generated ones.
 pub fn compare(seed: u64, sheets: u64) {
-    let rings = compare_rings(&TALLY).unwrap_or_else(|words| differs(&words));
-    match compare_sheets(&TALLY, seed, sheets) {
+    let rings = compare_rings(&COUNTING).unwrap_or_else(|words| differs(&words));
+    match compare_sheets(&COUNTING, seed, sheets) {
         Ok(seen) => println!("{}; {rings} rings of (n - 1) * H + 1 rounds: no difference", seen.words()),
         Err((_, words)) => differs(&words),
     }
@@ -56,7 +66,7 @@ fn differs(words: &str) -> ! {
 pub fn compare_files(paths: &[&str]) {
     for path in paths {
         let sheet = std::fs::read(path).unwrap_or_else(|error| fail(2, &format!("{path}: {error}")));
-        match check(&TALLY, &sheet) {
+        match check(&COUNTING, &sheet) {
             Err(words) => differs(&format!("{path}\n{words}")),
             Ok(Err(refusal)) => println!("{path} refused {} line {}", refusal.number, refusal.line),
             Ok(Ok(Counted { count, turns, has_table, .. })) => {
@@ -66,14 +76,14 @@ pub fn compare_files(paths: &[&str]) {
     }
 }
 
-/// Request 8: the ring "takes exactly (n - 1) × H + 1 rounds". Gives the number of rings.
-fn compare_rings(tally: &Tally) -> Result<u64, String> {
+/// The heaviest sheet "takes exactly (n - 1) × H + 1 rounds". Gives the number of rings.
+fn compare_rings(counting: &Counting) -> Result<u64, String> {
     let mut rings = 0;
     for events in 2..=16 {
         for horizon in [0, 1, 7, 60, 10_080] {
-            let sheet = long::request_8(events, horizon);
+            let sheet = long::heaviest(events, horizon);
             let right = (events as u32 - 1) * horizon as u32 + 1;
-            match check(tally, &sheet)? {
+            match check(counting, &sheet)? {
                 Ok(Counted { count, has_table: false, .. }) if count == right => rings += 1,
                 _ => return Err(format!("the ring does not take {right} rounds to refusal 13\n{}", text_of(&sheet))),
             }
@@ -83,11 +93,12 @@ fn compare_rings(tally: &Tally) -> Result<u64, String> {
 }
 
 /// The sheets of so many seeds; or the place of the first difference among them, from 1, and what it is.
-pub fn compare_sheets(tally: &Tally, seed: u64, sheets: u64) -> Result<Seen, (u64, String)> {
+pub fn compare_sheets(counting: &Counting, seed: u64, sheets: u64) -> Result<Seen, (u64, String)> {
     let mut seen = Seen::default();
     for seed in seed..seed + sheets {
         seen.sheets += 1;
-        let checked = check(tally, &long::sheet(seed)).map_err(|words| (seen.sheets, format!("{words}again: compare count {seed} 1")))?;
+        let again = |words| (seen.sheets, format!("{words}again: compare count {seed} 1"));
+        let checked = check(counting, &long::sheet(seed)).map_err(again)?;
         match checked {
             Err(_) => seen.refused += 1,
             Ok(counted) => seen.add(&counted),
@@ -128,12 +139,13 @@ impl Seen {
     }
 }
 
-/// The three answers for one sheet. A refused sheet makes no round, another at least one and no more than are counted.
-fn check(tally: &Tally, sheet: &[u8]) -> Result<Result<Counted, Refusal>, String> {
+/// The answers for one sheet. A refused sheet makes no round, another at least one and no more than are counted.
+fn check(Counting { tally, solve }: &Counting, sheet: &[u8]) -> Result<Result<Counted, Refusal>, String> {
     let lent = lend_text(&mut Rng::new(sheet.len() as u64), sheet);
     let kept = lent.clone();
     let reading = model::read(sheet);
-    let right = rounds::answer_of(&reading);
+    let run = reading.as_ref().map(rounds::run);
+    let right = reading.as_ref().ok().zip(run.as_ref().ok()).map_or(0, |(net, run)| rounds::answer(net, run));
     let (leaping, plain, turns) = ((tally.leaping)(lent.slice()), (tally.plain)(lent.slice()), (tally.turns)(lent.slice()));
     let count = right as u32;
     let fault = match (leaping == right, plain == right) {
@@ -141,6 +153,9 @@ fn check(tally: &Tally, sheet: &[u8]) -> Result<Result<Counted, Refusal>, String
         (_, false) => format!("by plain rounds {}, and not {}", words_of(plain), words_of(right)),
         _ if (turns == 0) != (count == 0) || turns > u64::from(count) => format!("{turns} rounds one by one of {count}"),
         _ if lent.is(&kept).is_err() => "the sheet was altered".to_string(),
+        _ if solve.is_some_and(|solve| !solved(solve, sheet, &run)) => {
+            format!("the solver's answer or its table is not that of {}", words_of(right))
+        }
         _ => {
             let has_table = (right >> 32) as u32 != NO_TABLE;
             let counted = |net: model::Net| (net.is_slow(), net.is_labelled());
@@ -149,6 +164,17 @@ fn check(tally: &Tally, sheet: &[u8]) -> Result<Result<Counted, Refusal>, String
         }
     };
     Err(format!("{fault}\nsheet of {} bytes\n{}", sheet.len(), text_of(sheet)))
+}
+
+/// The C call writes this run's table, or answers 13, with its count of rounds; or it gives the sheet's refusal.
+fn solved(solve: fn(&[u8], &mut [u8]) -> u64, sheet: &[u8], run: &Result<Run, &Refusal>) -> bool {
+    let (mut right, mut table) = ([b'?'; 512], [b'?'; 512]);
+    let answer = match run {
+        Err(refusal) => refused(**refusal),
+        Ok(Run { count, table: None }) => with_rounds(refused_call(13), *count),
+        Ok(Run { count, table: Some(minutes) }) => with_rounds(write(minutes, &mut right), *count),
+    };
+    solve(sheet, &mut table) == answer && table == right
 }
 
 fn words_of(answer: u64) -> String {

@@ -28,8 +28,7 @@ use Rattle.calls.proofs.Alike.{playing-alike}
 use Rattle.calls.proofs.Play.{lettered}
 use Rattle.calls.proofs.Playing.{playing}
 use Rattle.calls.proofs.Header.{header-judge, header-solver, header-lister, header-house, header-player}
-use Rattle.calls.proofs.Header.{header-converter}
-use Rattle.calls.proofs.Header.{header-recoverer}
+use Rattle.calls.proofs.Header.{header-converter, header-recoverer, header-ring}
 
 module _ (sheet : List ℕ) (a : Accepts sheet) (b : List ℕ) where
   abbrev net : Network
@@ -75,5 +74,6 @@ benched = record {
   recoverer_holds = header-recoverer;
   house_holds = header-house;
   converter_holds = header-converter;
+  ring_holds = header-ring;
   player_holds = header-player;
 }

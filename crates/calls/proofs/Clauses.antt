@@ -10,19 +10,21 @@ use Rattle.sheet.specs.Reading.{network_of}
 use Rattle.dispatch.specs.HeardText.{is_heard_lem, heard_in}
 use Rattle.calls.specs.Values.{Values, number_values}
 use Rattle.calls.specs.Lent.{Handed, Lent, in_place_lem}
-use Rattle.calls.specs.Calls.{judging, solving_into, listing_of, housed, converting}
+use Rattle.calls.specs.Calls.{judging, solving_into, listing_of, housed, converting, ringing}
+use Rattle.calls.specs.Counting.{rounds_made}
 use Rattle.calls.specs.Recover.{recovering_into}
 use Rattle.calls.specs.Bench.{Finding, no_finding, judgement_values, bench_due}
 use Rattle.calls.specs.Answers.{Answers, AnswersInto}
 use Rattle.calls.specs.Numbers.{bytes, judges, solves, lists, houses, recovers}
 use Rattle.calls.specs.Numbers.{plays, misnamed_in, unheard_by}
 use Rattle.calls.specs.Judges.{Passes, Breaches}
-use Rattle.calls.specs.Solves.{RefusesNone, WritesLeast}
+use Rattle.calls.specs.Solves.{RefusesNone, WritesLeast, CountsRounds}
 use Rattle.calls.specs.Lists.{WritesListing}
 use Rattle.calls.specs.ReadingBack.{ReadsBack}
 use Rattle.calls.specs.Playing.{TellsRow}
 use Rattle.calls.specs.Housing.{WritesForm}
 use Rattle.calls.specs.Converting.{AnswersFormer, WritesConverted}
+use Rattle.calls.specs.Ringing.{AnswersRing, WritesHeaviest}
 use Rattle.calls.proofs.Handed.{Rightly}
 use Rattle.calls.proofs.Judging.{judge-answers, judge_passes, judge-breaches}
 use Rattle.calls.proofs.Solving.{solver_writes}
@@ -31,6 +33,7 @@ use Rattle.calls.proofs.Recovering.{recoverer-writes}
 use Rattle.calls.proofs.ReadingBack.{reading_back}
 use Rattle.calls.proofs.Housing.{housing}
 use Rattle.calls.proofs.Converting.{conversions}
+use Rattle.calls.proofs.Ringing.{ringings}
 use Rattle.calls.proofs.Numbers.{numbers}
 use Rattle.calls.proofs.Benched.{benched}
 use Rattle.calls.proofs.Demands.{demands}
@@ -63,18 +66,20 @@ module _ (sheet : List ℕ) where
           lists = λ Γ r. rw (← r.network) (λ h. listing-wrote sheet t right m r.accepted rightly h);
         })
 
-  pub solve-clauses : (m : Lent) (v : Values ℕ) (x : List ℕ)
-      → v ≡ number_values (solving_into sheet m).answer → x ≡ (solving_into sheet m).memory
+  pub solve-clauses : (m : Lent) (v : Values ℕ) (k : ℕ) (x : List ℕ)
+      → v ≡ number_values (solving_into sheet m).answer → k ≡ rounds_made sheet m → x ≡ (solving_into sheet m).memory
       → record {
         refusals : AnswersInto sheet (solves m.room) m.before v x;
         none : RefusesNone sheet m v;
         least : WritesLeast sheet m v x;
+        rounds : CountsRounds sheet m v k;
       }
-  solve-clauses m v x e f =
-      rw (e, f) (record {
+  solve-clauses m v k x e g f =
+      rw (e, g, f) (record {
         refusals = solver_writes sheet m;
         none = demands.refused sheet m;
         least = demands.solved sheet m;
+        rounds = demands.rounds sheet m;
       })
 
   pub recover-clauses : (printed : List ℕ) (m : Lent) (v : Values ℕ) (x : List ℕ)
@@ -107,6 +112,16 @@ module _ (sheet : List ℕ) where
           refusals = conversions.answers sheet m;
           converted = conversions.writes sheet m;
         })
+
+  -- of a line
+  pub ring-clauses : (m : List ℕ) (v : Values ℕ) (x : List ℕ)
+      → v ≡ number_values (ringing sheet m).answer → x ≡ (ringing sheet m).memory
+      → record {
+        refusals : AnswersRing sheet m v x;
+        heaviest : WritesHeaviest sheet (in_place_lem m) v x;
+      }
+  ring-clauses m v x e f =
+      rw (e, f) (record { refusals = ringings.answers sheet m; heaviest = ringings.writes sheet m })
 
   -- a table of bytes is played, for those who have heard a text
   pub play-clauses : (b : List ℕ) (m : ℕ) (text : List ℕ) (v : Values ℕ)

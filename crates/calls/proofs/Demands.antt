@@ -17,6 +17,7 @@ use Rattle.calls.proofs.Call.{reads_well_formed}
 use Rattle.calls.proofs.Handed.{minutes_rightly}
 use Rattle.calls.proofs.Judging.{judge_passes, judge-breaches}
 use Rattle.calls.proofs.Reader.{summary_ok, summary_err, summary_counts}
+use Rattle.calls.proofs.Counting.{counts_rounds}
 use Rattle.calls.proofs.Solving.{refuses_13, solves-least}
 use Rattle.calls.proofs.Writing.{wrote_into, listing-wrote}
 use Rattle.calls.proofs.Numbers.{numbers}
@@ -59,6 +60,7 @@ demands = record {
   refused = λ sheet m Γ r. rw (← r.network) (refuses_13 sheet m r.accepted);
   solved = λ sheet m Γ r. rw (← r.network)
       (λ room n. let s = solves-least sheet m r.accepted room n in (s.0, s.1, wrote_into m s.0 (sym s.2)));
+  rounds = counts_rounds;
   lists = λ sheet t m Γ r. rw (← r.network)
       (λ e. listing-wrote sheet (as_minutes t) (minutes t) m r.accepted (minutes_rightly t (network_of sheet)) e);
   bench = benched;

@@ -19,7 +19,7 @@ use Rattle.sheet.proofs.WellFormed.{accepts}
 use Rattle.sheet.proofs.Fault.{refused_iff}
 use Rattle.conversion.proofs.Length.{length-read_as_max}
 use Rattle.calls.specs.Values.{turned_away}
-use Rattle.calls.specs.Table.{refused_text, table_text, form_text, converted_text, judge_text}
+use Rattle.calls.specs.Table.{refused_text, table_text, form_text, converted_text, heaviest_text, judge_text}
 use Rattle.calls.proofs.Printing.{printing}
 
 -- what is read of a text that may be longer
@@ -54,6 +54,9 @@ pub converted_first : (s : List ℕ) → converted_text (first s) ≡ converted_
 converted_first =
     told_by_first converted_text refused
     (λ s h. (printing.convert s).refused too_long (inl (omega (arith, length-read_as_max s), refl)))
+
+pub heaviest_first : (s : List ℕ) → heaviest_text (first s) ≡ heaviest_text s
+heaviest_first = told_by_first heaviest_text refused (λ s h. (printing.ring s).refused too_long (inl (h, refl)))
 
 -- of a listing: the sheet's own refusal comes first, and 18 with line 1 before anything else
 listing_first : (s p : List ℕ) → judge_text s (first p) ≡ judge_text s p

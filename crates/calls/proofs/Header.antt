@@ -1,5 +1,5 @@
 -- What the header's functions shift out of an answer is what was packed: each value fits its bytes. Assumes nothing.
-use mathlib.Core.Path.{◌≡◌, refl}
+use mathlib.Core.Path.{◌≡◌, refl, ap}
 use mathlib.Core.Logic.{◌⊎◌, inl, inr}
 use mathlib.Core.Bool.{Bool, true, ◌&&◌}
 use mathlib.Core.List.{List, [], ◌∷◌}
@@ -7,9 +7,12 @@ use Prim.Native.Nat.{ℕ, ◌<◌}
 use native.Mathlib.Omega.{arith}
 use borrow.Author.Tests.{ltb-true}
 use lib.Dec.{ltb}
+use lib.ListN.{length}
 use Rattle.std.specs.Prelude.{Ok, Err}
 use Rattle.prelude.proofs.Tests.{and-true}
 use Rattle.pairs.specs.Pairs.{minutes_of, Short}
+use Rattle.refusal.specs.declared.Refusal.{Refusal}
+use Rattle.network.specs.declared.Network.{Network}
 use Rattle.sheet.specs.Reading.{network_of}
 use Rattle.sheet.proofs.WellFormed.{accepted_well_formed}
 use Rattle.checker.specs.declared.Verdict.{Verdict}
@@ -18,18 +21,23 @@ use Rattle.dispatch.specs.HeardText.{heard_in, due_text}
 use Rattle.conversion.specs.FormerRules.{read_as_max_lem}
 use Rattle.calls.specs.Values.{OrRefusal, Values, number_values}
 use Rattle.calls.specs.Lent.{as_bytes, in_pairs}
-use Rattle.calls.specs.Calls.{judging_tests, housed, converting}
-use Rattle.calls.specs.Bench.{bench_judgement, bench_solving, bench_listed, bench_due, bench_recovering}
+use Rattle.calls.specs.Calls.{judging_tests, housed, converting, ringing}
+use Rattle.calls.specs.Counting.{solved_values, rounds_of, rounds_made}
+use Rattle.calls.specs.Bench.{bench_judgement, bench_solving, bench_counting, bench_listed, bench_due}
+use Rattle.calls.specs.Bench.{bench_recovering}
 use Rattle.calls.specs.Bench.{Finding, finding, no_finding}
-use Rattle.calls.specs.Bench.{judgement_values, refused, packed, Small, packed_count_lem}
-use Rattle.calls.specs.Answers.{OfSheet, Own, OneOf, Answers}
+use Rattle.calls.specs.Bench.{judgement_values, refused, packed, Small, packed_count_lem, packed_rounds_lem}
+use Rattle.calls.specs.Answers.{OfSheet, Own, OneOf, AnswersBy, Answers}
 use Rattle.calls.specs.Numbers.{bytes, judges, solves, lists, houses, converts, recovers, plays}
 use Rattle.calls.specs.Numbers.{misnamed_in, unheard_by}
-use Rattle.calls.specs.Header.{JudgeHolds, CountHolds}
+use Rattle.calls.specs.Ringing.{rings}
+use Rattle.calls.specs.Header.{opening_number, opening_line, JudgeHolds, CountHolds, SolverHolds}
 use Rattle.calls.proofs.Call.{Ends, faulty, failed, worked, ends}
 use Rattle.calls.proofs.Small.{verdict_small, solving_small, listing_small, house_small, playing_small}
 use Rattle.calls.proofs.Small.{recovering_small, converting_small, text_small}
+use Rattle.calls.proofs.Counting.{answer-counted, rounds-counted, made_few}
 use Rattle.calls.proofs.Numbers.{numbers}
+use Rattle.calls.proofs.Ringing.{ring-answers, ringing_small}
 
 -- the numbers of a call's own refusals fit a byte
 abbrev are_few : List Own → Bool
@@ -41,8 +49,8 @@ one_few [] n f m = absurd m
 one_few (o ∷ os) n f (inl e) = omega (arith, ltb-true o.number 256 (and-true (ltb o.number 256) (are_few os) f).0)
 one_few (o ∷ os) n f (inr m) = one_few os n (and-true (ltb o.number 256) (are_few os) f).1 m
 
-module _ {A : Type 0} {nothing : A} (sheet : List ℕ) (own : List Own) (v : Values A) (few : are_few own ≡ true)
-    (a : Answers sheet own nothing v) where
+module _ {A : Type 0} {nothing : A} {Faulty : Refusal → Type 0} {ReadAs : Network → Type 0} (own : List Own)
+    (v : Values A) (few : are_few own ≡ true) (a : AnswersBy Faulty ReadAs own nothing v) where
   number-few : v.number < 256
   number-few = by_number a.numbers
     where
@@ -73,16 +81,28 @@ judge_holds v s = record {
   rest = omega (arith, s.number, s.line, s.word, s.first, s.second, s.third);
 }
 
-count-holds : (sheet : List ℕ) (own : List Own) (v : Values ℕ) → are_few own ≡ true
-    → Answers sheet own 0 v → v.value < 65536 → CountHolds (packed_count_lem v) v
-count-holds sheet own v few a c =
-    let n = number-few sheet own v few a in
-    let l = line-few sheet own v few a in
+count-holds : {Faulty : Refusal → Type 0} {ReadAs : Network → Type 0} (own : List Own) (v : Values ℕ)
+    → are_few own ≡ true → AnswersBy Faulty ReadAs own 0 v → v.value < 65536 → CountHolds (packed_count_lem v) v
+count-holds own v few a c =
+    let n = number-few own v few a in
+    let l = line-few own v few a in
     record {
       values = values_are v _ _ _ (omega arith) (omega arith) (omega arith);
       bytes = omega arith;
       events = omega arith;
       rest = omega arith;
+    }
+
+-- a count of rounds stands above what holds the rest
+rounds-hold : (v : Values ℕ) (k : ℕ) → CountHolds (packed_count_lem v) v → k < 16777216
+    → SolverHolds (packed_rounds_lem v k) v k
+rounds-hold v k h few =
+    let low : packed_count_lem v < 1099511627776 = omega (arith, h.rest) in
+    let number : opening_number (packed_count_lem v) ≡ v.number = ap (λ (x : Values ℕ). x.number) h.values in
+    let line : opening_line (packed_count_lem v) ≡ v.line = ap (λ (x : Values ℕ). x.line) h.values in
+    record {
+      values = values_are v _ _ _ (omega (arith, low, number)) (omega (arith, low, line)) (omega (arith, low, h.bytes));
+      rounds = omega (arith, low, few);
     }
 
 module _ (sheet b : List ℕ) where
@@ -95,8 +115,8 @@ module _ (sheet b : List ℕ) where
       rw (← e)
       (omega (
         arith,
-        number-few sheet (judges (bytes b)) (refused r) refl a,
-        line-few sheet (judges (bytes b)) (refused r) refl a,
+        number-few (judges (bytes b)) (refused r) refl a,
+        line-few (judges (bytes b)) (refused r) refl a,
       ))
 
   pub header-judge : let v = judgement_values (bench_judgement sheet b) in JudgeHolds (packed v) v
@@ -110,15 +130,24 @@ module _ (sheet b : List ℕ) where
       by_end (worked p h e) =
           rw (← e) (verdict_small (network_of sheet) (minutes_of b) (accepted_well_formed sheet p).0)
 
-  pub header-solver : let v = number_values (bench_solving sheet b).answer in CountHolds (packed_count_lem v) v
-  header-solver =
-      count-holds sheet (solves _) (number_values (bench_solving sheet b).answer) refl
+  -- the solver's answer without its count
+  pub solver_count : let v = number_values (bench_solving sheet b).answer in CountHolds (packed_count_lem v) v
+  solver_count =
+      count-holds (solves _) (number_values (bench_solving sheet b).answer) refl
       (numbers.bench_solver sheet b).answers (solving_small sheet (in_pairs b))
+
+  pub header-solver : let r = (bench_counting sheet b).answer in
+      SolverHolds (packed_rounds_lem (solved_values r) (rounds_of r)) (solved_values r) (rounds_of r)
+  header-solver =
+      let a = (bench_solving sheet b).answer in
+      let k = rounds_made sheet (in_pairs b) in
+      rw (answer-counted k a, rounds-counted k a)
+      (rounds-hold (number_values a) k solver_count (made_few sheet (in_pairs b)))
 
   pub header-lister : (m : List ℕ) → Short (minutes_of b)
       → let v = number_values (bench_listed sheet b m).answer in CountHolds (packed_count_lem v) v
   header-lister m times =
-      count-holds sheet (lists (bytes b) sheet (minutes_of b) m) (number_values (bench_listed sheet b m).answer)
+      count-holds (lists (bytes b) sheet (minutes_of b) m) (number_values (bench_listed sheet b m).answer)
       refl
       (numbers.bench_lister sheet b m).answers (listing_small sheet (as_bytes b) m (λ _ _. times))
 
@@ -126,7 +155,7 @@ module _ (sheet b : List ℕ) where
       → let v = number_values (bench_due sheet b m text) in CountHolds (packed_count_lem v) v
   unfolding bench_due
   header-player m text =
-      count-holds sheet (plays (bytes b) (minutes_of b) (misnamed_in text) (unheard_by (minutes_of b) m
+      count-holds (plays (bytes b) (minutes_of b) (misnamed_in text) (unheard_by (minutes_of b) m
       (heard_in text)))
       (number_values (bench_due sheet b m text)) refl (numbers.bench_player sheet b m text)
       (playing_small sheet (as_bytes b) (λ Γ. due_text Γ (minutes_of b) m text)
@@ -135,17 +164,22 @@ module _ (sheet b : List ℕ) where
 pub header-recoverer : (sheet bytes b : List ℕ)
     → let v = number_values (bench_recovering sheet bytes b).answer in CountHolds (packed_count_lem v) v
 header-recoverer sheet bytes b =
-    count-holds sheet (recovers sheet bytes _) (number_values (bench_recovering sheet bytes b).answer) refl
+    count-holds (recovers sheet bytes _) (number_values (bench_recovering sheet bytes b).answer) refl
     (numbers.bench_recoverer sheet bytes b).answers (recovering_small sheet bytes (in_pairs b))
 
 pub header-house : (sheet m : List ℕ)
     → let v = number_values (housed sheet m).answer in CountHolds (packed_count_lem v) v
 header-house sheet m =
-    count-holds sheet (houses sheet m) (number_values (housed sheet m).answer) refl
+    count-holds (houses sheet m) (number_values (housed sheet m).answer) refl
     (numbers.house_writer sheet m).answers (house_small sheet m)
 
 pub header-converter : (sheet m : List ℕ)
     → let v = number_values (converting sheet m).answer in CountHolds (packed_count_lem v) v
 header-converter sheet m =
-    count-holds (read_as_max_lem sheet) (converts sheet m) (number_values (converting sheet m).answer) refl
+    count-holds (converts sheet m) (number_values (converting sheet m).answer) refl
     (numbers.converter sheet m).answers (converting_small sheet m)
+
+pub header-ring : (line m : List ℕ) → let v = number_values (ringing line m).answer in CountHolds (packed_count_lem v) v
+header-ring line m =
+    count-holds (rings (length m)) (number_values (ringing line m).answer) refl (ring-answers line m).answers
+    (ringing_small line m)

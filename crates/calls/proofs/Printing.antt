@@ -29,10 +29,15 @@ use Rattle.conversion.proofs.Alongside.{former_fault_iff}
 use Rattle.conversion.proofs.FormerLayout.{former_iff}
 use Rattle.conversion.proofs.Accepted.{converted-short}
 use Rattle.canonical.proofs.Again.{form-short}
+use Rattle.heaviest.specs.RingText.{ring_text}
+use Rattle.heaviest.specs.Heaviest.{Heaviest}
+use Rattle.heaviest.proofs.Heaviest.{ring_heaviest}
+use Rattle.heaviest.proofs.Length.{length-ring}
+use Rattle.heaviest.proofs.Exactly.{refused_iff as line_refused_iff}
 use Rattle.calls.specs.Values.{OrRefusal, turned_away, refused_as}
 use Rattle.calls.specs.Call.{Left}
 use Rattle.calls.specs.Lent.{as_minutes, in_place_lem}
-use Rattle.calls.specs.Calls.{solving, listed, housed, converting}
+use Rattle.calls.specs.Calls.{solving, listed, housed, converting, ringing}
 use Rattle.calls.specs.Recover.{recovering}
 use Rattle.calls.specs.Bench.{breach_values}
 use Rattle.calls.specs.Table.{refused_text, verdict_text, listing_on, table_on_lem, form_on, converted_on}
@@ -45,6 +50,7 @@ use Rattle.calls.specs.Converting.{FormerReads, ConvertedTo}
 use Rattle.calls.specs.Printing.{Printing}
 use Rattle.calls.proofs.Housing.{house_form}
 use Rattle.calls.proofs.Converting.{counts_former, converted_to}
+use Rattle.calls.proofs.Ringing.{ring-refused, ring-text-wrote}
 use Rattle.calls.proofs.Judging.{judge-breaches}
 use Rattle.calls.proofs.Handed.{cells-few, minutes_rightly}
 use Rattle.calls.proofs.Writing.{wrote, listing-wrote, house-wrote, converter-wrote, converter-many}
@@ -176,6 +182,17 @@ printing = record {
     many = λ Γ r m.
         many-on sheet ((former_iff sheet).1 r.layout) (page longest) (omega (arith, m, (counts_former r).0));
     converted = printed-converted sheet;
+  };
+  ring = λ line. record {
+    refused = λ r f.
+        refused-on (ringing line (page longest)) r (λ t. t)
+        (ap (λ (l : Left (OrRefusal ℕ)). l.answer) (sym (ring-refused line (page longest) r ((line_refused_iff line r).1 f))));
+    ring = λ n h a.
+        subst (Heaviest n h)
+        (sym (wrote_on (ringing line (page longest)) (ring_text n h) (page longest) (λ t. t)
+        (ring-text-wrote line (page longest) n h a
+        (omega (arith, length-ring n h a.some a.few a.horizon, bytes-lent longest)))))
+        (ring_heaviest n h a.some a.few a.horizon);
   };
   judge = λ sheet printed. record {
     refused = λ r f. judge-refused sheet r f printed;

@@ -8,10 +8,8 @@ use Rattle.prelude.proofs.Tests.{zero-is-one}
 use Rattle.refusal.specs.declared.Refusal.{Refusal}
 use Rattle.network.specs.declared.Network.{Network}
 use Rattle.sheet.specs.Reading.{read, network_of}
-use Rattle.sheet.specs.Fault.{Fault}
 use Rattle.sheet.proofs.Fault.{refused_iff}
 use Rattle.sheet.proofs.WellFormed.{accepts}
-use Rattle.layout.specs.Layout.{Layout}
 use Rattle.layout.proofs.Accepted.{accepted_iff, network-contains}
 use Rattle.calls.specs.Values.{OrRefusal}
 use Rattle.calls.specs.Calls.{counts_of, summary}

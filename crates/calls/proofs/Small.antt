@@ -52,7 +52,7 @@ use Rattle.calls.proofs.Handed.{cells-few}
 use Rattle.calls.proofs.Fit.{fit-few}
 use Rattle.calls.proofs.Solving.{rests-true}
 
-scenarios_few : {Γ : Network} → WellFormed Γ → scenarios Γ ≤ 16
+pub scenarios_few : {Γ : Network} → WellFormed Γ → scenarios Γ ≤ 16
 scenarios_few {Γ} w = pow_mono {i = Γ.signals} {j = 4} w.signals
 
 module _ (Γ : Network) (σ : List ℕ) (w : WellFormed Γ) where

@@ -71,7 +71,7 @@ module _ (sheet : List ℕ) (m : Lent) where
           sym (call_fails (refusing m) sheet (solving_tests m) work (network_of sheet) a (without_line_lem Inconsistent)
           (inr (has_room, inl (unrested.1 i, refl))))
 
-      reached : rests (solve net).end ≡ true → Least net (found net)
+      pub reached : rests (solve net).end ≡ true → Least net (found net)
           × (solving_into sheet m ≡ writing m (found net))
       reached e = (
         rested e,

@@ -12,6 +12,7 @@ use Rattle.calls.specs.Values.{OrRefusal, Values, done, turned_away, number_valu
 use Rattle.calls.specs.Call.{Left}
 use Rattle.calls.specs.Lent.{as_bytes, in_pairs}
 use Rattle.calls.specs.Calls.{judging, solving_into, listing_of}
+use Rattle.calls.specs.Counting.{OrUnsolved, rounds_of, solved_values, counting_into}
 use Rattle.calls.specs.Play.{playing}
 use Rattle.calls.specs.Recover.{recovering_into}
 
@@ -22,6 +23,10 @@ bench_judgement sheet b = judging sheet (as_bytes b)
 -- solving into bytes
 abbrev pub bench_solving : List ℕ → List ℕ → Left (OrRefusal ℕ)
 bench_solving sheet b = solving_into sheet (in_pairs b)
+
+-- and the count of rounds beside it
+abbrev pub bench_counting : List ℕ → List ℕ → Left OrUnsolved
+bench_counting sheet b = counting_into sheet (in_pairs b)
 
 -- reading a listing back into bytes
 abbrev pub bench_recovering : List ℕ → List ℕ → List ℕ → Left (OrRefusal ℕ)
@@ -93,3 +98,11 @@ packed_count_lem v = v.number + 256 * (v.line + 65536 * v.value)
 -- the answer of a call that writes, as C has it
 abbrev pub packed_left : Left (OrRefusal ℕ) → Left ℕ
 packed_left l = record { answer = packed_count_lem (number_values l.answer); memory = l.memory }
+
+-- the solver's: behind the count of minutes the count of rounds (three bytes)
+abbrev pub packed_rounds_lem : Values ℕ → ℕ → ℕ
+packed_rounds_lem v k = packed_count_lem v + 1099511627776 * k
+
+abbrev pub packed_counted : Left OrUnsolved → Left ℕ
+packed_counted l =
+    record { answer = packed_rounds_lem (solved_values l.answer) (rounds_of l.answer); memory = l.memory }

@@ -8,11 +8,12 @@ use Rattle.network.specs.declared.Network.{Network}
 use Rattle.dispatch.specs.HeardText.{is_heard_lem, heard_in}
 use Rattle.calls.specs.Values.{number_values}
 use Rattle.calls.specs.Lent.{in_place_lem}
-use Rattle.calls.specs.Calls.{housed, converting}
-use Rattle.calls.specs.Bench.{bench_judgement, bench_solving, bench_listed, judgement_values}
-use Rattle.calls.specs.Bench.{bench_due, bench_recovering, packed, packed_count_lem}
+use Rattle.calls.specs.Calls.{housed, converting, ringing}
+use Rattle.calls.specs.Counting.{solved_values, rounds_of}
+use Rattle.calls.specs.Bench.{bench_judgement, bench_counting, bench_listed, judgement_values}
+use Rattle.calls.specs.Bench.{bench_due, bench_recovering, packed, packed_count_lem, packed_rounds_lem}
 use Rattle.calls.specs.Play.{events_due_lem}
-use Rattle.calls.specs.Header.{JudgeHolds, CountHolds}
+use Rattle.calls.specs.Header.{JudgeHolds, CountHolds, SolverHolds}
 use Rattle.calls.specs.Answers.{Reads}
 use Rattle.calls.specs.Numbers.{bytes}
 use Rattle.calls.specs.Judges.{Passes, Breaches}
@@ -36,7 +37,8 @@ pub record Benched : Type 0 where
   -- the header's functions, as `Header` has them; a minute of two bytes is short
   pub judge_holds : (sheet b : List ℕ) → let v = judgement_values (bench_judgement sheet b) in JudgeHolds (packed v) v
   pub solver_holds : (sheet b : List ℕ)
-      → let v = number_values (bench_solving sheet b).answer in CountHolds (packed_count_lem v) v
+      → let r = (bench_counting sheet b).answer in
+      SolverHolds (packed_rounds_lem (solved_values r) (rounds_of r)) (solved_values r) (rounds_of r)
   pub lister_holds : (sheet b m : List ℕ) → Short (minutes_of b)
       → let v = number_values (bench_listed sheet b m).answer in CountHolds (packed_count_lem v) v
   pub recoverer_holds : (sheet printed b : List ℕ)
@@ -45,5 +47,7 @@ pub record Benched : Type 0 where
       → let v = number_values (housed sheet m).answer in CountHolds (packed_count_lem v) v
   pub converter_holds : (sheet m : List ℕ)
       → let v = number_values (converting sheet m).answer in CountHolds (packed_count_lem v) v
+  pub ring_holds : (line m : List ℕ)
+      → let v = number_values (ringing line m).answer in CountHolds (packed_count_lem v) v
   pub player_holds : (sheet b : List ℕ) (m : ℕ) (text : List ℕ)
       → let v = number_values (bench_due sheet b m text) in CountHolds (packed_count_lem v) v

@@ -24,9 +24,9 @@ module _ {A : Type 0} (refuse : Refusal → A) where
   answer_by none a = a
   answer_by (some r) a = refuse r
 
-  -- by what the sheet is read into, or its own refusal
-  abbrev pub call_on : (Network → Tests) → (Network → A) → Result Network Refusal → A
-  call_on tests work (Ok Γ) = answer_by (first_failing_lem (tests Γ)) (work Γ)
+  -- by what is read, of a sheet its network, or its own refusal
+  abbrev pub call_on : {B : Type 0} → (B → Tests) → (B → A) → Result B Refusal → A
+  call_on tests work (Ok b) = answer_by (first_failing_lem (tests b)) (work b)
   call_on tests work (Err r) = refuse r
 
   abbrev pub call : List ℕ → (Network → Tests) → (Network → A) → A

@@ -14,8 +14,10 @@ use Rattle.listing.specs.Listing.{listing}
 use Rattle.canonical.specs.House.{house_text}
 use Rattle.conversion.specs.FormerRules.{read_as_max_lem}
 use Rattle.conversion.specs.Converted.{resulting, converted}
+use Rattle.heaviest.specs.RingText.{ring_text}
+use Rattle.heaviest.specs.Reading.{reading}
 use Rattle.calls.specs.Values.{OrRefusal, Values, values_of}
-use Rattle.calls.specs.Call.{without_line_lem, Tests, call, Left}
+use Rattle.calls.specs.Call.{without_line_lem, Tests, call, call_on, Left}
 use Rattle.calls.specs.Lent.{Handed, as_minutes, Lent, in_place_lem}
 use Rattle.calls.specs.declared.Counts.{Counts}
 
@@ -110,3 +112,12 @@ abbrev pub converting : List ℕ → List ℕ → Left (OrRefusal ℕ)
 converting sheet out =
     let m = in_place_lem out in
     call (refusing m) (read_as_max_lem sheet) (convert_tests sheet m) (λ Γ. writing m (converted sheet Γ))
+
+-- writing the sheet that a line asks for, of so many events and a horizon, and without signals
+abbrev pub ring_tests : Lent → ℕ × ℕ → Tests
+ring_tests m asked = enough m (length (ring_text asked.0 asked.1)) ∷ []
+
+abbrev pub ringing : List ℕ → List ℕ → Left (OrRefusal ℕ)
+ringing line out =
+    let m = in_place_lem out in
+    call_on (refusing m) (ring_tests m) (λ asked. writing m (ring_text asked.0 asked.1)) (reading line)

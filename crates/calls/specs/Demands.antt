@@ -36,11 +36,12 @@ use Rattle.conversion.specs.Rows.{are_fix}
 use Rattle.calls.specs.Values.{number_values}
 use Rattle.calls.specs.Lent.{Lent, in_place_lem}
 use Rattle.calls.specs.Calls.{summary, judgement, solving_into, listed}
+use Rattle.calls.specs.Counting.{rounds_made}
 use Rattle.calls.specs.Bench.{judgement_values}
 use Rattle.calls.specs.Answers.{Reads}
 use Rattle.calls.specs.Reader.{AcceptsLayout, RefusesFault, CountsContents}
 use Rattle.calls.specs.Judges.{Passes, Breaches}
-use Rattle.calls.specs.Solves.{RefusesNone, WritesLeast}
+use Rattle.calls.specs.Solves.{RefusesNone, WritesLeast, CountsRounds}
 use Rattle.calls.specs.Lists.{WritesListing}
 use Rattle.calls.specs.Labels.{LabelHolds}
 use Rattle.calls.specs.Former.{Prompt, Unlabelled, PlainPoints, Former, FormerFirst}
@@ -117,6 +118,9 @@ pub record Demands : Type 0 where
   pub refused : (sheet : List ℕ) (m : Lent) → RefusesNone sheet m (number_values (solving_into sheet m).answer)
   pub solved : (sheet : List ℕ) (m : Lent)
       → let l = solving_into sheet m in WritesLeast sheet m (number_values l.answer) l.memory
+  -- and how long a sheet keeps it
+  pub rounds : (sheet : List ℕ) (m : Lent)
+      → CountsRounds sheet m (number_values (solving_into sheet m).answer) (rounds_made sheet m)
   -- of the listing's call
   pub lists : (sheet t m : List ℕ)
       → let l = listed sheet t m in

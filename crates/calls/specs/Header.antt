@@ -38,6 +38,9 @@ opening_second a = bits a 40 8
 abbrev pub opening_third : ℕ → ℕ
 opening_third a = bits a 48 8
 
+abbrev pub opening_rounds : ℕ → ℕ
+opening_rounds a = bits a 40 24
+
 -- what these functions tell of an answer: the number, the line, and what a call tells
 abbrev pub told : ℕ → Values ℕ
 told a = record { number = opening_number a; line = opening_line a; value = opening_minutes a }
@@ -50,8 +53,8 @@ found a = record {
   value = finding (opening_word a) (opening_first a) (opening_second a) (opening_third a);
 }
 
--- the answer a of a call other than the judge tells v, whichever of the three functions a caller asks, and its last
--- three bytes are 0
+-- the answer a of a call other than the judge and the solver tells v, whichever of the three functions a caller asks,
+-- and its last three bytes are 0
 pub record CountHolds (a : ℕ) (v : Values ℕ) : Type 0 where
   pub values : told a ≡ v
   pub bytes : opening_bytes a ≡ v.value
@@ -62,3 +65,8 @@ pub record CountHolds (a : ℕ) (v : Values ℕ) : Type 0 where
 pub record JudgeHolds (a : ℕ) (v : Values Finding) : Type 0 where
   pub values : found a ≡ v
   pub rest : shifted a 56 ≡ 0
+
+-- the solver's, with its count of rounds k
+pub record SolverHolds (a : ℕ) (v : Values ℕ) (k : ℕ) : Type 0 where
+  pub values : told a ≡ v
+  pub rounds : opening_rounds a ≡ k

@@ -1,12 +1,14 @@
 -- The values of an answer; what a call is; how tables are handed in and memory is lent; what the public calls answer,
--- the player's, that of reading a listing back and those of the bench; what the programs print. Then what these answers
+-- the solver's count of rounds, the player's, that of reading a listing back and those of the bench; what the programs
+-- print. Then what these answers
 -- mean: what each call can answer, by its number and line; what its answer says where it does not refuse; what a label
--- means; the demands; and what holds of the house form, of converting, of reactions and of what is printed; and the
--- trial sheets.
+-- means; the demands; and what holds of the house form, of converting, of the heaviest sheets, of reactions and of
+-- what is printed; and the trial sheets.
 pub mod Values
 pub mod Call
 pub mod Lent
 pub mod Calls
+pub mod Counting
 pub mod Play
 pub mod Recover
 pub mod Bench
@@ -25,6 +27,7 @@ pub mod Labels
 pub mod Demands
 pub mod Housing
 pub mod Converting
+pub mod Ringing
 pub mod Former
 pub mod Reacting
 pub mod Printing

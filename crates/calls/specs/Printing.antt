@@ -16,9 +16,13 @@ use Rattle.listing.specs.Listing.{header, listing}
 use Rattle.readback.specs.Form.{Misfit, Unread}
 use Rattle.conversion.specs.FormerFault.{FormerFault}
 use Rattle.conversion.specs.Converted.{resulting}
+use Rattle.heaviest.specs.Asks.{Asks}
+use Rattle.heaviest.specs.Heaviest.{Heaviest}
+use Rattle.heaviest.specs.Fault.{Fault as LineFault}
 use Rattle.calls.specs.Values.{turned_away, refused_as}
 use Rattle.calls.specs.Bench.{breach_values}
-use Rattle.calls.specs.Table.{refused_text, verdict_text, table_text, form_text, converted_text, judge_text}
+use Rattle.calls.specs.Table.{refused_text, verdict_text, table_text, form_text, converted_text, heaviest_text}
+use Rattle.calls.specs.Table.{judge_text}
 use Rattle.calls.specs.ReadingBack.{Printable}
 use Rattle.calls.specs.Answers.{Reads}
 use Rattle.calls.specs.Housing.{HouseForm}
@@ -44,6 +48,11 @@ pub record PrintsConverted (sheet text : List ℕ) : Type 0 where
   pub converted : (Γ : Network) (reads : FormerReads sheet Γ) → resulting sheet Γ ≤ L.rules
       → ConvertedTo sheet Γ reads text
 
+-- `ring`: the heaviest sheet that the line asks for
+pub record PrintsRing (line text : List ℕ) : Type 0 where
+  pub refused : (r : Refusal) → LineFault line r → text ≡ refused_text (turned_away 0 r)
+  pub ring : (n h : ℕ) → Asks line n h → Heaviest n h text
+
 -- `judge`: "the line that `table` prints for a refusal", the sheet's own first, then 18 and 19; otherwise the listing
 -- is that of a table, and `pass` is printed exactly where that is a good one, and else the first breach
 pub record PrintsVerdict (sheet printed text : List ℕ) : Type 0 where
@@ -62,4 +71,5 @@ pub record Printing : Type 0 where
   pub table : (sheet : List ℕ) → PrintsTable sheet (table_text sheet)
   pub house : (sheet : List ℕ) → PrintsForm sheet (form_text sheet)
   pub convert : (sheet : List ℕ) → PrintsConverted sheet (converted_text sheet)
+  pub ring : (line : List ℕ) → PrintsRing line (heaviest_text line)
   pub judge : (sheet printed : List ℕ) → PrintsVerdict sheet printed (judge_text sheet printed)

@@ -6,6 +6,7 @@ use Rattle.std.specs.Prelude.{◌≡◌, ◌↔◌, List, ℕ, ◌≤◌}
 use Rattle.network.specs.Build.{cells}
 use Rattle.network.specs.Least.{Least, Inconsistent}
 use Rattle.network.specs.declared.Network.{Network}
+use Rattle.solver.specs.Rounds.{Counted}
 use Rattle.calls.specs.Values.{Values, refused_as}
 use Rattle.calls.specs.Lent.{Lent}
 use Rattle.calls.specs.Answers.{Reads, WroteInto}
@@ -20,3 +21,9 @@ module _ (sheet : List ℕ) (m : Lent) (v : Values ℕ) where
   WritesLeast after =
       (Γ : Network) → Reads sheet Γ → cells Γ ≤ m.room → (Inconsistent Γ → ⊥)
       → (σ : List ℕ) × Least Γ σ × WroteInto σ m v after
+
+  -- the count of rounds that goes with a table and with 13 is that of plain rounds, one after another, whatever was
+  -- passed over at once; it is from 1 to C × H + 1. With any other refusal it is 0
+  pub record CountsRounds (k : ℕ) : Type 0 where
+    pub counted : (Γ : Network) → Reads sheet Γ → cells Γ ≤ m.room → Counted Γ k
+    pub none : (v.number ≡ 0 → ⊥) → (v.number ≡ 13 → ⊥) → k ≡ 0

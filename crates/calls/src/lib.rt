@@ -3,6 +3,10 @@
 // why it refuses.
 #![tactic(auto)]
 
+ghost use Rattle.std.specs.Prelude.{◌≡◌};
+
+use refusal::Refusal;
+
 pub mod theorems;
 
 // The horizon and the counts of a sheet.
@@ -12,4 +16,31 @@ pub struct Counts {
     pub events: usize,
     pub signals: usize,
     pub rules: usize,
+}
+
+/// What solving has written, and how long that took.
+#[derive(Clone, Copy)]
+pub struct Solved {
+    /// So many minutes stand in the table: one for each event in each case.
+    pub minutes: usize,
+    /// So many rounds were made, the last of which raised nothing.
+    pub rounds: u32,
+}
+
+/// Why nothing was solved.
+#[derive(Clone, Copy)]
+pub struct Unsolved {
+    pub refusal: Refusal,
+    /// Where no good table exists, so many rounds showed it, the last of which passed a limit. With every other refusal
+    /// none was made.
+    pub rounds: u32,
+}
+
+impl From<Refusal> for Unsolved {
+    ghost from_gives = { λ r u. (u.refusal ≡ r) × (u.rounds ≡ 0) };
+
+    // Refused before any round.
+    fn from(refusal: Refusal) -> Self {
+        Unsolved { refusal, rounds: 0 }
+    }
 }

@@ -7,6 +7,7 @@ ghost use Rattle.calls.specs.ReadingBack.{ReadingBack};
 ghost use Rattle.calls.specs.Playing.{Playing};
 ghost use Rattle.calls.specs.Housing.{Housing};
 ghost use Rattle.calls.specs.Converting.{Converting};
+ghost use Rattle.calls.specs.Ringing.{Ringing};
 ghost use Rattle.calls.specs.Reacting.{Reacting};
 ghost use Rattle.calls.specs.Printing.{Printing};
 ghost use Rattle.calls.specs.Trials.{Trials};
@@ -44,6 +45,11 @@ pub fn housing_holds()
 /// What holds of converting former sheets.
 pub fn converting_holds()
     ensures { Converting }
+{}
+
+/// What holds of the heaviest sheets.
+pub fn ringing_holds()
+    ensures { Ringing }
 {}
 
 /// What holds of reactions.

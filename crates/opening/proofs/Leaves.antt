@@ -17,11 +17,13 @@ use Rattle.listing.specs.Listing.{listing}
 use Rattle.canonical.specs.House.{house_text}
 use Rattle.conversion.specs.FormerRules.{read_as_max_lem}
 use Rattle.conversion.specs.Converted.{resulting, converted}
+use Rattle.heaviest.specs.RingText.{ring_text}
+use Rattle.heaviest.specs.Reading.{reading}
 use Rattle.calls.specs.Values.{OrRefusal}
 use Rattle.calls.specs.Call.{without_line_lem, call, Left, Leaves, Tests}
 use Rattle.calls.specs.Lent.{in_place_lem}
 use Rattle.calls.specs.Calls.{enough, writing, refusing, listed, fit}
-use Rattle.calls.specs.Calls.{house_tests, housed, convert_tests, converting}
+use Rattle.calls.specs.Calls.{house_tests, housed, convert_tests, converting, ringing}
 use Rattle.calls.proofs.Call.{call-refused, call_fails, call_works}
 use Rattle.opening.specs.Prologue.{handed_in_lem}
 use Rattle.opening.proofs.Prologue.{handed-refused, handed_fails, handed_works}
@@ -142,3 +144,13 @@ module _ (sheet m : List ℕ) where
     convert-written few x w is =
         text-written (read_as_max_lem sheet) m (convert_tests sheet (in_place_lem m)) (converted sheet) Γ a x w is
         (λ room. (few, (room, tt))) (λ short. inr (few, inl (short, refl)))
+
+-- the sheet that a line asks for
+module _ (line m : List ℕ) where
+  pub ring_refused : (r : Refusal) → reading line ≡ Err r → Leaves (ringing line m) (Err r) m
+  ring_refused r e = kept m r (rw e refl)
+
+  pub ring-written : (n h : ℕ) → reading line ≡ Ok (n, h) → (x : List ℕ) (w : Option ℕ)
+      → HandedOut (ring_text n h) m x w → Leaves (ringing line m) (or_short w) x
+  ring-written n h e x w is =
+      written-by (ring_text n h) m x w is (λ room. rw (e, room) refl) (λ short. rw (e, short) refl)

@@ -10,7 +10,8 @@ use Rattle.sheet.specs.Reading.{network_of}
 use Rattle.calls.specs.Values.{OrRefusal, number_values}
 use Rattle.calls.specs.Call.{Leaves}
 use Rattle.calls.specs.Lent.{as_minutes, in_place_lem}
-use Rattle.calls.specs.Calls.{summary, no_counts, summary_values, judgement, solving, listed, housed, converting}
+use Rattle.calls.specs.Calls.{summary, no_counts, summary_values, judgement, listed, housed, converting, ringing}
+use Rattle.calls.specs.Counting.{OrUnsolved, solved_values, rounds_of, counting}
 use Rattle.calls.specs.Play.{events_due_lem, events_due_on_lem}
 use Rattle.calls.specs.Recover.{recovering}
 use Rattle.calls.specs.Bench.{no_finding, judgement_values}
@@ -19,19 +20,21 @@ use Rattle.calls.specs.Numbers.{minutes, judges, solves, lists, houses, recovers
 use Rattle.calls.specs.Numbers.{misnamed_by, unheard_by, misnamed_on, unheard_on}
 use Rattle.calls.specs.Reader.{AcceptsLayout, RefusesFault, CountsContents}
 use Rattle.calls.specs.Judges.{Passes, Breaches}
-use Rattle.calls.specs.Solves.{RefusesNone, WritesLeast}
+use Rattle.calls.specs.Solves.{RefusesNone, WritesLeast, CountsRounds}
 use Rattle.calls.specs.Lists.{WritesListing}
 use Rattle.calls.specs.ReadingBack.{ReadsBack}
 use Rattle.calls.specs.Playing.{TellsRow}
 use Rattle.calls.specs.Housing.{WritesForm}
 use Rattle.calls.specs.Converting.{AnswersFormer, WritesConverted}
+use Rattle.calls.specs.Ringing.{AnswersRing, WritesHeaviest}
 use Rattle.calls.specs.declared.Counts.{Counts}
 use Rattle.calls.proofs.Numbers.{numbers}
 use Rattle.calls.proofs.Demands.{demands}
 use Rattle.calls.proofs.Playing.{playing}
 use Rattle.calls.proofs.Handed.{minutes_rightly}
+use Rattle.calls.proofs.Counting.{uncounted, rounds-left}
 use Rattle.calls.proofs.Clauses.{judge-clauses, list-clauses, solve-clauses, recover-clauses}
-use Rattle.calls.proofs.Clauses.{house-clauses, convert-clauses}
+use Rattle.calls.proofs.Clauses.{house-clauses, convert-clauses, ring-clauses}
 
 module _ (sheet : List ℕ) where
   pub read_means : (r : OrRefusal Counts) → r ≡ summary sheet
@@ -97,18 +100,20 @@ module _ (sheet : List ℕ) where
         (ap number_values h.answer) h.memory in
         record { outcome = h; refusals = w.refusals; lists = w.lists }
 
-  module _ (m : List ℕ) (r : OrRefusal ℕ) (x : List ℕ) where
-    pub solve_means : Leaves (solving sheet m) r x
-        → record {
-          outcome : Leaves (solving sheet m) r x;
-          refusals : AnswersInto sheet (solves (length m)) m (number_values r) x;
-          none : RefusesNone sheet (in_place_lem m) (number_values r);
-          least : WritesLeast sheet (in_place_lem m) (number_values r) x;
-        }
-    solve_means h =
-        let w = solve-clauses sheet (in_place_lem m) _ x (ap number_values h.answer) h.memory in
-        record { outcome = h; refusals = w.refusals; none = w.none; least = w.least }
+  pub solve_means : (m : List ℕ) (r : OrUnsolved) (x : List ℕ) → Leaves (counting sheet m) r x
+      → record {
+        outcome : Leaves (counting sheet m) r x;
+        refusals : AnswersInto sheet (solves (length m)) m (solved_values r) x;
+        none : RefusesNone sheet (in_place_lem m) (solved_values r);
+        least : WritesLeast sheet (in_place_lem m) (solved_values r) x;
+        rounds : CountsRounds sheet (in_place_lem m) (solved_values r) (rounds_of r);
+      }
+  solve_means m r x h =
+      let w = solve-clauses sheet (in_place_lem m) (solved_values r) (rounds_of r) x
+      (ap number_values (uncounted sheet (in_place_lem m) h).answer) (rounds-left sheet (in_place_lem m) h) h.memory in
+      record { outcome = h; refusals = w.refusals; none = w.none; least = w.least; rounds = w.rounds }
 
+  module _ (m : List ℕ) (r : OrRefusal ℕ) (x : List ℕ) where
     pub recover_means : (printed : List ℕ) → Leaves (recovering sheet printed m) r x
         → record {
           outcome : Leaves (recovering sheet printed m) r x;
@@ -138,3 +143,14 @@ module _ (sheet : List ℕ) where
     convert_means h =
         let w = convert-clauses sheet m _ x (ap number_values h.answer) h.memory in
         record { outcome = h; refusals = w.refusals; converted = w.converted }
+
+    -- of a line
+    pub ring_means : Leaves (ringing sheet m) r x
+        → record {
+          outcome : Leaves (ringing sheet m) r x;
+          refusals : AnswersRing sheet m (number_values r) x;
+          heaviest : WritesHeaviest sheet (in_place_lem m) (number_values r) x;
+        }
+    ring_means h =
+        let w = ring-clauses sheet m _ x (ap number_values h.answer) h.memory in
+        record { outcome = h; refusals = w.refusals; heaviest = w.heaviest }

@@ -11,7 +11,7 @@ use Rattle.std.specs.Prelude.{Result, Ok, Err}
 use Rattle.prelude.proofs.Tests.{zero-is-one}
 use Rattle.refusal.specs.declared.Cause.TheVariants.{BufferTooShort, Inconsistent}
 use Rattle.refusal.specs.declared.Refusal.{Refusal}
-use Rattle.fixpoint.specs.Run.{End, Rests, Passes, Spent}
+use Rattle.fixpoint.specs.Run.{End, Rests, Passes, Spent, Run}
 use Rattle.network.specs.Build.{cells}
 use Rattle.network.specs.WellFormed.{WellFormed}
 use Rattle.network.specs.declared.Network.{Network}
@@ -24,7 +24,9 @@ use Rattle.calls.specs.Values.{OrRefusal}
 use Rattle.calls.specs.Call.{without_line_lem, Left, Leaves}
 use Rattle.calls.specs.Lent.{in_place_lem}
 use Rattle.calls.specs.Calls.{writing, refusing, rests, solving_tests, solving}
+use Rattle.calls.specs.Counting.{counted_as, rounds_made, counting}
 use Rattle.calls.proofs.Call.{call-refused, call_fails, call_works}
+use Rattle.calls.proofs.Counting.{rounds-refused, rounds-short, rounds-solved}
 use Rattle.opening.proofs.Leaves.{leaves_as, kept}
 
 -- the network is consistent, or it is not
@@ -53,39 +55,71 @@ module _ (Γ : Network) (m x : List ℕ) (s : Result ℕ NoTable) (is : SolvedIs
       by_end Passes p = (rw p, is.table ∙ rw (p, table_after))
       by_end Spent p = (rw p, is.table ∙ rw (p, table_after))
 
+-- the count that the solver tells, of a table or of none, is the run's
+abbrev told : Result ℕ NoTable → ℕ
+told (Ok k) = k
+told (Err none) = none.rounds
+
+told-solved : (ρ : Run) → told (solved_of ρ) ≡ ρ.rounds
+told-solved ρ = by_end ρ.end refl
+  where
+    by_end : (end : End) → ρ.end ≡ end → told (solved_of ρ) ≡ ρ.rounds
+    by_end Rests p = rw (p, solved_of) refl
+    by_end Passes p = rw (p, solved_of) refl
+    by_end Spent p = rw (p, solved_of) refl
+
+-- the count goes beside the answer
+counted-left : (sheet m : List ℕ) {r : OrRefusal ℕ} {k : ℕ} {x : List ℕ} → Leaves (solving sheet m) r x
+    → k ≡ rounds_made sheet (in_place_lem m) → Leaves (counting sheet m) (counted_as k r) x
+counted-left sheet m h e = rw (e, h.answer) (record { answer = refl; memory = h.memory })
+
 module _ (sheet m : List ℕ) where
   abbrev work : Network → Left (OrRefusal ℕ)
   work Γ = writing (in_place_lem m) (found Γ)
 
-  pub solving-refused : (r : Refusal) → read sheet ≡ Err r → Leaves (solving sheet m) (Err r) m
+  -- refused before any round
+  pub solving-refused : (r : Refusal) → read sheet ≡ Err r → Leaves (counting sheet m) (counted_as 0 (Err r)) m
   solving-refused r p =
-      kept m r (call-refused (refusing (in_place_lem m)) sheet (solving_tests (in_place_lem m)) work r p)
+      counted-left sheet m
+      (kept m r (call-refused (refusing (in_place_lem m)) sheet (solving_tests (in_place_lem m)) work r p))
+      (sym (rounds-refused sheet (in_place_lem m) r p))
 
   module _ (Γ : Network) (a : read sheet ≡ Ok Γ) where
-    pub solving-short : length m < cells Γ → Leaves (solving sheet m) (Err (without_line_lem BufferTooShort)) m
+    pub solving-short : length m < cells Γ
+        → Leaves (counting sheet m) (counted_as 0 (Err (without_line_lem BufferTooShort))) m
     solving-short h =
-        kept m _
+        counted-left sheet m
+        (kept m _
         (call_fails (refusing (in_place_lem m)) sheet (solving_tests (in_place_lem m)) work Γ a _
-        (inl (lt-leb (cells Γ) (length m) h, refl)))
+        (inl (lt-leb (cells Γ) (length m) h, refl))))
+        (sym (rounds-short sheet (in_place_lem m) Γ a h))
 
     module _ (w : WellFormed Γ) (room : cells Γ ≤ length m) {x : List ℕ} {s : Result ℕ NoTable}
         (is : SolvedIs Γ m x s) where
       has_room : leb (cells Γ) (length m) ≡ true
       has_room = le-leb (cells Γ) (length m) room
 
-      pub solving_consistent : (k : ℕ) → s ≡ Ok k → Leaves (solving sheet m) (Ok (cells Γ)) x
+      made : {k : ℕ} → k ≡ (solve Γ).rounds → k ≡ rounds_made sheet (in_place_lem m)
+      made e = e ∙ sym (rounds-solved sheet (in_place_lem m) Γ a room)
+
+      pub solving_consistent : (k : ℕ) → s ≡ Ok k → Leaves (counting sheet m) (counted_as k (Ok (cells Γ))) x
       solving_consistent k q =
           let r = consistent_rests Γ m x s is k q in
           let size = (solve-least Γ w r.0).solves.sized in
-          leaves_as
+          counted-left sheet m
+          (leaves_as
           (call_works (refusing (in_place_lem m)) sheet (solving_tests (in_place_lem m)) work Γ a
           (has_room, (rw r.0, tt)))
-          (record { answer = ap (λ (n : ℕ). Ok n) (sym size); memory = r.1 })
+          (record { answer = ap (λ (n : ℕ). Ok n) (sym size); memory = r.1 }))
+          (made (ap told (sym q ∙ is.answer) ∙ told-solved (solve Γ)))
 
-      pub solving-none : (k : NoTable) → s ≡ Err k → Leaves (solving sheet m) (Err (without_line_lem Inconsistent)) x
+      pub solving-none : (k : NoTable) → s ≡ Err k
+          → Leaves (counting sheet m) (counted_as k.rounds (Err (without_line_lem Inconsistent))) x
       solving-none k q =
           let r = none_passes Γ m x s is k q in
-          leaves_as
+          counted-left sheet m
+          (leaves_as
           (call_fails (refusing (in_place_lem m)) sheet (solving_tests (in_place_lem m)) work Γ a _
           (inr (has_room, inl (r.0, refl))))
-          (record { answer = refl; memory = r.1 })
+          (record { answer = refl; memory = r.1 }))
+          (made (ap told (sym q ∙ is.answer) ∙ told-solved (solve Γ)))

@@ -7,7 +7,9 @@ ghost use Rattle.dispatch.specs.Said.{said_from};
 ghost use Rattle.calls.specs.Values.{number_values};
 ghost use Rattle.calls.specs.Call.{Leaves};
 ghost use Rattle.calls.specs.Lent.{in_place_lem};
-ghost use Rattle.calls.specs.Calls.{summary, no_counts, summary_values, judgement, solving, listed, housed, converting};
+ghost use Rattle.calls.specs.Calls.{summary, no_counts, summary_values, judgement, listed, housed, converting};
+ghost use Rattle.calls.specs.Calls.{ringing};
+ghost use Rattle.calls.specs.Counting.{counting, solved_values, rounds_of};
 ghost use Rattle.calls.specs.Play.{events_due_lem, events_due_on_lem};
 ghost use Rattle.calls.specs.Recover.{recovering};
 ghost use Rattle.calls.specs.Bench.{no_finding, judgement_values};
@@ -16,15 +18,16 @@ ghost use Rattle.calls.specs.Numbers.{minutes, judges, solves, lists, houses, re
 ghost use Rattle.calls.specs.Numbers.{misnamed_by, unheard_by, misnamed_on, unheard_on};
 ghost use Rattle.calls.specs.Reader.{AcceptsLayout, RefusesFault, CountsContents};
 ghost use Rattle.calls.specs.Judges.{Passes, Breaches};
-ghost use Rattle.calls.specs.Solves.{RefusesNone, WritesLeast};
+ghost use Rattle.calls.specs.Solves.{RefusesNone, WritesLeast, CountsRounds};
 ghost use Rattle.calls.specs.Lists.{WritesListing};
 ghost use Rattle.calls.specs.ReadingBack.{ReadsBack};
 ghost use Rattle.calls.specs.Playing.{TellsRow};
 ghost use Rattle.calls.specs.Housing.{WritesForm};
 ghost use Rattle.calls.specs.Converting.{AnswersFormer, WritesConverted};
+ghost use Rattle.calls.specs.Ringing.{AnswersRing, WritesHeaviest};
 ghost use Rattle.opening.specs.Prologue.{handed_in_lem, of_unread, of_unanswered};
 
-use calls::Counts;
+use calls::{Counts, Solved, Unsolved};
 use checker::Verdict;
 use dispatch::{Heard, Said, Unanswered};
 use network::Network;
@@ -89,21 +92,29 @@ pub fn judge_table(sheet: &[u8], table: &[u16]) -> Result<Verdict, Refusal>
     Ok(checker::check(&strategy))
 }
 
-// The least good table into the first cells of the table.
-pub fn solve_sheet(sheet: &[u8], table: &mut [u16]) -> Result<usize, Refusal>
-    ensures outcome { Leaves (solving sheet.now table.old) result table.new }
-    ensures refusals { AnswersInto sheet.now (solves (length table.old)) table.old (number_values result) table.new }
-    ensures none { RefusesNone sheet.now (in_place_lem table.old) (number_values result) }
-    ensures least { WritesLeast sheet.now (in_place_lem table.old) (number_values result) table.new }
+/// The least good table into the first cells of the table; with it, and where there is none, the count of the rounds that
+/// found it. A round raises each cell of a table to the greatest of its own minute and of each bound that rules, signals
+/// and the waits of labels set there; from all zeros, rounds follow until one raises nothing or passes a limit, which
+/// counts too.
+pub fn solve_sheet(sheet: &[u8], table: &mut [u16]) -> Result<Solved, Unsolved>
+    ensures outcome { Leaves (counting sheet.now table.old) result table.new }
+    ensures refusals { AnswersInto sheet.now (solves (length table.old)) table.old (solved_values result) table.new }
+    ensures none { RefusesNone sheet.now (in_place_lem table.old) (solved_values result) }
+    ensures least { WritesLeast sheet.now (in_place_lem table.old) (solved_values result) table.new }
+    ensures rounds { CountsRounds sheet.now (in_place_lem table.old) (solved_values result) (rounds_of result) }
 {
     let accepted = sheet::read(sheet)?;
-    let cells = accepted.formed.cell_count();
-    if table.len() < cells {
-        return Err(Refusal::without_line(Cause::BufferTooShort));
+    let minutes = accepted.formed.cell_count();
+    if table.len() < minutes {
+        return Err(Refusal::without_line(Cause::BufferTooShort).into());
     }
-    let solved = solver::solve(&accepted.formed, table);
-    solved.map_err(|_| Refusal::without_line(Cause::Inconsistent))?;
-    Ok(cells)
+    match solver::solve(&accepted.formed, table) {
+        Ok(rounds) => Ok(Solved { minutes, rounds }),
+        Err(none) => Err(Unsolved {
+            refusal: Refusal::without_line(Cause::Inconsistent),
+            rounds: none.rounds,
+        }),
+    }
 }
 
 // The listing of any table of the right length, into the first bytes of out.
@@ -162,6 +173,19 @@ pub fn convert_sheet(sheet: &[u8], out: &mut [u8]) -> Result<usize, Refusal>
     }
     former
         .write(out)
+        .ok_or(Refusal::without_line(Cause::BufferTooShort))
+}
+
+/// For a line `n,H`, the heaviest sheet of n events, the horizon H and no signal, into the first bytes of out: no such
+/// sheet takes more rounds. n is from 2 to 16. The line is refused with 1 to 5 or 10, as a sheet of one line is, and then
+/// 12 is tried.
+pub fn write_ring(line: &[u8], out: &mut [u8]) -> Result<usize, Refusal>
+    ensures outcome { Leaves (ringing line.now out.old) result out.new }
+    ensures refusals { AnswersRing line.now out.old (number_values result) out.new }
+    ensures heaviest { WritesHeaviest line.now (in_place_lem out.old) (number_values result) out.new }
+{
+    let ring = heaviest::read(line)?;
+    ring.write(out)
         .ok_or(Refusal::without_line(Cause::BufferTooShort))
 }
 

@@ -3,30 +3,34 @@
 use mathlib.Core.Path.{◌≡◌, refl, sym, ◌∙◌, ap, subst}
 use mathlib.Core.Logic.{inl, inr}
 use mathlib.Core.Bool.{Bool}
-use mathlib.Core.List.{List, ◌++◌, append_assoc}
+use mathlib.Core.List.{List, [], ◌∷◌, ◌++◌, append_assoc}
 use Prim.Native.Nat.{ℕ, ◌/◌, ◌≤◌, min}
 use native.Mathlib.Omega.{arith}
 use borrow.Author.Tests.{leb-true, le-leb, lt-leb}
 use lib.Dec.{leb}
 use lib.ListN.{length, take, drop, replicate, length-take, length-drop, length-append}
 use lib.Seq.{take_at, length-take-le}
-use Rattle.prelude.specs.Checks.{Hold, FirstFails}
+use Rattle.prelude.specs.Checks.{Hold, FirstFails, first_failing_lem}
 use Rattle.prelude.proofs.Tests.{lt_or_ge}
+use Rattle.refusal.specs.declared.Cause.TheVariants.{BufferTooShort}
 use Rattle.refusal.specs.declared.Refusal.{Refusal}
 use Rattle.network.specs.Limits as L
 use Rattle.network.specs.Build.{cells}
 use Rattle.network.specs.declared.Network.{Network}
 use Rattle.sheet.specs.Reading.{network_of, Accepts}
 use Rattle.sheet.proofs.WellFormed.{accepted_well_formed}
+use Rattle.solver.specs.Solve.{solve}
 use Rattle.calls.specs.Values.{OrRefusal, done}
-use Rattle.calls.specs.Call.{Tests, call, Left, Leaves}
+use Rattle.calls.specs.Call.{without_line_lem, Tests, call, Left, Leaves}
 use Rattle.calls.specs.Lent.{Lent, in_place_lem, in_pairs}
-use Rattle.calls.specs.Calls.{writing, refusing}
-use Rattle.calls.specs.Bench.{packed_count_lem, packed_left}
-use Rattle.calls.proofs.Call.{Ends, faulty, failed, worked, ends, call-refused, call_fails, call_works}
+use Rattle.calls.specs.Calls.{enough, writing, refusing}
+use Rattle.calls.specs.Counting.{OrUnsolved, answer_of, rounds_of, rounds_made, counting}
+use Rattle.calls.specs.Bench.{packed_count_lem, packed_left, bench_solving}
+use Rattle.calls.proofs.Counting.{uncounted, rounds-left}
+use Rattle.calls.proofs.Call.{Ends, faulty, failed, worked, ends, call-refused, call_fails, call_works, call-alike}
 use Rattle.calls.proofs.Handed.{cells-few}
 use Rattle.opening_c.specs.Packed.{HasRoom, packed_table_lem}
-use Rattle.opening_c.proofs.Fills.{Fills}
+use Rattle.opening_c.proofs.Fills.{Fills, solver_fills}
 
 -- minutes are lent for as many whole pairs as a table may need
 module _ (sheet : List ℕ) (fills : Fills sheet) (b z : List ℕ) (size : length z ≡ 256) (k : ℕ)
@@ -148,3 +152,25 @@ pub from_zeros : (sheet : List ℕ) (fills : Fills sheet) (b : List ℕ) (k : �
     → Leaves (packed_table_lem w (x ++ drop k zeros) b) r after
     → Leaves (packed_left (into sheet fills b zeros refl k lent (in_pairs b))) r after
 from_zeros sheet fills b k lent left packed = rw (← (pairs_go sheet fills b zeros refl k lent left).packed) packed
+
+-- the solver's call, with its count: there is room in the minutes where there is in the pairs, so that as many rounds
+-- are made
+module _ (sheet b : List ℕ) (k : ℕ) (lent : k ≡ min (length b / 2) 256) {s : OrUnsolved} {x : List ℕ}
+    (left : Leaves (counting sheet (take k zeros)) s x) where
+  abbrev minutes : Lent
+  minutes = in_place_lem (take k zeros)
+
+  pub solved_from_zeros : {w : OrRefusal ℕ} {r : ℕ} {after : List ℕ} → w ≡ answer_of s
+      → Leaves (packed_table_lem w (x ++ drop k zeros) b) r after → Leaves (packed_left (bench_solving sheet b)) r after
+  solved_from_zeros e packed =
+      from_zeros sheet (solver_fills sheet) b k lent (rw e (uncounted sheet minutes left)) packed
+
+  pub rounds_from_zeros : rounds_of s ≡ rounds_made sheet (in_pairs b)
+  rounds_from_zeros =
+      rounds-left sheet minutes left
+      ∙ call-alike (λ _. 0) sheet (λ Γ. enough minutes (cells Γ) ∷ []) (λ Γ. enough (in_pairs b) (cells Γ) ∷ [])
+      (λ Γ. (solve Γ).rounds) (λ Γ. (solve Γ).rounds)
+      (λ a.
+      ap (λ (roomy : Bool). first_failing_lem ((roomy, without_line_lem BufferTooShort) ∷ []))
+      (same-room sheet (solver_fills sheet) b zeros refl k lent a))
+      (λ _ _. refl)

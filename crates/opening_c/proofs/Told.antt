@@ -1,11 +1,15 @@
 -- What the header's functions tell of a count that was packed. Assumes nothing.
-use mathlib.Core.Path.{◌≡◌, ◌∙◌, ap}
+use mathlib.Core.Path.{◌≡◌, refl, ◌∙◌, ap}
 use mathlib.Core.List.{List}
-use Prim.Native.Nat.{ℕ}
+use Prim.Native.Nat.{ℕ, ◌+◌, ◌*◌}
 use Rattle.calls.specs.Values.{OrRefusal, Values, number_values}
 use Rattle.calls.specs.Call.{Left, Leaves}
-use Rattle.calls.specs.Bench.{packed_count_lem, packed_left}
+use Rattle.calls.specs.Lent.{Lent}
+use Rattle.calls.specs.Calls.{solving_into}
+use Rattle.calls.specs.Counting.{rounds_made, counting_into}
+use Rattle.calls.specs.Bench.{packed_count_lem, packed_left, packed_counted}
 use Rattle.calls.specs.Header.{told, shifted, CountHolds}
+use Rattle.calls.proofs.Counting.{answer-counted, rounds-counted}
 
 pub record Tells (a : ℕ) (v : Values ℕ) : Type 0 where
   pub values : told a ≡ v
@@ -30,3 +34,14 @@ packed-left l h e = record {
   answer = e ∙ ap (λ (w : OrRefusal ℕ). packed_count_lem (number_values w)) h.answer;
   memory = h.memory;
 }
+
+-- the solver's answer with its count
+pub counted-left : (sheet : List ℕ) (m : Lent) {a k r : ℕ} {x : List ℕ} → Leaves (packed_left (solving_into sheet m)) a x
+    → k ≡ rounds_made sheet m → r ≡ a + 1099511627776 * k → Leaves (packed_counted (counting_into sheet m)) r x
+counted-left sheet m h e f =
+    let c = rounds_made sheet m in
+    let a = (solving_into sheet m).answer in
+    record {
+      answer = f ∙ rw (e, h.answer, answer-counted c a, rounds-counted c a) refl;
+      memory = h.memory;
+    }

@@ -1,5 +1,5 @@
 // Answers as C has them: one number, whose bytes stand in the order of the header's table, the lowest first.
-ghost use Rattle.std.specs.Prelude.{◌≡◌, ◌+◌, ◌*◌};
+ghost use Rattle.std.specs.Prelude.{◌≡◌, ◌+◌, ◌*◌, ◌<◌};
 ghost use Rattle.calls.specs.Values.{done, number_values};
 ghost use Rattle.calls.specs.Bench as B;
 
@@ -48,4 +48,12 @@ pub(crate) fn word(verdict: Verdict) -> u32
             },
         ) => u32::from_le_bytes([3, scenario, other, event]),
     }
+}
+
+// The solver's answer, with its count of rounds in the last three bytes.
+pub(crate) fn with_rounds(answer: u64, rounds: u32) -> u64
+    requires { (answer < 1099511627776) × (rounds < 16777216) }
+    ensures { result ≡ answer + 1099511627776 * rounds }
+{
+    answer + 1099511627776 * u64::from(rounds)
 }

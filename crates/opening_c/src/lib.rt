@@ -10,24 +10,27 @@ ghost use Rattle.dispatch.specs.HeardText.{is_heard_lem, heard_in};
 ghost use Rattle.calls.specs.Values.{number_values};
 ghost use Rattle.calls.specs.Call.{Leaves};
 ghost use Rattle.calls.specs.Lent.{in_place_lem, in_pairs};
-ghost use Rattle.calls.specs.Calls.{housed, converting};
+ghost use Rattle.calls.specs.Calls.{housed, converting, ringing};
+ghost use Rattle.calls.specs.Counting.{answer_of, rounds_of};
 ghost use Rattle.calls.specs.Bench as B;
-ghost use Rattle.calls.specs.Header.{told, found, shifted};
+ghost use Rattle.calls.specs.Header.{told, found, shifted, opening_rounds};
 ghost use Rattle.calls.specs.Answers.{Answers, AnswersInto};
 ghost use Rattle.calls.specs.Numbers.{bytes, judges, solves, lists, houses, recovers, plays};
 ghost use Rattle.calls.specs.Numbers.{misnamed_in, unheard_by};
 ghost use Rattle.calls.specs.Judges.{Passes, Breaches};
-ghost use Rattle.calls.specs.Solves.{RefusesNone, WritesLeast};
+ghost use Rattle.calls.specs.Solves.{RefusesNone, WritesLeast, CountsRounds};
 ghost use Rattle.calls.specs.Lists.{WritesListing};
 ghost use Rattle.calls.specs.ReadingBack.{ReadsBack};
 ghost use Rattle.calls.specs.Playing.{TellsRow};
 ghost use Rattle.calls.specs.Housing.{WritesForm};
 ghost use Rattle.calls.specs.Converting.{AnswersFormer, WritesConverted};
+ghost use Rattle.calls.specs.Ringing.{AnswersRing, WritesHeaviest};
 ghost use Rattle.opening_c.specs.Packed.{HasRoom, packed_table_lem};
 
 mod answer;
 
-use answer::{packed, word};
+use answer::{packed, with_rounds, word};
+use calls::{Solved, Unsolved};
 use network::Network;
 use refusal::Refusal;
 
@@ -36,6 +39,26 @@ fn room(bytes: usize) -> usize
     ensures { result ≡ min (bytes / 2) L.cells }
 {
     (bytes / 2).min(Network::CELLS)
+}
+
+// What the solver has written, or why it has not.
+fn written(solved: Result<Solved, Unsolved>) -> Result<usize, Refusal>
+    ensures { result ≡ answer_of solved }
+{
+    match solved {
+        Ok(found) => Ok(found.minutes),
+        Err(unsolved) => Err(unsolved.refusal),
+    }
+}
+
+// How many rounds it has made.
+fn rounds(solved: Result<Solved, Unsolved>) -> u32
+    ensures { result ≡ rounds_of solved }
+{
+    match solved {
+        Ok(found) => found.rounds,
+        Err(unsolved) => unsolved.rounds,
+    }
 }
 
 // The answer of a call that writes: a count that fits 16 bits, so that the cast loses nothing.
@@ -73,16 +96,17 @@ pub extern "C" fn opening_judge(sheet: &[u8], table: &[u8]) -> u64
 // The solver.
 #[unsafe(no_mangle)]
 pub extern "C" fn opening_solve(sheet: &[u8], table: &mut [u8]) -> u64
-    ensures outcome { Leaves (B.packed_left (B.bench_solving sheet.now table.old)) result table.new }
+    ensures outcome { Leaves (B.packed_counted (B.bench_counting sheet.now table.old)) result table.new }
     ensures refusals { AnswersInto sheet.now (solves (length table.old / 2)) table.old (told result) table.new }
     ensures none { RefusesNone sheet.now (in_pairs table.old) (told result) }
     ensures least { WritesLeast sheet.now (in_pairs table.old) (told result) table.new }
-    ensures unused { shifted result 40 ≡ 0 }
+    ensures rounds { CountsRounds sheet.now (in_pairs table.old) (told result) (opening_rounds result) }
 {
     let mut minutes = [0u16; Network::CELLS];
     let lent = room(table.len());
-    let written = opening::solve_sheet(sheet, &mut minutes[..lent]);
-    packed_table(written, &minutes, table)
+    let solved = opening::solve_sheet(sheet, &mut minutes[..lent]);
+    let packed = packed_table(written(solved), &minutes, table);
+    with_rounds(packed, rounds(solved))
 }
 
 // The listing.
@@ -134,6 +158,17 @@ pub extern "C" fn opening_convert(sheet: &[u8], out: &mut [u8]) -> u64
     ensures unused { shifted result 40 ≡ 0 }
 {
     packed_written(opening::convert_sheet(sheet, out))
+}
+
+// The writer of the heaviest sheets.
+#[unsafe(no_mangle)]
+pub extern "C" fn opening_ring(line: &[u8], out: &mut [u8]) -> u64
+    ensures outcome { Leaves (B.packed_left (ringing line.now out.old)) result out.new }
+    ensures refusals { AnswersRing line.now out.old (told result) out.new }
+    ensures heaviest { WritesHeaviest line.now (in_place_lem out.old) (told result) out.new }
+    ensures unused { shifted result 40 ≡ 0 }
+{
+    packed_written(opening::write_ring(line, out))
 }
 
 // The player.

@@ -7,9 +7,15 @@ use Rattle.std.proofs.KnownBytes.{Appends-nil}
 use Rattle.prelude.proofs.Tests.{clash}
 use Rattle.sheet.specs.Reading.{longest}
 use Rattle.files.specs.Whole.{Fills, Prints}
-use Rattle.calls.specs.Values.{OrRefusal}
+use Rattle.refusal.specs.declared.Refusal.{Refusal}
+use Rattle.calls.specs.Values.{OrRefusal, turned_away}
 use Rattle.calls.specs.Call.{Left, Leaves}
-use Rattle.calls.specs.Table.{or_refused, judge_text}
+use Rattle.calls.specs.Lent.{in_place_lem}
+use Rattle.calls.specs.Calls.{solving}
+use Rattle.calls.specs.Counting.{OrUnsolved, answer_of, counting}
+use Rattle.calls.specs.Table.{refused_text, or_refused, judge_text}
+use Rattle.calls.proofs.Counting.{uncounted}
+use Rattle.calls.proofs.OnPages.{refused-on}
 use Rattle.calls.proofs.FirstBytes.{first, judge_first}
 use Rattle.report.specs.Run.{left, PrintsWhat}
 
@@ -21,6 +27,17 @@ pub goes_on : {l : Left (OrRefusal ℕ)} {w : OrRefusal ℕ} {m : List ℕ} (n :
     → w ≡ Ok n → or_refused l next ≡ next (take n m)
 goes_on {l} {w} {m} n next leaves is =
     ap (λ k. or_refused k next) (sym (as_left leaves)) ∙ ap (λ v. or_refused (left v m) next) is
+
+-- so does the solver's call, with its count beside what it answers; and what it refuses is printed
+module _ (sheet m : List ℕ) {s : OrUnsolved} {x : List ℕ} (leaves : Leaves (counting sheet m) s x)
+    (next : List ℕ → List ℕ) where
+  pub solved_goes_on : (n : ℕ) → answer_of s ≡ Ok n → or_refused (solving sheet m) next ≡ next (take n x)
+  solved_goes_on n is = goes_on n next (uncounted sheet (in_place_lem m) leaves) is
+
+  pub unsolved_refused : (r : Refusal) → answer_of s ≡ Err r
+      → or_refused (solving sheet m) next ≡ refused_text (turned_away 0 r)
+  unsolved_refused r is =
+      refused-on (solving sheet m) r next (sym (uncounted sheet (in_place_lem m) leaves).answer ∙ is)
 
 -- where reading failed, nothing is printed, whatever the reader had
 pub nothing_printed : {E : Type 0} (before : Option (List ℕ)) (r : Result (Unit {0}) E) → IsErr r → (text : List ℕ)

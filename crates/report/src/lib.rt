@@ -7,8 +7,8 @@ ghost use Rattle.calls.specs.Values.{number_values, turned_away};
 ghost use Rattle.calls.specs.Bench.{judgement_values};
 ghost use Rattle.listing.specs.Most.{most_listing};
 ghost use Rattle.calls.specs.Table.{refused_text, or_refused, verdict_text, listing_on};
-ghost use Rattle.calls.specs.Table.{table_text, form_text, converted_text, judge_text};
-ghost use Rattle.calls.specs.Printing.{PrintsTable, PrintsForm, PrintsConverted, PrintsVerdict};
+ghost use Rattle.calls.specs.Table.{table_text, form_text, converted_text, heaviest_text, judge_text};
+ghost use Rattle.calls.specs.Printing.{PrintsTable, PrintsForm, PrintsConverted, PrintsRing, PrintsVerdict};
 ghost use Rattle.files.specs.Whole.{opened_remaining, Prints};
 ghost use Rattle.report.specs.Run.{left, IsRead, ReadsFirst, PrintsWhat};
 
@@ -71,10 +71,10 @@ fn print_listing<W: Write>(output: &mut W, sheet: &[u8], table: &[u16]) -> io::R
 fn print_table<W: Write>(output: &mut W, sheet: &[u8]) -> io::Result<()>
     ensures { Prints (W.contents output.old) (W.contents output.new) result (table_text sheet.now) }
 {
-    let mut solved = [0u16; opening::TABLE_MINUTES];
-    match opening::solve_sheet(sheet, &mut solved) {
-        Ok(minutes) => print_listing(output, sheet, &solved[..minutes]),
-        Err(refusal) => print_refusal(output, refusal),
+    let mut table = [0u16; opening::TABLE_MINUTES];
+    match opening::solve_sheet(sheet, &mut table) {
+        Ok(solved) => print_listing(output, sheet, &table[..solved.minutes]),
+        Err(unsolved) => print_refusal(output, unsolved.refusal),
     }
 }
 
@@ -93,6 +93,15 @@ fn print_converted<W: Write>(output: &mut W, sheet: &[u8]) -> io::Result<()>
 {
     let mut page = [0u8; opening::SHEET_BYTES];
     let written = opening::convert_sheet(sheet, &mut page);
+    print_written(output, written, &page)
+}
+
+// The heaviest sheet that a line asks for. It is no longer than a sheet may be.
+fn print_ring<W: Write>(output: &mut W, line: &[u8]) -> io::Result<()>
+    ensures { Prints (W.contents output.old) (W.contents output.new) result (heaviest_text line.now) }
+{
+    let mut page = [0u8; opening::SHEET_BYTES];
+    let written = opening::write_ring(line, &mut page);
     print_written(output, written, &page)
 }
 
@@ -147,6 +156,20 @@ pub fn convert<R: Read, W: Write>(input: &mut R, output: &mut W) -> io::Result<(
     let mut sheet = [0u8; SHEET_ROOM];
     let n = files::read_full(input, &mut sheet)?;
     print_converted(output, &sheet[..n])
+}
+
+/// Reads a line `n,H` and prints the heaviest sheet of n events, the horizon H and no signal, or `refused N line L`.
+pub fn ring<R: Read, W: Write>(input: &mut R, output: &mut W) -> io::Result<()>
+    ensures text { IfSome (R.remaining input.old) (λ line.
+        Prints (W.contents output.old) (W.contents output.new) result (heaviest_text line)) }
+    ensures means { IfSome (R.remaining input.old) (λ line.
+        PrintsWhat (PrintsRing line) (W.contents output.old) (W.contents output.new) result) }
+    ensures order { ReadsFirst (W.contents output.old) (W.contents output.new) result
+        (IsRead (R.remaining input.old) (R.remaining input.new)) }
+{
+    let mut line = [0u8; SHEET_ROOM];
+    let n = files::read_full(input, &mut line)?;
+    print_ring(output, &line[..n])
 }
 
 // Reads a sheet and a listing, and prints the verdict on the table of the listing, or `refused N line L`. A file that

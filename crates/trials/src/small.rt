@@ -22,7 +22,7 @@ fn compare(sheet: &[u8]) -> Compared {
     let mut table = [0u16; exhaust::CELLS];
     match (opening::solve_sheet(sheet, &mut table), tried) {
         (Ok(_), Some(least)) if least == table => Compared::Table,
-        (Err(refusal), None) if refusal.cause == Cause::Inconsistent => Compared::NoTable,
+        (Err(unsolved), None) if unsolved.refusal.cause == Cause::Inconsistent => Compared::NoTable,
         _ => Compared::Differ,
     }
 }

@@ -15,7 +15,9 @@ fn handed_in(rt: &impl Print, sheet: &[u8], bytes: &[u8]) -> io::Result<()> {
 fn solved(rt: &impl Print, accepted: &Accepted) -> io::Result<()> {
     let sheet = accepted.sheet;
     let mut minutes = [0u16; opening::TABLE_MINUTES];
-    let solved = opening::solve_sheet(sheet, &mut minutes);
+    let solved = opening::solve_sheet(sheet, &mut minutes)
+        .map(|solved| solved.minutes)
+        .map_err(|unsolved| unsolved.refusal);
     match base::count(rt, "solved ", solved, minutes.len())? {
         Some(n) => {
             let table = &minutes[..n];

@@ -1,0 +1,9 @@
+// Reads a line `n,H` on standard input and prints the sheet of n events, the horizon H and no signal that keeps the solver
+// longest, or `refused N line L`.
+#![tactic(auto)]
+
+use std::io;
+
+fn main(rt: HostRuntime) -> io::Result<()> {
+    report::ring(&mut rt.stdin(), &mut rt.stdout())
+}
