@@ -71,7 +71,7 @@
  *
  * number is 0 if the call was not refused, or says why it was; line is a line of the sheet, with 18 and 19 of the
  * listing, and of opening_ring of what that reads, low byte first; minutes and bytes are as many as were written;
- * rounds are as many as the solver made; word is 0 pass, 1 Late, 2 Rule or 3 Unheard; of the events due, event u is bit
+ * rounds are as many as the solver took; word is 0 pass, 1 Late, 2 Rule or 3 Unheard; of the events due, event u is bit
  * u of the two bytes. Byte 0 is the lowest: (answer & 0xff) is the number. On a refusal all bytes from 3 on are 0, save
  * that the rounds stand beside number 13 too.
  *
@@ -310,9 +310,9 @@ static inline unsigned opening_line(uint64_t answer) { return (unsigned)(answer 
 /* Of the answers of opening_solve and opening_read_listing: how many minutes were written, n * 2^k, or 0 on a refusal. */
 static inline unsigned opening_minutes(uint64_t answer) { return (unsigned)(answer >> 24 & 0xffff); }
 
-/* Of the answer of opening_solve: how many rounds the solver made, the last one included, with number 13 too; 0 with
+/* Of the answer of opening_solve: how many rounds the solver took, the last one included, with number 13 too; 0 with
  * every other refusal. */
-static inline unsigned opening_rounds(uint64_t answer) { return (unsigned)(answer >> 40 & 0xffffff); }
+static inline uint32_t opening_rounds(uint64_t answer) { return (uint32_t)(answer >> 40 & 0xffffff); }
 
 /* Of the answer of opening_due: the events due, bit u for event u. 0 on a refusal too, so look at the number first. */
 static inline unsigned opening_events(uint64_t answer) { return (unsigned)(answer >> 24 & 0xffff); }

@@ -12,12 +12,12 @@ fail() {
   exit 1
 }
 
-# NAME SHIFT WIDTH of each `static inline unsigned NAME(uint64_t answer) { return (unsigned)(answer >> SHIFT & 0xff); }`;
-# no shift is one by 0, and each f is four bits
+# NAME SHIFT WIDTH of each `static inline TYPE NAME(uint64_t answer) { return (TYPE)(answer >> SHIFT & 0xff); }`, where
+# TYPE is unsigned or uint32_t; no shift is one by 0, and each f is four bits
 in_header() {
-  local head='^static inline unsigned (opening_[a-z_]+)\(uint64_t answer\) '
-  local body='\{ return \(unsigned\)\(answer( >> ([0-9]+))? & 0x(f+)\); \}$'
-  sed -nE "s/$head$body/\1 0\3 \4/p" "$header" | awk '{ print $1, $2 + 0, 4 * length($3) }' | sort
+  local head='^static inline (unsigned|uint32_t) (opening_[a-z_]+)\(uint64_t answer\) '
+  local body='\{ return \(\1\)\(answer( >> ([0-9]+))? & 0x(f+)\); \}$'
+  sed -nE "s/$head$body/\2 0\4 \5/p" "$header" | awk '{ print $1, $2 + 0, 4 * length($3) }' | sort
 }
 
 # the same of each `opening_name a = bits a SHIFT WIDTH`

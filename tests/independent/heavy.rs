@@ -1,4 +1,4 @@
-//! Wrong programs about how long a sheet can keep us (02, point 8), to see that they are noticed: libraries whose
+//! Wrong programs about how long a sheet can keep us, to see that they are noticed: libraries whose
 //! solver counts other rounds or puts their count elsewhere, by the mode without a word; and writers of the heaviest
 //! sheets, as libraries by that mode and as programs by the mode `ring`.
 

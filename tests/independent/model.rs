@@ -1219,7 +1219,7 @@ pub fn same_lawful_rows(one: &Net, other: &Net) -> bool {
 
 // ---------------------------------------------------------------- The heaviest sheet
 
-/// Document 02, point 8: from one line `n,H`, "refused with 1 to 5 or 10 as a sheet of one line is", a sheet "without
+/// From one line `n,H`, "refused with 1 to 5 or 10 as a sheet of one line is", a sheet "without
 /// signals that takes exactly (n - 1) × H + 1 rounds".
 pub fn ring(line: &[u8]) -> Result<Vec<u8>, Refusal> {
     if line.len() > SHEET_MOST {

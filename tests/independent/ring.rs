@@ -1,5 +1,5 @@
 //! The mode `ring`: a program that reads one line `n,H` on standard input and prints the heaviest sheet for n events
-//! and the horizon H (02, point 8), against the model; and the library beside it, which is to write the same, and to
+//! and the horizon H, against the model; and the library beside it, which is to write the same, and to
 //! solve it in as many rounds as were promised.
 
 use crate::gen::Rng;

@@ -1,4 +1,4 @@
-//! A second writer of the heaviest sheets (02, point 8), which finds all faults of a line and then says which one
+//! A second writer of the heaviest sheets, which finds all faults of a line and then says which one
 //! counts; and wrong ones like it, for libraries and for programs.
 
 use crate::model::Refusal;

@@ -1,4 +1,4 @@
-//! The modes `count` and `count-files`: the count of rounds (02, point 8) and the table by a run that passes over
+//! The modes `count` and `count-files`: the count of rounds and the table by a run that passes over
 //! rounds, by plain rounds, by the solver's C call, and by the model.
 
 use crate::gen::Rng;

@@ -11,7 +11,7 @@ use Rattle.dispatch.specs.HeardText.{is_heard_lem, heard_in}
 use Rattle.calls.specs.Values.{Values, number_values}
 use Rattle.calls.specs.Lent.{Handed, Lent, in_place_lem}
 use Rattle.calls.specs.Calls.{judging, solving_into, listing_of, housed, converting, ringing}
-use Rattle.calls.specs.Counting.{rounds_made}
+use Rattle.calls.specs.Counting.{rounds_taken}
 use Rattle.calls.specs.Recover.{recovering_into}
 use Rattle.calls.specs.Bench.{Finding, no_finding, judgement_values, bench_due}
 use Rattle.calls.specs.Answers.{Answers, AnswersInto}
@@ -67,7 +67,7 @@ module _ (sheet : List ℕ) where
         })
 
   pub solve-clauses : (m : Lent) (v : Values ℕ) (k : ℕ) (x : List ℕ)
-      → v ≡ number_values (solving_into sheet m).answer → k ≡ rounds_made sheet m → x ≡ (solving_into sheet m).memory
+      → v ≡ number_values (solving_into sheet m).answer → k ≡ rounds_taken sheet m → x ≡ (solving_into sheet m).memory
       → record {
         refusals : AnswersInto sheet (solves m.room) m.before v x;
         none : RefusesNone sheet m v;

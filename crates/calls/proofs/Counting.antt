@@ -1,5 +1,5 @@
--- The rounds that are made are those that the network takes; none is made with a refusal other than 13; and their count
--- fits three bytes. Assumes nothing.
+-- The rounds that are counted are those that the network takes; with a refusal other than 13 there are none; and their
+-- count fits three bytes. Assumes nothing.
 use mathlib.Core.Path.{◌≡◌, refl, sym, ◌∙◌, ap}
 use mathlib.Core.Logic.{inl, inr}
 use mathlib.Core.List.{List, [], ◌∷◌}
@@ -22,7 +22,7 @@ use Rattle.calls.specs.Values.{OrRefusal, number_values}
 use Rattle.calls.specs.Call.{Tests, Leaves}
 use Rattle.calls.specs.Lent.{Lent}
 use Rattle.calls.specs.Calls.{enough, rests, solving_into}
-use Rattle.calls.specs.Counting.{OrUnsolved, answer_of, rounds_of, counted_as, rounds_made, counting_into}
+use Rattle.calls.specs.Counting.{OrUnsolved, answer_of, rounds_of, counted_as, rounds_taken, counting_into}
 use Rattle.calls.specs.Solves.{CountsRounds}
 use Rattle.calls.proofs.Call.{Ends, faulty, failed, worked, ends, call-refused, call_fails, call_works}
 use Rattle.calls.proofs.Small.{scenarios_few}
@@ -41,12 +41,12 @@ rounds-counted k (Err r) = refl
 module _ (sheet : List ℕ) (m : Lent) {r : OrUnsolved} {x : List ℕ} (h : Leaves (counting_into sheet m) r x) where
   pub uncounted : Leaves (solving_into sheet m) (answer_of r) x
   uncounted = record {
-    answer = ap answer_of h.answer ∙ answer-counted (rounds_made sheet m) (solving_into sheet m).answer;
+    answer = ap answer_of h.answer ∙ answer-counted (rounds_taken sheet m) (solving_into sheet m).answer;
     memory = h.memory;
   }
 
-  pub rounds-left : rounds_of r ≡ rounds_made sheet m
-  rounds-left = ap rounds_of h.answer ∙ rounds-counted (rounds_made sheet m) (solving_into sheet m).answer
+  pub rounds-left : rounds_of r ≡ rounds_taken sheet m
+  rounds-left = ap rounds_of h.answer ∙ rounds-counted (rounds_taken sheet m) (solving_into sheet m).answer
 
 -- 240 cells move at most, and none beyond 10,080
 rounds_few : (Γ : Network) → WellFormed Γ → (solve Γ).rounds < 16777216
@@ -67,14 +67,14 @@ module _ (sheet : List ℕ) (m : Lent) where
   abbrev work : Network → ℕ
   work Γ = (solve Γ).rounds
 
-  pub rounds-refused : (r : Refusal) → read sheet ≡ Err r → rounds_made sheet m ≡ 0
+  pub rounds-refused : (r : Refusal) → read sheet ≡ Err r → rounds_taken sheet m ≡ 0
   rounds-refused r p = sym (call-refused (λ _. 0) sheet tests work r p)
 
   module _ (Γ : Network) (a : read sheet ≡ Ok Γ) where
-    pub rounds-short : m.room < cells Γ → rounds_made sheet m ≡ 0
+    pub rounds-short : m.room < cells Γ → rounds_taken sheet m ≡ 0
     rounds-short h = sym (call_fails (λ _. 0) sheet tests work Γ a _ (inl (lt-leb (cells Γ) m.room h, refl)))
 
-    pub rounds-solved : cells Γ ≤ m.room → rounds_made sheet m ≡ (solve Γ).rounds
+    pub rounds-solved : cells Γ ≤ m.room → rounds_taken sheet m ≡ (solve Γ).rounds
     rounds-solved h = sym (call_works (λ _. 0) sheet tests work Γ a (le-leb (cells Γ) m.room h, tt))
 
   -- with room, the call succeeds or refuses with 13
@@ -88,7 +88,7 @@ module _ (sheet : List ℕ) (m : Lent) where
             (ap (λ (l : _). (number_values l.answer).number) (refuses_none sheet m a room ((unrested sheet m a).0 e)))
       ]
 
-  pub counts_rounds : CountsRounds sheet m (number_values (solving_into sheet m).answer) (rounds_made sheet m)
+  pub counts_rounds : CountsRounds sheet m (number_values (solving_into sheet m).answer) (rounds_taken sheet m)
   counts_rounds = record {
     counted = λ Γ r room.
         let here : read sheet ≡ Ok Γ = rw r.network at r.accepted in
@@ -98,15 +98,15 @@ module _ (sheet : List ℕ) (m : Lent) where
     where
       by_end : ((number_values (solving_into sheet m).answer).number ≡ 0 → ⊥)
           → ((number_values (solving_into sheet m).answer).number ≡ 13 → ⊥)
-          → Ends (λ _. 0) sheet tests work → rounds_made sheet m ≡ 0
+          → Ends (λ _. 0) sheet tests work → rounds_taken sheet m ≡ 0
       by_end n none (faulty r p e) = sym e
       by_end n none (failed a r f e) = sym e
       by_end n none (worked a h e) = absurd (answered a (leb-true (cells net) m.room h.0) n none)
 
-  pub made_few : rounds_made sheet m < 16777216
-  made_few = by_end (ends (λ _. 0) sheet tests work)
+  pub taken_few : rounds_taken sheet m < 16777216
+  taken_few = by_end (ends (λ _. 0) sheet tests work)
     where
-      by_end : Ends (λ _. 0) sheet tests work → rounds_made sheet m < 16777216
+      by_end : Ends (λ _. 0) sheet tests work → rounds_taken sheet m < 16777216
       by_end (faulty r p e) = omega (arith, e)
       by_end (failed a r f e) = omega (arith, e)
       by_end (worked a h e) = omega (arith, e, rounds_few net (accepted_well_formed sheet a).0)

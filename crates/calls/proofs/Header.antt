@@ -22,7 +22,7 @@ use Rattle.conversion.specs.FormerRules.{read_as_max_lem}
 use Rattle.calls.specs.Values.{OrRefusal, Values, number_values}
 use Rattle.calls.specs.Lent.{as_bytes, in_pairs}
 use Rattle.calls.specs.Calls.{judging_tests, housed, converting, ringing}
-use Rattle.calls.specs.Counting.{solved_values, rounds_of, rounds_made}
+use Rattle.calls.specs.Counting.{solved_values, rounds_of, rounds_taken}
 use Rattle.calls.specs.Bench.{bench_judgement, bench_solving, bench_counting, bench_listed, bench_due}
 use Rattle.calls.specs.Bench.{bench_recovering}
 use Rattle.calls.specs.Bench.{Finding, finding, no_finding}
@@ -35,7 +35,7 @@ use Rattle.calls.specs.Header.{opening_number, opening_line, JudgeHolds, CountHo
 use Rattle.calls.proofs.Call.{Ends, faulty, failed, worked, ends}
 use Rattle.calls.proofs.Small.{verdict_small, solving_small, listing_small, house_small, playing_small}
 use Rattle.calls.proofs.Small.{recovering_small, converting_small, text_small}
-use Rattle.calls.proofs.Counting.{answer-counted, rounds-counted, made_few}
+use Rattle.calls.proofs.Counting.{answer-counted, rounds-counted, taken_few}
 use Rattle.calls.proofs.Numbers.{numbers}
 use Rattle.calls.proofs.Ringing.{ring-answers, ringing_small}
 
@@ -140,9 +140,9 @@ module _ (sheet b : List ℕ) where
       SolverHolds (packed_rounds_lem (solved_values r) (rounds_of r)) (solved_values r) (rounds_of r)
   header-solver =
       let a = (bench_solving sheet b).answer in
-      let k = rounds_made sheet (in_pairs b) in
+      let k = rounds_taken sheet (in_pairs b) in
       rw (answer-counted k a, rounds-counted k a)
-      (rounds-hold (number_values a) k solver_count (made_few sheet (in_pairs b)))
+      (rounds-hold (number_values a) k solver_count (taken_few sheet (in_pairs b)))
 
   pub header-lister : (m : List ℕ) → Short (minutes_of b)
       → let v = number_values (bench_listed sheet b m).answer in CountHolds (packed_count_lem v) v

@@ -186,7 +186,8 @@ printing = record {
   ring = λ line. record {
     refused = λ r f.
         refused-on (ringing line (page longest)) r (λ t. t)
-        (ap (λ (l : Left (OrRefusal ℕ)). l.answer) (sym (ring-refused line (page longest) r ((line_refused_iff line r).1 f))));
+        (ap (λ (l : Left (OrRefusal ℕ)). l.answer)
+        (sym (ring-refused line (page longest) r ((line_refused_iff line r).1 f))));
     ring = λ n h a.
         subst (Heaviest n h)
         (sym (wrote_on (ringing line (page longest)) (ring_text n h) (page longest) (λ t. t)

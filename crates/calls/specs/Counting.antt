@@ -29,15 +29,15 @@ abbrev pub solved_values : OrUnsolved → Values ℕ
 solved_values r = number_values (answer_of r)
 
 module _ (sheet : List ℕ) (m : Lent) where
-  -- how many rounds are made: none of a sheet that is refused or for memory that is too short
-  abbrev pub rounds_made : ℕ
-  rounds_made = call (λ _. 0) sheet (λ Γ. enough m (cells Γ) ∷ []) (λ Γ. (solve Γ).rounds)
+  -- how many rounds it takes: none where the sheet is refused or the memory is too short
+  abbrev pub rounds_taken : ℕ
+  rounds_taken = call (λ _. 0) sheet (λ Γ. enough m (cells Γ) ∷ []) (λ Γ. (solve Γ).rounds)
 
   -- solving, with the count
   abbrev pub counting_into : Left OrUnsolved
   counting_into =
       let l = solving_into sheet m in
-      record { answer = counted_as rounds_made l.answer; memory = l.memory }
+      record { answer = counted_as rounds_taken l.answer; memory = l.memory }
 
 abbrev pub counting : List ℕ → List ℕ → Left OrUnsolved
 counting sheet m = counting_into sheet (in_place_lem m)

@@ -1,6 +1,7 @@
 -- The three demands, as statements about every sheet, table and lent buffer. They speak of the definitions that the
 -- calls' contracts are equations with: `summary`, `judgement`, `solving_into` and `listed` (Calls), in `Numbers` and
--- `Benched` those of all calls. What is said here of a call's definition each call's contract says of its answer.
+-- `Benched` those of all calls that read a sheet. What is said here of a call's definition each call's contract says of
+-- its answer.
 use Rattle.std.specs.Prelude.{◌≡◌, ◌↔◌, true, List, [], ℕ, ◌≤◌, ◌<◌, length, get_or, Err}
 use Rattle.std.proofs.Math.Option.{none}
 use Rattle.refusal.specs.Refusal.{turn_of}
@@ -36,7 +37,7 @@ use Rattle.conversion.specs.Rows.{are_fix}
 use Rattle.calls.specs.Values.{number_values}
 use Rattle.calls.specs.Lent.{Lent, in_place_lem}
 use Rattle.calls.specs.Calls.{summary, judgement, solving_into, listed}
-use Rattle.calls.specs.Counting.{rounds_made}
+use Rattle.calls.specs.Counting.{rounds_taken}
 use Rattle.calls.specs.Bench.{judgement_values}
 use Rattle.calls.specs.Answers.{Reads}
 use Rattle.calls.specs.Reader.{AcceptsLayout, RefusesFault, CountsContents}
@@ -49,8 +50,8 @@ use Rattle.calls.specs.Numbers.{minutes, Numbers}
 use Rattle.calls.specs.Benched.{Benched}
 
 pub record Demands : Type 0 where
-  -- demand 1: every call has one of its defined answers, by its contract; which numbers and lines these are, and where
-  -- each comes; "a refusal leaves each lent buffer unaltered"
+  -- demand 1: every call has one of its defined answers, by its contract; which numbers and lines these are of a sheet,
+  -- and where each comes; "a refusal leaves each lent buffer unaltered"
   pub numbers : Numbers
   -- of the reader's call
   pub reads : (sheet : List ℕ) → AcceptsLayout sheet (summary sheet)
@@ -120,7 +121,7 @@ pub record Demands : Type 0 where
       → let l = solving_into sheet m in WritesLeast sheet m (number_values l.answer) l.memory
   -- and how long a sheet keeps it
   pub rounds : (sheet : List ℕ) (m : Lent)
-      → CountsRounds sheet m (number_values (solving_into sheet m).answer) (rounds_made sheet m)
+      → CountsRounds sheet m (number_values (solving_into sheet m).answer) (rounds_taken sheet m)
   -- of the listing's call
   pub lists : (sheet t m : List ℕ)
       → let l = listed sheet t m in

@@ -1,9 +1,8 @@
 -- The values of an answer; what a call is; how tables are handed in and memory is lent; what the public calls answer,
 -- the solver's count of rounds, the player's, that of reading a listing back and those of the bench; what the programs
--- print. Then what these answers
--- mean: what each call can answer, by its number and line; what its answer says where it does not refuse; what a label
--- means; the demands; and what holds of the house form, of converting, of the heaviest sheets, of reactions and of
--- what is printed; and the trial sheets.
+-- print. Then what these answers mean: what each call can answer, by its number and line; what its answer says where it
+-- does not refuse; what a label means; the demands; and what holds of the house form, of converting, of the heaviest
+-- sheets, of reactions and of what is printed; and the trial sheets.
 pub mod Values
 pub mod Call
 pub mod Lent

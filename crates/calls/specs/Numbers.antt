@@ -1,5 +1,6 @@
--- Demand 1: each public call's own refusals in checking order, with their causes, and that it answers by them (01,
--- Refused sheets and calls; 02, points 1, 2, 4 and 7). A later call is one list and one field more.
+-- Demand 1: the own refusals of each public call that reads a sheet, in checking order, with their causes, and that it
+-- answers by them (01, Refused sheets and calls; 02, points 1, 2, 4 and 7). A later call is one list and one field
+-- more. What holds so of the call that reads a line stands in `Ringing`.
 use Rattle.std.specs.Prelude.{◌≡◌, List, [], ◌∷◌, ℕ, ◌*◌, ◌/◌, ◌<◌, length}
 use Rattle.pairs.specs.Pairs.{minutes_of}
 use Rattle.network.specs.Limits as L

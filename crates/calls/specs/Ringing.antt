@@ -1,5 +1,5 @@
--- What the answer of the call means that writes the heaviest sheet for a line: one with so many events, that horizon and
--- no signal which keeps the solver longest.
+-- What the answer of the call means that writes the heaviest sheet for a line: no sheet with so many events, that
+-- horizon and no signal keeps the solver longer.
 use Rattle.std.specs.Prelude.{◌≡◌, ◌↔◌, List, [], ◌∷◌, ℕ, ◌≤◌, length, Ok, Err}
 use Rattle.refusal.specs.declared.Refusal.{Refusal}
 use Rattle.network.specs.Limits as L

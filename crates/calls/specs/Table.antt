@@ -1,7 +1,7 @@
 -- What the programs print, by the calls that they make: `table` prints "the solver's listing, or `refused N line L`
 -- with the number and the line" (01, The printed listing), `house` the house form (02, point 2), `judge` the verdict on
--- the table of a listing (02, point 4), `convert` the converted sheet (02, point 7), and `ring` the heaviest sheet that a
--- line asks for. Each lends the calls memory that is long enough.
+-- the table of a listing (02, point 4), `convert` the converted sheet (02, point 7), and `ring` the heaviest sheet that
+-- a line asks for. Each lends the calls memory that is long enough.
 use Rattle.std.specs.Prelude.{true, false, List, [], ◌∷◌, ◌++◌, ℕ, zero, suc, eqb, take, replicate}
 use Rattle.prelude.specs.Bytes.{ascii}
 use Rattle.text.specs.Lines.{line_feed}
@@ -61,8 +61,8 @@ abbrev pub judge_on : List ℕ → List ℕ → List ℕ → List ℕ
 judge_on m sheet printed =
     or_refused (recovering sheet printed m) (λ t. verdict_text (judgement_values (judgement sheet t)))
 
-abbrev pub ring_on : List ℕ → List ℕ → List ℕ
-ring_on page line = or_refused (ringing line page) (λ text. text)
+abbrev pub heaviest_on : List ℕ → List ℕ → List ℕ
+heaviest_on page line = or_refused (ringing line page) (λ text. text)
 
 -- as the programs lend them
 abbrev pub table_text : List ℕ → List ℕ
@@ -75,7 +75,7 @@ abbrev pub converted_text : List ℕ → List ℕ
 converted_text sheet = converted_on (replicate longest 0) sheet
 
 abbrev pub heaviest_text : List ℕ → List ℕ
-heaviest_text line = ring_on (replicate longest 0) line
+heaviest_text line = heaviest_on (replicate longest 0) line
 
 abbrev pub judge_text : List ℕ → List ℕ → List ℕ
 judge_text sheet printed = judge_on (replicate L.cells 0) sheet printed

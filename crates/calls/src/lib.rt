@@ -23,7 +23,7 @@ pub struct Counts {
 pub struct Solved {
     /// So many minutes stand in the table: one for each event in each case.
     pub minutes: usize,
-    /// So many rounds were made, the last of which raised nothing.
+    /// It took so many rounds, the last of which raised nothing.
     pub rounds: u32,
 }
 
@@ -31,8 +31,7 @@ pub struct Solved {
 #[derive(Clone, Copy)]
 pub struct Unsolved {
     pub refusal: Refusal,
-    /// Where no good table exists, so many rounds showed it, the last of which passed a limit. With every other refusal
-    /// none was made.
+    /// With 13 it took so many rounds, the last of which passed a limit; with every other refusal 0.
     pub rounds: u32,
 }
 

@@ -19,8 +19,8 @@ use Rattle.refusal.specs.Refusal.{refusal}
 use Rattle.refusal.specs.declared.Cause.{Cause}
 use Rattle.refusal.specs.declared.Refusal.{Refusal}
 use Rattle.line.specs.Answers.{answer}
-use Rattle.line.specs.TwoCounts.{two_counts_tests, pair_of}
-use Rattle.line.proofs.TwoCounts.{pair-read}
+use Rattle.line.specs.TwoCounts.{two_counts_tests, two_counts_of}
+use Rattle.line.proofs.TwoCounts.{two_counts-read}
 use Rattle.sheet.specs.Reading.{longest, on_line}
 use Rattle.heaviest.specs.Asks.{Asks}
 use Rattle.heaviest.specs.Reading.{event_range, horizon_range, alone, reading}
@@ -36,10 +36,10 @@ module _ (text : List ℕ) where
   all_hold f g (suc j) = g
 
   -- where they do, the line asks for its two numbers
-  asks : Hold (tests text 0) → Hold (tests text 1) → Asks text (pair_of fs).first (pair_of fs).second
+  asks : Hold (tests text 0) → Hold (tests text 1) → Asks text (two_counts_of fs).first (two_counts_of fs).second
   asks f g =
       let two = two_counts_tests event_range horizon_range fs in
-      let p = pair-read event_range horizon_range fs (none_fails two f.1) in
+      let p = two_counts-read event_range horizon_range fs (none_fails two f.1) in
       let end : length text ≤ after_line text 0 =
       ltb-false (after_line text 0) (length text) (not-true (ltb (after_line text 0) (length text)) g.0) in
       record {
@@ -82,14 +82,15 @@ module _ (text : List ℕ) where
 
     -- by what fails on each of the two lines
     behind : Hold (tests text 0) → (o : Option Cause) → first_failing_lem (tests text 1) ≡ o
-        → Answers (on_line 2 (answer o ((pair_of fs).first, (pair_of fs).second)))
+        → Answers (on_line 2 (answer o ((two_counts_of fs).first, (two_counts_of fs).second)))
     behind f (some c) e = on_second f c e
     behind f none e =
         let g = hold (tests text 1) e in
         (short, all_hold f g, asks f g)
 
     first : (o : Option Cause) → first_failing_lem (tests text 0) ≡ o
-        → Answers (alone text (on_line 1 (answer o (record { pair = pair_of fs; length = length (line_at text 0) }))))
+        → Answers (alone text (on_line 1
+        (answer o (record { counts = two_counts_of fs; length = length (line_at text 0) }))))
     first (some c) e = on_first c e
     first none e = behind (hold (tests text 0) e) (first_failing_lem (tests text 1)) refl
 

@@ -14,10 +14,10 @@ use Rattle.refusal.specs.Refusal.{refusal}
 use Rattle.refusal.specs.declared.Cause.TheVariants as C
 use Rattle.refusal.specs.declared.Refusal.{Refusal}
 use Rattle.network.specs.Limits as L
-use Rattle.line.specs.TwoCounts.{two_counts_tests, pair_of, pair_at}
-use Rattle.line.specs.declared.pair.PairLine.{PairLine}
+use Rattle.line.specs.TwoCounts.{two_counts_tests, two_counts_of, two_counts_at}
+use Rattle.line.specs.declared.two_counts.CountsLine.{CountsLine}
 use Rattle.line.proofs.Refusals.{answer-ok}
-use Rattle.line.proofs.TwoCounts.{pair-read}
+use Rattle.line.proofs.TwoCounts.{two_counts-read}
 use Rattle.sheet.specs.Reading.{longest, on_line}
 use Rattle.sheet.proofs.ReadLine.{on_line-ok}
 use Rattle.heaviest.specs.Asks.{fewest}
@@ -30,28 +30,30 @@ module _ (text : List ℕ) where
   read-long h = rw (reading, lt-leb (length text) longest h)
 
   -- the first line
-  abbrev pub first : Result PairLine Refusal
-  first = on_line 1 (pair_at text event_range horizon_range)
+  abbrev pub first : Result CountsLine Refusal
+  first = on_line 1 (two_counts_at text event_range horizon_range)
 
   -- what is known of its two numbers, and of its length
-  pub record First (l : PairLine) : Type 0 where
-    pub some : fewest ≤ l.pair.first
-    pub few : l.pair.first ≤ L.events
-    pub horizon : l.pair.second ≤ L.horizon
+  pub record First (l : CountsLine) : Type 0 where
+    pub some : fewest ≤ l.counts.first
+    pub few : l.counts.first ≤ L.events
+    pub horizon : l.counts.second ≤ L.horizon
     pub behind : l.length + 1 ≡ after_line text 0
     pub inside : l.length + 1 ≤ length text
 
-  pub first-known : (l : PairLine) → first ≡ Ok l → First l
+  pub first-known : (l : CountsLine) → first ≡ Ok l → First l
   first-known l e =
       let fs = fields (line_at text 0) in
-      let read : PairLine = record { pair = pair_of fs; length = length (line_at text 0) } in
+      let read : CountsLine = record { counts = two_counts_of fs; length = length (line_at text 0) } in
       let w = answer-ok (first_failing_lem (tests text 0)) read l
-      (on_line-ok 1 (pair_at text event_range horizon_range) l (sym e)) in
+      (on_line-ok 1 (two_counts_at text event_range horizon_range) l (sym e)) in
       let t = hold (tests text 0) w.0 in
-      let p = pair-read event_range horizon_range fs (none_fails (two_counts_tests event_range horizon_range fs) t.1) in
-      let n = ap (λ (l : PairLine). l.pair.first) w.1 in
-      let h = ap (λ (l : PairLine). l.pair.second) w.1 in
-      let size = ap (λ (l : PairLine). l.length) w.1 in
+      let p =
+      two_counts-read event_range horizon_range fs
+      (none_fails (two_counts_tests event_range horizon_range fs) t.1) in
+      let n = ap (λ (l : CountsLine). l.counts.first) w.1 in
+      let h = ap (λ (l : CountsLine). l.counts.second) w.1 in
+      let size = ap (λ (l : CountsLine). l.length) w.1 in
       record {
         some = omega (arith, p.first, n);
         few = omega (arith, p.first, n);
@@ -65,14 +67,14 @@ module _ (text : List ℕ) where
     unfolding reading
     read_first r e = rw (reading, le-leb (length text) longest short, e)
 
-    module _ (l : PairLine) (e : first ≡ Ok l) where
+    module _ (l : CountsLine) (e : first ≡ Ok l) where
       pub read_more : l.length + 1 < length text → reading text ≡ Err (refusal C.TrailingBytes 2)
       unfolding reading
       read_more h =
           let more = lt-ltb (after_line text 0) (length text) (omega (arith, (first-known l e).behind)) in
           rw (reading, le-leb (length text) longest short, e, more)
 
-      pub read_all : length text ≤ l.length + 1 → reading text ≡ Ok (l.pair.first, l.pair.second)
+      pub read_all : length text ≤ l.length + 1 → reading text ≡ Ok (l.counts.first, l.counts.second)
       unfolding reading
       read_all h =
           let end = le-ltb (after_line text 0) (length text) (omega (arith, (first-known l e).behind)) in

@@ -1,4 +1,4 @@
--- The network of a sheet that contains a ring is a positive cycle: it is known from what it contains. Assumes nothing.
+-- The network of a sheet that contains a ring is a negative cycle: it is known from what it contains. Assumes nothing.
 use mathlib.Core.Path.{◌≡◌, refl, ◌∙◌}
 use mathlib.Core.Logic.{inl, inr}
 use mathlib.Core.List.{List, []}
@@ -12,7 +12,7 @@ use Rattle.network.specs.declared.Network.{Network}
 use Rattle.layout.specs.Contains.{Bears, Means, Contains}
 use Rattle.layout.proofs.Framed.{means_one}
 use Rattle.heaviest.specs.RingText.{letter_name, no_sooner_row, ring_contents}
-use Rattle.heaviest.proofs.PositiveCycle.{no_sooner, PositiveCycle}
+use Rattle.heaviest.proofs.NegativeCycle.{no_sooner, NegativeCycle}
 use Rattle.heaviest.proofs.Kept.{name_at, rule_at, names_count, rules_count, names_once}
 
 module _ {n h : ℕ} {sheet : List ℕ} {Γ : Network} (some : 2 ≤ n) (C : Contains sheet Γ (ring_contents n h)) where
@@ -32,8 +32,8 @@ module _ {n h : ℕ} {sheet : List ℕ} {Γ : Network} (some : 2 ≤ n) (C : Con
     label = refl;
   })
 
-  pub positive_cycle : PositiveCycle (n - 1) Γ
-  positive_cycle = record {
+  pub negative_cycle : NegativeCycle (n - 1) Γ
+  negative_cycle = record {
     some = omega arith;
     events = omega (arith, C.events, names_count n h);
     signals = C.signals;

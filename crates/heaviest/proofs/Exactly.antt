@@ -16,9 +16,9 @@ use Rattle.text.proofs.Decimal.{length-decimal_16}
 use Rattle.text.proofs.Numbers.{magnitude-decimal, plain-decimal}
 use Rattle.text.proofs.Written.{IsRead, is_read}
 use Rattle.refusal.specs.declared.Refusal.{Refusal}
-use Rattle.line.specs.TwoCounts.{pair_of}
-use Rattle.line.specs.declared.pair.PairLine.{PairLine}
-use Rattle.line.proofs.TwoCounts.{pair-passes}
+use Rattle.line.specs.TwoCounts.{two_counts_of}
+use Rattle.line.specs.declared.two_counts.CountsLine.{CountsLine}
+use Rattle.line.proofs.TwoCounts.{two_counts-passes}
 use Rattle.sheet.specs.Reading.{longest}
 use Rattle.sheet.proofs.Fault.{fault_unique, no_fault}
 use Rattle.layout.proofs.Lengths.{length-line, length-field}
@@ -35,19 +35,19 @@ module _ {text : List ℕ} {n h : ℕ} (a : Asks text n h) where
       is_read text 0 (decimal n) (decimal h ∷ []) [] (plain-decimal n & plain-decimal h & tt)
       (a.written ∙ sym (append-nil (line (decimal n) (decimal h ∷ []))))
 
-  abbrev l : PairLine
-  l = record { pair = record { first = n; second = h }; length = length (line_at text 0) }
+  abbrev l : CountsLine
+  l = record { counts = record { first = n; second = h }; length = length (line_at text 0) }
 
   passes : first_failing_lem (tests text 0) ≡ none
   passes =
       rw (is.ends, is.fields_are)
-      (pair-passes event_range horizon_range n h a.some a.few (omega arith) a.horizon)
+      (two_counts-passes event_range horizon_range n h a.some a.few (omega arith) a.horizon)
 
-  pair : pair_of (fields (line_at text 0)) ≡ l.pair
-  pair = rw (is.fields_are, magnitude-decimal n, magnitude-decimal h)
+  counts : two_counts_of (fields (line_at text 0)) ≡ l.counts
+  counts = rw (is.fields_are, magnitude-decimal n, magnitude-decimal h)
 
   first-is : first text ≡ Ok l
-  first-is = rw (passes, pair)
+  first-is = rw (passes, counts)
 
   end : length text ≤ after_line text 0
   end = omega (arith, ap length is.behind, length-drop (after_line text 0) text)

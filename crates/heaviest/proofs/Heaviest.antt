@@ -1,4 +1,4 @@
--- The text of a ring is the heaviest sheet: accepted, its network a positive cycle, and so exactly (n - 1) * h + 1
+-- The text of a ring is the heaviest sheet: accepted, its network a negative cycle, and so exactly (n - 1) * h + 1
 -- rounds, the most. Assumes nothing.
 use mathlib.Core.Path.{◌≡◌, refl, ap}
 use Prim.Native.Nat.{ℕ, suc, ◌+◌, ◌-◌, ◌*◌, ◌≤◌}
@@ -11,10 +11,10 @@ use Rattle.layout.proofs.Accepted.{accepted_iff, network-contains}
 use Rattle.layout.proofs.Short.{length-text}
 use Rattle.heaviest.specs.RingText.{ring_contents, ring_text}
 use Rattle.heaviest.specs.Heaviest.{Heaviest}
-use Rattle.heaviest.proofs.PositiveCycle.{PositiveCycle}
+use Rattle.heaviest.proofs.NegativeCycle.{NegativeCycle}
 use Rattle.heaviest.proofs.Rounds.{cycle_takes, cycle_inconsistent, rounds_most}
 use Rattle.heaviest.proofs.Kept.{ring_keeps}
-use Rattle.heaviest.proofs.Cycle.{positive_cycle}
+use Rattle.heaviest.proofs.Cycle.{negative_cycle}
 
 pub ring_heaviest : (n h : ℕ) → 2 ≤ n → n ≤ L.events → h ≤ L.horizon → Heaviest n h (ring_text n h)
 unfolding ring_text
@@ -29,7 +29,7 @@ ring_heaviest n h some few low =
       short = omega (arith, length-text (ring_contents n h) keeps);
     } in
     let C = network-contains sheet layout in
-    let cycle : PositiveCycle (n - 1) Γ = positive_cycle some C in
+    let cycle : NegativeCycle (n - 1) Γ = negative_cycle some C in
     let count : suc ((n - 1) * Γ.horizon) ≡ (n - 1) * h + 1 =
     omega (arith, ap (λ (x : ℕ). (n - 1) * x) C.horizon) in
     record {

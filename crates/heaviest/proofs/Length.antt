@@ -12,7 +12,7 @@ use Rattle.layout.specs.Contents.{no_rule}
 use Rattle.layout.specs.Layout.{section, signal_line, rule_line}
 use Rattle.layout.proofs.Lengths.{length-field, length-count, length-section}
 use Rattle.heaviest.specs.RingText.{no_sooner_row, ring_contents, ring_text}
-use Rattle.heaviest.specs.RingText.{most_row, most_text}
+use Rattle.heaviest.specs.Most.{most_row, most_text}
 use Rattle.heaviest.proofs.Kept.{names_count, rules_count, each_name, each_row}
 
 length-row : (u v w : ℕ) → w ≤ 1 → length (rule_line (no_sooner_row u v w)) ≤ most_row

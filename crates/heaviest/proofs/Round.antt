@@ -1,4 +1,4 @@
--- One round of a positive cycle: from where its events are after i rounds it takes each to where it is after i + 1.
+-- One round of a negative cycle: from where its events are after i rounds it takes each to where it is after i + 1.
 -- Assumes nothing.
 use mathlib.Core.Path.{◌≡◌, refl, sym, ◌∙◌, ap}
 use mathlib.Core.Logic.{inl, inr}
@@ -22,11 +22,11 @@ use Rattle.rounds.proofs.Bounds.{cond_le}
 use Rattle.rounds.proofs.Near.{asks, wait_for}
 use Rattle.rounds.proofs.ByCell.{length-propagate, time-propagate}
 use Rattle.rounds.proofs.Rising.{raised-here}
-use Rattle.heaviest.proofs.PositiveCycle.{PositiveCycle, row_asks, happens_all, cells_are, one_scenario}
+use Rattle.heaviest.proofs.NegativeCycle.{NegativeCycle, row_asks, happens_all, cells_are, one_scenario}
 use Rattle.heaviest.proofs.Raised.{raised_after, after_rounds}
 use Rattle.heaviest.proofs.Raised.{raised_after-rises, raised_after-next, raised_after-first}
 
-module _ {m : ℕ} {Γ : Network} (r : PositiveCycle m Γ) where
+module _ {m : ℕ} {Γ : Network} (r : NegativeCycle m Γ) where
   place : (u : ℕ) → 0 * Γ.events + u ≡ u
   place u = rw zero-mul (omega arith)
 

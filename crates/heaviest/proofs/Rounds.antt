@@ -1,4 +1,4 @@
--- How many rounds a positive cycle takes. Where its events are after i rounds is known, so the last round is the first
+-- How many rounds a negative cycle takes. Where its events are after i rounds is known, so the last round is the first
 -- that takes one of them over the horizon, and no table is good. No network of as many events, the same horizon and no
 -- signal takes more. Assumes nothing.
 use mathlib.Core.Path.{◌≡◌, refl, sym, ◌∙◌, ap}
@@ -30,10 +30,10 @@ use Rattle.solver.proofs.Least.{solve-none}
 use Rattle.solver.proofs.Rounds.{solve_ends, counted, moving_most}
 use Rattle.heaviest.proofs.Raised.{raised_after, after_rounds, raised_after-none, raised_after-moves}
 use Rattle.heaviest.proofs.Raised.{raised_after-within, raised_after-passes}
-use Rattle.heaviest.proofs.PositiveCycle.{PositiveCycle, happens_all, cells_are}
+use Rattle.heaviest.proofs.NegativeCycle.{NegativeCycle, happens_all, cells_are}
 use Rattle.heaviest.proofs.Round.{propagate-after}
 
-module _ {m : ℕ} {Γ : Network} (r : PositiveCycle m Γ) where
+module _ {m : ℕ} {Γ : Network} (r : NegativeCycle m Γ) where
   at_event : (i u : ℕ) → u < suc m → get_or (after_rounds m i) u 0 ≡ raised_after m i u
   at_event i u l = get_d_tabulate (raised_after m i) (suc m) u 0 l
 

@@ -11,7 +11,8 @@ use Rattle.page.specs.Pushed.{Pushed}
 use Rattle.page.proofs.Pushed.{pushed_both, pushed_as}
 use Rattle.layout.specs.Layout.{section, rule_line}
 use Rattle.layout.specs.Most.{most_count}
-use Rattle.heaviest.specs.RingText.{letter_name, ring_row, ring_text, most_names, most_rows, most_text}
+use Rattle.heaviest.specs.RingText.{letter_name, ring_row, ring_text}
+use Rattle.heaviest.specs.Most.{most_names, most_rows, most_text}
 
 -- two sections that are absent
 none_behind : (t : List ℕ) → t ≡ t ++ [] ++ []

@@ -2,6 +2,7 @@
 -- heaviest; what reading a line answers, and why it is refused.
 pub mod Asks
 pub mod RingText
+pub mod Most
 pub mod Heaviest
 pub mod Reading
 pub mod Fault

@@ -1,15 +1,14 @@
 -- The sheet that is written for n events and the horizon h. Its events are a, b, c and so on, and it has no signals;
 -- its rules are `min` rows labelled `-`, of 0 from b on to each next event, and then of 1 from the last back to b. They
--- make a ring whose limits add up to 1, a positive cycle: each round moves one of its events by one minute.
-use Rattle.std.specs.Prelude.{cond, List, [], ◌∷◌, ℕ, suc, ◌+◌, ◌-◌, ◌*◌, eqb, pos}
+-- make a ring whose lower bounds add up to 1, a negative cycle of the distance graph: each round moves one of its
+-- events by one minute.
+use Rattle.std.specs.Prelude.{cond, List, [], ◌∷◌, ℕ, suc, ◌+◌, ◌-◌, eqb, pos}
 use Rattle.std.proofs.Math.Option.{none}
 use Prim.Native.Char.{code}
 use Rattle.prelude.specs.Bounded.{tabulate}
-use Rattle.network.specs.Limits as L
 use Rattle.network.specs.declared.Kind.TheVariants.{Min}
 use Rattle.layout.specs.Contents.{Rule, Contents}
 use Rattle.layout.specs.Layout.{text_of}
-use Rattle.layout.specs.Most.{most_count}
 
 -- event u: a, b, c and so on
 abbrev pub letter_name : ℕ → List ℕ
@@ -36,17 +35,3 @@ ring_contents n h = record {
 
 unfoldable pub ring_text : ℕ → ℕ → List ℕ
 ring_text n h = text_of (ring_contents n h)
-
--- how many bytes its parts have at most: its events, each a letter and the line feed; a row's kind, two letters, number
--- and label with the line feed; and the whole
-abbrev pub most_names : ℕ
-most_names = most_count 6 + 2 * L.events
-
-abbrev pub most_row : ℕ
-most_row = 3 + 2 + 2 + 6 + 3
-
-abbrev pub most_rows : ℕ
-most_rows = most_count 5 + most_row * (L.events - 1)
-
-abbrev pub most_text : ℕ
-most_text = most_count 7 + most_names + most_count 7 + most_rows

@@ -1,4 +1,4 @@
-//! From a line `n,H`, the sheet of n events and the horizon H that keeps the solver longest of all without signals.
+// From a line `n,H`, the heaviest sheet of n events, the horizon H and no signal: none keeps the solver longer.
 #![tactic(auto)]
 
 ghost use Rattle.std.specs.Prelude.{◌≡◌, [], ◌∷◌, map, ◌+◌, ◌≤◌, ◌<◌, length, MatchResult};
@@ -10,16 +10,17 @@ ghost use Rattle.network.specs.Limits as L;
 ghost use Rattle.layout.specs.Layout.{section, rule_line};
 ghost use Rattle.layout.specs.Most.{most_count};
 ghost use Rattle.heaviest.specs.Asks.{fewest};
-ghost use Rattle.heaviest.specs.RingText.{letter_name, no_sooner_row, most_row, most_text};
+ghost use Rattle.heaviest.specs.RingText.{letter_name, no_sooner_row};
+ghost use Rattle.heaviest.specs.Most.{most_row, most_text};
 ghost use Rattle.heaviest.specs.Reading.{reading};
 
-use line::pair::{self, Range};
+use line::two_counts::{self, Range};
 use network::Network;
 use page::Page;
 use refusal::{Cause, Refusal};
 
-/// No sheet that is written is longer.
-pub const LONGEST: usize = 325;
+// Room for every sheet that is written.
+const ROOM: usize = 325;
 
 // With one event none is left to go around.
 const EVENTS: Range = Range {
@@ -50,19 +51,19 @@ pub fn read(line: &[u8]) -> Result<Ring, Refusal>
     if sheet::LONGEST < line.len() {
         return Err(Refusal::without_line(Cause::TooLong));
     }
-    let asked = sheet::on_line(1, pair::pair_line(line, EVENTS, HORIZONS))?;
+    let asked = sheet::on_line(1, two_counts::counts_line(line, EVENTS, HORIZONS))?;
     if asked.length + 1 < line.len() {
         return Err(Refusal::at(Cause::TrailingBytes, 2));
     }
     Ok(Ring {
         // At most 16.
-        events: asked.pair.first as u8,
-        horizon: asked.pair.second,
+        events: asked.counts.first as u8,
+        horizon: asked.counts.second,
     })
 }
 
 // A section's line, or the horizon's: a word and a count.
-fn push_count(page: &mut Page<LONGEST>, word: &[u8], count: u16)
+fn push_count(page: &mut Page<ROOM>, word: &[u8], count: u16)
     requires { length page.old + most_count (length word.now) ≤ most_text }
     ensures { Pushed (most_count (length word.now)) page.old (line word.now (decimal count ∷ [])) page.new }
 {
@@ -73,7 +74,7 @@ fn push_count(page: &mut Page<LONGEST>, word: &[u8], count: u16)
 }
 
 // Event `to` comes no sooner than `least` minutes behind event `from`.
-fn push_row(page: &mut Page<LONGEST>, from: u8, to: u8, least: u16)
+fn push_row(page: &mut Page<ROOM>, from: u8, to: u8, least: u16)
     requires { (from < L.events) × (to < L.events) × (length page.old + most_row ≤ most_text) }
     ensures { Pushed most_row page.old (rule_line (no_sooner_row from to least)) page.new }
 {
@@ -88,10 +89,11 @@ fn push_row(page: &mut Page<LONGEST>, from: u8, to: u8, least: u16)
 impl Ring {
     ghost use Rattle.std.specs.Prelude.{◌-◌};
     ghost use Rattle.page.specs.HandedOut.{HandedOut};
-    ghost use Rattle.heaviest.specs.RingText.{ring_row, ring_text, most_names, most_rows};
+    ghost use Rattle.heaviest.specs.RingText.{ring_row, ring_text};
+    ghost use Rattle.heaviest.specs.Most.{most_names, most_rows};
 
     // The events: a letter a line.
-    fn push_events(&self, page: &mut Page<LONGEST>)
+    fn push_events(&self, page: &mut Page<ROOM>)
         requires { length page.old + most_names ≤ most_text }
         ensures { Pushed most_names page.old
             (section "events" (map (λ n. line n []) (tabulate self.now.events letter_name))) page.new }
@@ -104,7 +106,7 @@ impl Ring {
     }
 
     // The rules: from b on to each next event, and from the last back to b.
-    fn push_rows(&self, page: &mut Page<LONGEST>)
+    fn push_rows(&self, page: &mut Page<ROOM>)
         requires { length page.old + most_rows ≤ most_text }
         ensures { Pushed most_rows page.old
             (section "rules" (map rule_line (tabulate (self.now.events - 1) (ring_row (self.now.events - 1)))))
@@ -122,7 +124,7 @@ impl Ring {
     pub fn write(&self, out: &mut [u8]) -> Option<usize>
         ensures { HandedOut (ring_text self.now.events self.now.horizon) out.old out.new result }
     {
-        let mut page = Page::<LONGEST>::new();
+        let mut page = Page::<ROOM>::new();
         push_count(&mut page, b"horizon", self.horizon);
         self.push_events(&mut page);
         push_count(&mut page, b"signals", 0);

@@ -18,8 +18,8 @@ use Rattle.text.proofs.Numbers.{is_number_decimal, in_range-decimal, decimal-mag
 use Rattle.refusal.specs.declared.Cause.TheVariants as C
 use Rattle.line.specs.Tests.{count_tests}
 use Rattle.line.specs.Answers.{passing}
-use Rattle.line.specs.TwoCounts.{two_counts_tests, pair_of, both_lem}
-use Rattle.line.specs.declared.pair.Range.{Range}
+use Rattle.line.specs.TwoCounts.{two_counts_tests, two_counts_of, both_lem}
+use Rattle.line.specs.declared.two_counts.Range.{Range}
 
 -- n and m say that the numbers are well formed, and v and w that they are in their ranges
 both-by : (n v m w : Bool) (a b : ℕ)
@@ -37,30 +37,30 @@ both-by false v true false a b = refl
 both-by false v false w a b = refl
 
 module _ (r q : Range) (fs : List (List ℕ)) where
-  pub pair-count : (length fs ≡ 2 → ⊥) → first_failing_lem (two_counts_tests r q fs) ≡ some C.WrongFields
+  pub two_counts-fields : (length fs ≡ 2 → ⊥) → first_failing_lem (two_counts_tests r q fs) ≡ some C.WrongFields
   unfolding two_counts_tests
-  pair-count n = rw (ne_eqb (length fs) 2 n)
+  two_counts-fields n = rw (ne_eqb (length fs) 2 n)
 
   -- both counts, each read by itself
-  pub pair-both : length fs ≡ 2
+  pub two_counts-both : length fs ≡ 2
       → both_lem (passing (count_tests r.least r.most (field 0 fs)) (magnitude (field 0 fs)))
       (passing (count_tests q.least q.most (field 1 fs)) (magnitude (field 1 fs)))
-      ≡ passing (two_counts_tests r q fs) (pair_of fs)
+      ≡ passing (two_counts_tests r q fs) (two_counts_of fs)
   unfolding two_counts_tests
-  pair-both n =
+  two_counts-both n =
       rw (eq-eqb (length fs) 2 n)
       (both-by (is_number (field 0 fs)) (in_range r.least r.most (field 0 fs)) (is_number (field 1 fs))
       (in_range q.least q.most (field 1 fs)) (magnitude (field 0 fs)) (magnitude (field 1 fs)))
 
   -- a line that passes
-  pub record TwoCounts : Type 0 where
-    pub written : fs ≡ decimal (pair_of fs).first ∷ decimal (pair_of fs).second ∷ []
-    pub first : (r.least ≤ (pair_of fs).first) × ((pair_of fs).first ≤ r.most)
-    pub second : (q.least ≤ (pair_of fs).second) × ((pair_of fs).second ≤ q.most)
+  pub record InRanges : Type 0 where
+    pub written : fs ≡ decimal (two_counts_of fs).first ∷ decimal (two_counts_of fs).second ∷ []
+    pub first : (r.least ≤ (two_counts_of fs).first) × ((two_counts_of fs).first ≤ r.most)
+    pub second : (q.least ≤ (two_counts_of fs).second) × ((two_counts_of fs).second ≤ q.most)
 
-  pub pair-read : first_failing_lem (two_counts_tests r q fs) ≡ none → TwoCounts
+  pub two_counts-read : first_failing_lem (two_counts_tests r q fs) ≡ none → InRanges
   unfolding two_counts_tests
-  pair-read e =
+  two_counts-read e =
       let t = hold (two_counts_tests r q fs) e in
       let n = and-true (is_number (field 0 fs)) (is_number (field 1 fs)) t.1.0 in
       let v = and-true (in_range r.least r.most (field 0 fs)) (in_range q.least q.most (field 1 fs)) t.1.1.0 in
@@ -74,10 +74,10 @@ module _ (r q : Range) (fs : List (List ℕ)) where
       }
 
 -- and two numbers of their ranges pass
-pub pair-passes : (r q : Range) (a b : ℕ) → r.least ≤ a → a ≤ r.most → q.least ≤ b → b ≤ q.most
+pub two_counts-passes : (r q : Range) (a b : ℕ) → r.least ≤ a → a ≤ r.most → q.least ≤ b → b ≤ q.most
     → first_failing_lem (two_counts_tests r q (decimal a ∷ decimal b ∷ [])) ≡ none
 unfolding two_counts_tests
-pair-passes r q a b h i j k =
+two_counts-passes r q a b h i j k =
     none_fails (two_counts_tests r q (decimal a ∷ decimal b ∷ []))
     (refl
     & and_both (is_number (decimal a)) (is_number (decimal b)) (is_number_decimal a) (is_number_decimal b)

@@ -8,9 +8,9 @@ use Rattle.refusal.specs.declared.Cause.{Cause}
 use Rattle.refusal.specs.declared.Cause.TheVariants as C
 use Rattle.line.specs.Tests.{Tests, line_tests}
 use Rattle.line.specs.Answers.{passing}
-use Rattle.line.specs.declared.pair.Range.{Range}
-use Rattle.line.specs.declared.pair.Pair.{Pair}
-use Rattle.line.specs.declared.pair.PairLine.{PairLine}
+use Rattle.line.specs.declared.two_counts.Range.{Range}
+use Rattle.line.specs.declared.two_counts.Counts.{Counts}
+use Rattle.line.specs.declared.two_counts.CountsLine.{CountsLine}
 
 unfoldable pub two_counts_tests : Range → Range → List (List ℕ) → Tests
 two_counts_tests r q fs =
@@ -19,21 +19,22 @@ two_counts_tests r q fs =
     ∷ (in_range r.least r.most (field 0 fs) && in_range q.least q.most (field 1 fs), C.OutOfRange)
     ∷ []
 
-abbrev pub pair_of : List (List ℕ) → Pair
-pair_of fs = record { first = magnitude (field 0 fs); second = magnitude (field 1 fs) }
+abbrev pub two_counts_of : List (List ℕ) → Counts
+two_counts_of fs = record { first = magnitude (field 0 fs); second = magnitude (field 1 fs) }
 
 -- of a line without its line feed, by its fields
-abbrev pub pair_by : List ℕ → Range → Range → Result Pair Cause
-pair_by line r q = passing (two_counts_tests r q (fields line)) (pair_of (fields line))
+abbrev pub two_counts_by : List ℕ → Range → Range → Result Counts Cause
+two_counts_by line r q = passing (two_counts_tests r q (fields line)) (two_counts_of (fields line))
 
 -- of the line that begins here
-abbrev pub pair_at : List ℕ → Range → Range → Result PairLine Cause
-pair_at rest r q =
+abbrev pub two_counts_at : List ℕ → Range → Range → Result CountsLine Cause
+two_counts_at rest r q =
     let line = up_to line_feed rest in
-    passing (line_tests rest (two_counts_tests r q)) (record { pair = pair_of (fields line); length = length line })
+    passing (line_tests rest (two_counts_tests r q))
+    (record { counts = two_counts_of (fields line); length = length line })
 
 -- two counts that were read each by itself: where both are refused, the lower number decides
-abbrev pub both_lem : Result ℕ Cause → Result ℕ Cause → Result Pair Cause
+abbrev pub both_lem : Result ℕ Cause → Result ℕ Cause → Result Counts Cause
 both_lem (Ok n) (Ok m) = Ok (record { first = n; second = m })
 both_lem (Ok n) (Err d) = Err d
 both_lem (Err c) (Ok m) = Err c

@@ -4,7 +4,7 @@
 pub mod entry;
 mod field;
 pub mod heading;
-pub mod pair;
+pub mod two_counts;
 pub mod whole;
 
 // The sections behind the horizon, in the order of the sheet.

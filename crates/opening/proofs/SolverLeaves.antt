@@ -24,7 +24,7 @@ use Rattle.calls.specs.Values.{OrRefusal}
 use Rattle.calls.specs.Call.{without_line_lem, Left, Leaves}
 use Rattle.calls.specs.Lent.{in_place_lem}
 use Rattle.calls.specs.Calls.{writing, refusing, rests, solving_tests, solving}
-use Rattle.calls.specs.Counting.{counted_as, rounds_made, counting}
+use Rattle.calls.specs.Counting.{counted_as, rounds_taken, counting}
 use Rattle.calls.proofs.Call.{call-refused, call_fails, call_works}
 use Rattle.calls.proofs.Counting.{rounds-refused, rounds-short, rounds-solved}
 use Rattle.opening.proofs.Leaves.{leaves_as, kept}
@@ -70,7 +70,7 @@ told-solved ρ = by_end ρ.end refl
 
 -- the count goes beside the answer
 counted-left : (sheet m : List ℕ) {r : OrRefusal ℕ} {k : ℕ} {x : List ℕ} → Leaves (solving sheet m) r x
-    → k ≡ rounds_made sheet (in_place_lem m) → Leaves (counting sheet m) (counted_as k r) x
+    → k ≡ rounds_taken sheet (in_place_lem m) → Leaves (counting sheet m) (counted_as k r) x
 counted-left sheet m h e = rw (e, h.answer) (record { answer = refl; memory = h.memory })
 
 module _ (sheet m : List ℕ) where
@@ -99,7 +99,7 @@ module _ (sheet m : List ℕ) where
       has_room : leb (cells Γ) (length m) ≡ true
       has_room = le-leb (cells Γ) (length m) room
 
-      made : {k : ℕ} → k ≡ (solve Γ).rounds → k ≡ rounds_made sheet (in_place_lem m)
+      made : {k : ℕ} → k ≡ (solve Γ).rounds → k ≡ rounds_taken sheet (in_place_lem m)
       made e = e ∙ sym (rounds-solved sheet (in_place_lem m) Γ a room)
 
       pub solving_consistent : (k : ℕ) → s ≡ Ok k → Leaves (counting sheet m) (counted_as k (Ok (cells Γ))) x

@@ -37,7 +37,8 @@ use readback::Unread;
 use refusal::{Cause, Refusal};
 
 // Lent memory of these lengths is long enough for every sheet: a table's minutes, a listing's bytes as it is written,
-// and the bytes of a sheet, also in its house form or converted. No listing that is longer than the last is read back.
+// and the bytes of a sheet, also in its house form, converted, or the heaviest one. No listing that is longer than the
+// last is read back.
 pub const TABLE_MINUTES: usize = Network::CELLS;
 
 pub const LISTING_BYTES: usize = listing::LONGEST;
@@ -92,10 +93,9 @@ pub fn judge_table(sheet: &[u8], table: &[u16]) -> Result<Verdict, Refusal>
     Ok(checker::check(&strategy))
 }
 
-/// The least good table into the first cells of the table; with it, and where there is none, the count of the rounds that
-/// found it. A round raises each cell of a table to the greatest of its own minute and of each bound that rules, signals
-/// and the waits of labels set there; from all zeros, rounds follow until one raises nothing or passes a limit, which
-/// counts too.
+/// The least good table into the first cells of the table. With it, and with 13, goes the count of rounds: from all
+/// zeros each cell whose event happens takes the greatest of its own minute and of each bound that is set there, all
+/// read off the table before the round, until a round raises nothing or passes a limit; that one counts too.
 pub fn solve_sheet(sheet: &[u8], table: &mut [u16]) -> Result<Solved, Unsolved>
     ensures outcome { Leaves (counting sheet.now table.old) result table.new }
     ensures refusals { AnswersInto sheet.now (solves (length table.old)) table.old (solved_values result) table.new }
@@ -177,8 +177,8 @@ pub fn convert_sheet(sheet: &[u8], out: &mut [u8]) -> Result<usize, Refusal>
 }
 
 /// For a line `n,H`, the heaviest sheet of n events, the horizon H and no signal, into the first bytes of out: no such
-/// sheet takes more rounds. n is from 2 to 16. The line is refused with 1 to 5 or 10, as a sheet of one line is, and then
-/// 12 is tried.
+/// sheet takes more rounds. n is from 2 to 16. The line is refused with 1 to 5 or 10, as a sheet of one line is, and
+/// then 12 is tried.
 pub fn write_ring(line: &[u8], out: &mut [u8]) -> Result<usize, Refusal>
     ensures outcome { Leaves (ringing line.now out.old) result out.new }
     ensures refusals { AnswersRing line.now out.old (number_values result) out.new }

@@ -24,7 +24,7 @@ use Rattle.calls.specs.Values.{OrRefusal, done}
 use Rattle.calls.specs.Call.{without_line_lem, Tests, call, Left, Leaves}
 use Rattle.calls.specs.Lent.{Lent, in_place_lem, in_pairs}
 use Rattle.calls.specs.Calls.{enough, writing, refusing}
-use Rattle.calls.specs.Counting.{OrUnsolved, answer_of, rounds_of, rounds_made, counting}
+use Rattle.calls.specs.Counting.{OrUnsolved, answer_of, rounds_of, rounds_taken, counting}
 use Rattle.calls.specs.Bench.{packed_count_lem, packed_left, bench_solving}
 use Rattle.calls.proofs.Counting.{uncounted, rounds-left}
 use Rattle.calls.proofs.Call.{Ends, faulty, failed, worked, ends, call-refused, call_fails, call_works, call-alike}
@@ -165,7 +165,7 @@ module _ (sheet b : List ℕ) (k : ℕ) (lent : k ≡ min (length b / 2) 256) {s
   solved_from_zeros e packed =
       from_zeros sheet (solver_fills sheet) b k lent (rw e (uncounted sheet minutes left)) packed
 
-  pub rounds_from_zeros : rounds_of s ≡ rounds_made sheet (in_pairs b)
+  pub rounds_from_zeros : rounds_of s ≡ rounds_taken sheet (in_pairs b)
   rounds_from_zeros =
       rounds-left sheet minutes left
       ∙ call-alike (λ _. 0) sheet (λ Γ. enough minutes (cells Γ) ∷ []) (λ Γ. enough (in_pairs b) (cells Γ) ∷ [])

@@ -6,7 +6,7 @@ use Rattle.calls.specs.Values.{OrRefusal, Values, number_values}
 use Rattle.calls.specs.Call.{Left, Leaves}
 use Rattle.calls.specs.Lent.{Lent}
 use Rattle.calls.specs.Calls.{solving_into}
-use Rattle.calls.specs.Counting.{rounds_made, counting_into}
+use Rattle.calls.specs.Counting.{rounds_taken, counting_into}
 use Rattle.calls.specs.Bench.{packed_count_lem, packed_left, packed_counted}
 use Rattle.calls.specs.Header.{told, shifted, CountHolds}
 use Rattle.calls.proofs.Counting.{answer-counted, rounds-counted}
@@ -36,10 +36,11 @@ packed-left l h e = record {
 }
 
 -- the solver's answer with its count
-pub counted-left : (sheet : List ℕ) (m : Lent) {a k r : ℕ} {x : List ℕ} → Leaves (packed_left (solving_into sheet m)) a x
-    → k ≡ rounds_made sheet m → r ≡ a + 1099511627776 * k → Leaves (packed_counted (counting_into sheet m)) r x
+pub counted-left : (sheet : List ℕ) (m : Lent) {a k r : ℕ} {x : List ℕ}
+    → Leaves (packed_left (solving_into sheet m)) a x → k ≡ rounds_taken sheet m → r ≡ a + 1099511627776 * k
+    → Leaves (packed_counted (counting_into sheet m)) r x
 counted-left sheet m h e f =
-    let c = rounds_made sheet m in
+    let c = rounds_taken sheet m in
     let a = (solving_into sheet m).answer in
     record {
       answer = f ∙ rw (e, h.answer, answer-counted c a, rounds-counted c a) refl;

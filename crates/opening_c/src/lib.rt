@@ -51,7 +51,7 @@ fn written(solved: Result<Solved, Unsolved>) -> Result<usize, Refusal>
     }
 }
 
-// How many rounds it has made.
+// How many rounds it took.
 fn rounds(solved: Result<Solved, Unsolved>) -> u32
     ensures { result ≡ rounds_of solved }
 {
@@ -160,7 +160,7 @@ pub extern "C" fn opening_convert(sheet: &[u8], out: &mut [u8]) -> u64
     packed_written(opening::convert_sheet(sheet, out))
 }
 
-// The writer of the heaviest sheets.
+/// The writer of the heaviest sheets.
 #[unsafe(no_mangle)]
 pub extern "C" fn opening_ring(line: &[u8], out: &mut [u8]) -> u64
     ensures outcome { Leaves (B.packed_left (ringing line.now out.old)) result out.new }

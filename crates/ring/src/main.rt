@@ -1,5 +1,5 @@
-// Reads a line `n,H` on standard input and prints the sheet of n events, the horizon H and no signal that keeps the solver
-// longest, or `refused N line L`.
+// Reads a line `n,H` on standard input and prints the heaviest sheet of n events, the horizon H and no signal, or
+// `refused N line L`.
 #![tactic(auto)]
 
 use std::io;

@@ -1,5 +1,5 @@
 -- The limit of each cell, which a round passes where it takes the cell beyond: 0 for the start, and the horizon for any
--- other event; and 0 where an event does not happen, so that such a cell never leaves the zero that it starts from.
+-- other event; and 0 where an event does not happen, in a cell that a round leaves at the zero it starts from.
 use Rattle.std.specs.Prelude.{Bool, ◌||◌, not, cond, List, ℕ, ◌/◌, ◌%◌, eqb}
 use Rattle.prelude.specs.Bounded.{tabulate}
 use Rattle.network.specs.Build.{cells}

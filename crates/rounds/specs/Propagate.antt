@@ -1,7 +1,7 @@
--- One round of value iteration (004, Theorem 1): each cell takes the greatest of its own time and of each bound that the
--- constraints, the waits of labels and the hyperarcs set there. All bounds are read off the strategy before the round, so
--- that no cell sees what another becomes in it; and a cell without its event stays. Counts of rounds are counts of these:
--- the round is fixed, since another one would change what the solver's callers are told.
+-- One round of value iteration (004, Theorem 1): each cell takes the greatest of its own time and of each bound that
+-- the constraints, the waits of labels and the hyperarcs set there. All bounds are read off the strategy before the
+-- round, so that no cell sees what another becomes in it; and a cell without its event stays. Counts of rounds are
+-- counts of these: the round is fixed, since another one would change what the solver's callers are told.
 use Rattle.std.specs.Prelude.{cond, List, ℕ, suc, ◌+◌, ◌-◌, ◌/◌, ◌%◌, max, ℤ, pos, negsuc, eqb}
 use Rattle.prelude.specs.Bounded.{max_below, tabulate}
 use Rattle.network.specs.Build.{constraint, event_label, scenarios, cells}

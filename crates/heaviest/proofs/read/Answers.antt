@@ -10,7 +10,7 @@ use Rattle.heaviest.proofs.read.Goals as goal
 
 -- what the first line was read as
 reads : (d : In_ok-asked) → first d.args.line.now ≡ Ok d.in_ok-asked.asked
-reads d = ap (on_line 1) (sym d.pair_line.ensures) ∙ sym d.in_ok-asked.ensures
+reads d = ap (on_line 1) (sym d.counts_line.ensures) ∙ sym d.in_ok-asked.ensures
 
 known : (d : In_ok-asked) → First d.args.line.now d.in_ok-asked.asked
 known d = first-known d.args.line.now d.in_ok-asked.asked (reads d)
@@ -24,7 +24,7 @@ returns-in_err-asked c =
     let r = c.in_err-asked.field-0.0 in
     rw (exits c.from_residual.result r c.from_residual.ensures.1)
     (read_first c.args.line.now c.if-line-gt-LONGEST.false r
-    (ap (on_line 1) (sym c.pair_line.ensures) ∙ sym c.in_err-asked.ensures))
+    (ap (on_line 1) (sym c.counts_line.ensures) ∙ sym c.in_err-asked.ensures))
 
 pub overflow_add-asked : goal.overflow_add-asked
 overflow_add-asked c =

@@ -5,9 +5,9 @@ use native.Mathlib.Omega.{arith}
 use Rattle.calls.specs.Values.{number_values}
 use Rattle.calls.specs.Call.{Leaves}
 use Rattle.calls.specs.Lent.{in_pairs}
-use Rattle.calls.specs.Counting.{rounds_made}
+use Rattle.calls.specs.Counting.{rounds_taken}
 use Rattle.calls.specs.Bench.{bench_solving, packed_left}
-use Rattle.calls.proofs.Counting.{answer-counted, rounds-counted, made_few}
+use Rattle.calls.proofs.Counting.{answer-counted, rounds-counted, taken_few}
 use Rattle.calls.proofs.Header.{solver_count}
 use Rattle.calls.proofs.Benched.{benched}
 use Rattle.calls.proofs.Clauses.{solve-clauses}
@@ -24,7 +24,7 @@ plain d =
     solved_from_zeros d.args.sheet.now d.args.table.now _ d.room-lent.ensures d.solve_sheet-solved.ensures.outcome
     d.written.ensures d.packed_table-packed.ensures
 
-made : (d : After-rounds) → d.rounds.result ≡ rounds_made d.args.sheet.now (in_pairs d.args.table.now)
+made : (d : After-rounds) → d.rounds.result ≡ rounds_taken d.args.sheet.now (in_pairs d.args.table.now)
 made d =
     d.rounds.ensures
     ∙ rounds_from_zeros d.args.sheet.now d.args.table.now _ d.room-lent.ensures d.solve_sheet-solved.ensures.outcome
@@ -34,7 +34,7 @@ with_rounds-requires c =
     let sheet = c.args.sheet.now in
     let b = c.args.table.now in (
       omega (arith, (plain c).answer, (solver_count sheet b).rest),
-      omega (arith, made c, made_few sheet (in_pairs b)),
+      omega (arith, made c, taken_few sheet (in_pairs b)),
     )
 
 pub returns : goal.returns
@@ -43,7 +43,7 @@ returns c =
     let sheet = c.args.sheet.now in
     let b = c.args.table.now in
     let a = (bench_solving sheet b).answer in
-    let k = rounds_made sheet (in_pairs b) in
+    let k = rounds_taken sheet (in_pairs b) in
     let h = counted-left sheet (in_pairs b) (plain d) (made d) c.with_rounds.ensures in
     let held = rw (← h.answer) at (benched.solver_holds sheet b) in
     let w = solve-clauses sheet (in_pairs b) _ _ _ (held.values ∙ ap number_values (answer-counted k a))

@@ -4,7 +4,8 @@ use native.Mathlib.Omega.{arith}
 use Rattle.page.proofs.Pushed.{pushed_as}
 use Rattle.page.proofs.Pushing.{pushing-next, pushing-all}
 use Rattle.layout.specs.Layout.{rule_line}
-use Rattle.heaviest.specs.RingText.{ring_row, most_row}
+use Rattle.heaviest.specs.RingText.{ring_row}
+use Rattle.heaviest.specs.Most.{most_row}
 use Rattle.heaviest.proofs.Sections.{section_pushed}
 use Rattle.heaviest.proofs.Rows.{row_on, row_back, count_on}
 use Rattle.heaviest.proofs.Ring.push_rows.Goals as goal

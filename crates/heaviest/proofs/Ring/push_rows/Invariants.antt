@@ -3,7 +3,8 @@
 use Prim.Native.Nat.{◌-◌, ◌≤◌}
 use Rattle.page.proofs.Pushing.{Pushing}
 use Rattle.layout.specs.Layout.{rule_line}
-use Rattle.heaviest.specs.RingText.{ring_row, most_row}
+use Rattle.heaviest.specs.RingText.{ring_row}
+use Rattle.heaviest.specs.Most.{most_row}
 use Rattle.heaviest.proofs.Ring.push_rows.Given as goal
 
 abbrev pub invariant-loop-u : goal.invariant-loop-u

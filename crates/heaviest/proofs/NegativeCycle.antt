@@ -1,5 +1,5 @@
--- A positive cycle: a network whose rows make a ring, one of them with the limit 1 and the others with 0. Assumes
--- nothing.
+-- A negative cycle: a network whose `min` rows make a ring, one of them with the limit 1 and the others with 0. As an
+-- edge of the distance graph each has its limit negated, so that their sum is -1. Assumes nothing.
 use mathlib.Core.Path.{◌≡◌}
 use mathlib.Core.Bool.{true, cond}
 use mathlib.Core.List.{List}
@@ -25,7 +25,7 @@ abbrev pub ring_constraint : ℕ → ℕ → Constraint
 ring_constraint m c = cond (eqb (suc c) m) (no_sooner m 1 1) (no_sooner (suc c) (suc (suc c)) 0)
 
 -- m events besides the start go around; how they are named does not matter
-pub record PositiveCycle (m : ℕ) (Γ : Network) : Type 0 where
+pub record NegativeCycle (m : ℕ) (Γ : Network) : Type 0 where
   pub some : 1 ≤ m
   pub events : Γ.events ≡ suc m
   pub signals : Γ.signals ≡ 0
@@ -39,7 +39,7 @@ pub row_asks : (Γ : Network) (σ : List ℕ) (u a b w : ℕ) → ((v : ℕ) →
 unfolding covers
 row_asks Γ σ u a b w h = rw (satisfies-none 0, h a, h b)
 
-module _ {m : ℕ} {Γ : Network} (r : PositiveCycle m Γ) where
+module _ {m : ℕ} {Γ : Network} (r : NegativeCycle m Γ) where
   pub happens_all : (s u : ℕ) → happens Γ s u ≡ true
   happens_all s u = happens-unlabelled Γ s u (r.unlabelled u)
 

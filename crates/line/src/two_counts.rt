@@ -1,6 +1,6 @@
 // A line of two counts: by its fields, and at the start of what remains.
 ghost use Rattle.std.specs.Prelude.{◌≡◌};
-ghost use Rattle.line.specs.TwoCounts.{both_lem, pair_by, pair_at};
+ghost use Rattle.line.specs.TwoCounts.{both_lem, two_counts_by, two_counts_at};
 
 use crate::field;
 use refusal::Cause;
@@ -15,32 +15,32 @@ pub struct Range {
 
 /// The two counts of a line.
 #[derive(Clone, Copy)]
-pub struct Pair {
+pub struct Counts {
     pub first: u16,
     pub second: u16,
 }
 
 /// What such a line says, and how long it is without its line feed.
 #[derive(Clone, Copy)]
-pub struct PairLine {
-    pub pair: Pair,
+pub struct CountsLine {
+    pub counts: Counts,
     pub length: usize,
 }
 
 // Both counts. Where both are refused, the lower number decides.
-fn both(first: Result<u16, Cause>, second: Result<u16, Cause>) -> Result<Pair, Cause>
+fn both(first: Result<u16, Cause>, second: Result<u16, Cause>) -> Result<Counts, Cause>
     ensures { result ≡ both_lem first second }
 {
     match (first, second) {
-        (Ok(first), Ok(second)) => Ok(Pair { first, second }),
+        (Ok(first), Ok(second)) => Ok(Counts { first, second }),
         (Ok(_), Err(cause)) | (Err(cause), Ok(_)) => Err(cause),
         (Err(a), Err(b)) => Err(if b.number() < a.number() { b } else { a }),
     }
 }
 
 // The two counts of a line, each in its range.
-fn pair_fields(line: &[u8], first: Range, second: Range) -> Result<Pair, Cause>
-    ensures { result ≡ pair_by line.now first second }
+fn two_counts_fields(line: &[u8], first: Range, second: Range) -> Result<Counts, Cause>
+    ensures { result ≡ two_counts_by line.now first second }
 {
     let fields = Fields::<2>::of(line).ok_or(Cause::WrongFields)?;
     both(
@@ -50,13 +50,13 @@ fn pair_fields(line: &[u8], first: Range, second: Range) -> Result<Pair, Cause>
 }
 
 /// The line of two counts that begins here.
-pub fn pair_line(rest: &[u8], first: Range, second: Range) -> Result<PairLine, Cause>
-    ensures { result ≡ pair_at rest.now first second }
+pub fn counts_line(rest: &[u8], first: Range, second: Range) -> Result<CountsLine, Cause>
+    ensures { result ≡ two_counts_at rest.now first second }
 {
     let line = field::line_of(rest)?;
-    let pair = pair_fields(line, first, second)?;
-    Ok(PairLine {
-        pair,
+    let counts = two_counts_fields(line, first, second)?;
+    Ok(CountsLine {
+        counts,
         length: line.len(),
     })
 }
