@@ -5,14 +5,13 @@
 ghost use Rattle.std.specs.Prelude.{◌≡◌, [], ◌∷◌, map, ◌+◌, ◌≤◌, ◌<◌, length};
 ghost use Rattle.prelude.specs.Gather.{ahead};
 ghost use Rattle.text.specs.Lines.{comma, line};
-ghost use Rattle.text.specs.Decimal.{decimal};
 ghost use Rattle.page.specs.Pushed.{Pushed};
 ghost use Rattle.page.specs.HandedOut.{HandedOut};
 ghost use Rattle.network.specs.Limits as L;
 ghost use Rattle.network.specs.WellFormed.{InLimits, Proper};
 ghost use Rattle.layout.specs.Layout.{lines, section, signal_line, rule_line, signed_text};
 ghost use Rattle.layout.specs.Layout.{label_text, reaction_line, reactions_text, case_line, cases_text};
-ghost use Rattle.layout.specs.Most.{most_count, most_events, most_signals, most_label, most_rule, most_rules};
+ghost use Rattle.layout.specs.Most.{most_events, most_signals, most_label, most_rule, most_rules};
 ghost use Rattle.layout.specs.Most.{most_reaction, most_reactions, most_case, most_cases, most_form};
 ghost use Rattle.tighten.specs.Tightest.{remaining_of};
 ghost use Rattle.canonical.specs.Listed.{slow_by, slow_of, labelled_at, labelled_of, section_of, before_labels};
@@ -28,18 +27,7 @@ use tighten::UpperBounds;
 // No form is longer.
 const LONGEST: usize = 3021;
 
-// The line `word,count`. A sheet counts at most 64 of anything, so that its callers' casts lose nothing.
-fn push_count(page: &mut Page<LONGEST>, word: &[u8], count: u16)
-    requires { length page.old + most_count (length word.now) ≤ most_form }
-    ensures { Pushed (most_count (length word.now)) page.old (line word.now (decimal count ∷ [])) page.new }
-{
-    page.push_all(word);
-    page.push(b',');
-    page.push_number(count);
-    page.push(b'\n');
-}
-
-// The events: a name a line.
+// The events: a name a line. A sheet counts at most 64 of anything, so that this cast and those below lose nothing.
 fn push_events(page: &mut Page<LONGEST>, accepted: &Accepted)
     requires { length page.old + most_events ≤ most_form }
     ensures { Pushed most_events page.old
@@ -47,7 +35,7 @@ fn push_events(page: &mut Page<LONGEST>, accepted: &Accepted)
         page.new }
 {
     let events = accepted.formed.network.events;
-    push_count(page, b"events", events as u16);
+    page.push_count(b"events", events as u16);
     for u in 0..events {
         page.push_all(accepted.name(u));
         page.push(b'\n');
@@ -62,7 +50,7 @@ fn push_signals(page: &mut Page<LONGEST>, accepted: &Accepted)
         page.new }
 {
     let network = &accepted.formed.network;
-    push_count(page, b"signals", network.signals as u16);
+    page.push_count(b"signals", network.signals as u16);
     for p in 0..network.signals {
         page.push(network.letters[p]);
         page.push_field(accepted.name(network.observations[p]));
@@ -150,7 +138,7 @@ fn push_rules(page: &mut Page<LONGEST>, accepted: &Accepted, remaining: &UpperBo
         page.new }
 {
     let uppers = remaining.as_slice();
-    push_count(page, b"rules", uppers.len() as u16);
+    page.push_count(b"rules", uppers.len() as u16);
     for upper in uppers {
         push_rule(page, accepted, upper);
     }
@@ -194,7 +182,7 @@ fn push_reactions(page: &mut Page<LONGEST>, formed: &Formed)
     if count == 0 && labelled_count(formed) == 0 {
         return;
     }
-    push_count(page, b"reactions", count as u16);
+    page.push_count(b"reactions", count as u16);
     for p in 0..network.signals {
         push_reaction(
             page,
@@ -243,7 +231,7 @@ fn push_cases(page: &mut Page<LONGEST>, accepted: &Accepted)
     if labelled == 0 {
         return;
     }
-    push_count(page, b"cases", labelled as u16);
+    page.push_count(b"cases", labelled as u16);
     for u in 0..accepted.formed.network.events {
         push_case(page, accepted, u);
     }
@@ -254,7 +242,7 @@ pub fn write(accepted: &Accepted, out: &mut [u8]) -> Option<usize>
     ensures { HandedOut (house_text accepted.now.sheet.now accepted.now.formed.network) out.old out.new result }
 {
     let mut page = Page::<LONGEST>::new();
-    push_count(&mut page, b"horizon", accepted.formed.network.horizon);
+    page.push_count(b"horizon", accepted.formed.network.horizon);
     push_events(&mut page, accepted);
     push_signals(&mut page, accepted);
     push_rules(&mut page, accepted, &tighten::remaining(&accepted.formed));

@@ -1,14 +1,12 @@
 // From a line `n,H`, the heaviest sheet of n events, the horizon H and no signal: none keeps the solver longer.
 #![tactic(auto)]
 
-ghost use Rattle.std.specs.Prelude.{◌≡◌, [], ◌∷◌, map, ◌+◌, ◌≤◌, ◌<◌, length, MatchResult};
+ghost use Rattle.std.specs.Prelude.{◌≡◌, [], map, ◌+◌, ◌≤◌, ◌<◌, length, MatchResult};
 ghost use Rattle.prelude.specs.Bounded.{tabulate};
 ghost use Rattle.text.specs.Lines.{line};
-ghost use Rattle.text.specs.Decimal.{decimal};
 ghost use Rattle.page.specs.Pushed.{Pushed};
 ghost use Rattle.network.specs.Limits as L;
 ghost use Rattle.layout.specs.Layout.{section, rule_line};
-ghost use Rattle.layout.specs.Most.{most_count};
 ghost use Rattle.heaviest.specs.Asks.{fewest};
 ghost use Rattle.heaviest.specs.RingText.{letter_name, no_sooner_row};
 ghost use Rattle.heaviest.specs.Most.{most_row, most_text};
@@ -62,17 +60,6 @@ pub fn read(line: &[u8]) -> Result<Ring, Refusal>
     })
 }
 
-// A section's line, or the horizon's: a word and a count.
-fn push_count(page: &mut Page<ROOM>, word: &[u8], count: u16)
-    requires { length page.old + most_count (length word.now) ≤ most_text }
-    ensures { Pushed (most_count (length word.now)) page.old (line word.now (decimal count ∷ [])) page.new }
-{
-    page.push_all(word);
-    page.push(b',');
-    page.push_number(count);
-    page.push(b'\n');
-}
-
 // Event `to` comes no sooner than `least` minutes behind event `from`.
 fn push_row(page: &mut Page<ROOM>, from: u8, to: u8, least: u16)
     requires { (from < L.events) × (to < L.events) × (length page.old + most_row ≤ most_text) }
@@ -98,7 +85,7 @@ impl Ring {
         ensures { Pushed most_names page.old
             (section "events" (map (λ n. line n []) (tabulate self.now.events letter_name))) page.new }
     {
-        push_count(page, b"events", u16::from(self.events));
+        page.push_count(b"events", u16::from(self.events));
         for u in 0..self.events {
             page.push(b'a' + u);
             page.push(b'\n');
@@ -113,7 +100,7 @@ impl Ring {
             page.new }
     {
         let last = self.events - 1;
-        push_count(page, b"rules", u16::from(last));
+        page.push_count(b"rules", u16::from(last));
         for u in 1..last {
             push_row(page, u, u + 1, 0);
         }
@@ -125,9 +112,9 @@ impl Ring {
         ensures { HandedOut (ring_text self.now.events self.now.horizon) out.old out.new result }
     {
         let mut page = Page::<ROOM>::new();
-        push_count(&mut page, b"horizon", self.horizon);
+        page.push_count(b"horizon", self.horizon);
         self.push_events(&mut page);
-        push_count(&mut page, b"signals", 0);
+        page.push_count(b"signals", 0);
         self.push_rows(&mut page);
         page.hand_out(out)
     }

@@ -1,5 +1,5 @@
 -- The reading accepts exactly the layout: start at Accepted, which is the theorem. Behind it stands what networks of
--- like contents share, and how long a text is at most.
+-- like contents share, how long a text is at most, and how a section is written on a page.
 pub mod Plain
 pub mod Numbers
 pub mod Labels
@@ -39,3 +39,4 @@ pub mod Framed
 pub mod Fewer
 pub mod Lengths
 pub mod Short
+pub mod Pushed

@@ -3,7 +3,7 @@
 #![tactic(auto)]
 
 ghost use Rattle.std.specs.Prelude.{◌≡◌, List, [], ◌∷◌, ℕ, ◌+◌, ◌≤◌, ◌<◌, length};
-ghost use Rattle.text.specs.Lines.{comma};
+ghost use Rattle.text.specs.Lines.{comma, line};
 ghost use Rattle.text.specs.Decimal.{decimal};
 ghost use Rattle.page.specs.Pushed.{Pushed};
 ghost use Rattle.page.specs.HandedOut.{HandedOut};
@@ -78,6 +78,17 @@ impl<const N: usize> Page<N> {
         ensures { Pushed 5 self.old (decimal v) self.new }
     {
         self.push_all(text::digits::spell(v).as_slice());
+    }
+
+    // The line `word,count`.
+    pub fn push_count(&mut self, word: &[u8], count: u16)
+        requires { length self.old + (length word.now + 7) ≤ N }
+        ensures { Pushed (length word.now + 7) self.old (line word.now (decimal count ∷ [])) self.new }
+    {
+        self.push_all(word);
+        self.push(b',');
+        self.push_number(count);
+        self.push(b'\n');
     }
 
     // The text into the front of lent memory: how many bytes that were, or None where the memory is too short for them.

@@ -7,7 +7,7 @@ use Rattle.page.proofs.Pushed.{pushed_both, pushed_as}
 use Rattle.page.proofs.Pushing.{pushing-next, pushing-all}
 use Rattle.network.specs.Build.{name_of_lem}
 use Rattle.prelude.proofs.Mapped.{map-tabulate}
-use Rattle.canonical.proofs.Sections.{section_pushed}
+use Rattle.layout.proofs.Pushed.{section_pushed}
 use Rattle.canonical.proofs.push_events.Goals as goal
 
 pub loop-u-preserved : goal.loop-u-preserved

@@ -5,7 +5,7 @@ use Rattle.page.proofs.Pushing.{pushing-next, pushing-all}
 use Rattle.network.specs.Build.{no_constraint}
 use Rattle.layout.specs.Layout.{rule_line}
 use Rattle.canonical.specs.House.{as_rule}
-use Rattle.canonical.proofs.Sections.{section_pushed}
+use Rattle.layout.proofs.Pushed.{section_pushed}
 use Rattle.canonical.proofs.Remaining.{remaining-few, remaining-proper-at, remaining-lines}
 use Rattle.canonical.proofs.push_rules.Goals as goal
 

@@ -9,7 +9,7 @@ use Rattle.network.specs.Build.{letter}
 use Rattle.layout.specs.Layout.{signal_line}
 use Rattle.canonical.specs.House.{signal_at}
 use Rattle.prelude.proofs.Mapped.{map-tabulate}
-use Rattle.canonical.proofs.Sections.{section_pushed}
+use Rattle.layout.proofs.Pushed.{section_pushed}
 use Rattle.canonical.proofs.push_signals.Goals as goal
 
 pub loop-p-preserved : goal.loop-p-preserved

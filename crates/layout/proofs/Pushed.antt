@@ -1,4 +1,4 @@
--- Laws of a section: its lines are texts one behind the other, so a loop that writes them behind the section's first
+-- A section on a page: its lines are texts one behind the other, so a loop that writes them behind the section's first
 -- line writes the section. Assumes nothing.
 use mathlib.Core.Path.{◌≡◌, refl, ap}
 use mathlib.Core.List.{List, [], ◌∷◌, ◌++◌}
