@@ -1,8 +1,8 @@
 -- Laws of the form, in reading order: what is told by signals' letters, as a label, letter by letter, and the
 -- reactions; the events with a label; what is known of an accepted sheet's network; the form keeps the layout's rules,
 -- also in its labels; what is read back from it. Then the theorems: `Again` of one sheet and its form, and `Forms` of
--- two sheets. Behind them the laws that the writer's proofs cite: a section of what is gathered; a label, the reactions,
--- the labels of events and a line; the upper bounds that remain; the form.
+-- two sheets. Behind them the laws that the writer's proofs cite: a section of what is gathered; a label, the
+-- reactions, the labels of events and a line; the upper bounds that remain; the form.
 pub mod Keyed
 pub mod Signs
 pub mod Listed
