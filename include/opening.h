@@ -49,31 +49,33 @@
  * Calls and answers
  *
  * But for the pointers, nothing has to be tested before a call: any bytes may be handed in as a sheet, a listing, a
- * line or text, any length as a table, any minute from 0 to 65,535 (C cuts a wider number before the call). A pointer
- * must point to as many bytes as the length says, and must not be NULL, even if the length is 0. Memory that a call
- * writes into must not overlap any other memory that is handed to the same call. The library keeps no pointer, has no
- * memory of its own between calls and allocates nothing, so calls may run beside each other.
+ * line or text, any length as a table, any minute from 0 to 65,535 and any count of rounds from 0 to 4,294,967,295 (C
+ * cuts a wider number before the call). A pointer must point to as many bytes as the length says, and must not be NULL,
+ * even if the length is 0. Memory that a call writes into must not overlap any other memory that is handed to the same
+ * call. The library keeps no pointer, has no memory of its own between calls and allocates nothing, so calls may run
+ * beside each other.
  *
  * Each function answers with a uint64_t of eight bytes. Read it with the functions at the end, each of which says for which
  * answers it is:
  *
- *     byte     opening_solve        opening_judge       opening_due        opening_listing,     opening_read_listing
- *                                                                          opening_house,
- *                                                                          opening_convert,
- *                                                                          opening_ring
- *     0        number               number              number             number               number
- *     1, 2     line                 line                line               line                 line
- *     3        minutes, low byte    word                events 0 to 7      bytes, low byte      minutes, low byte
- *     4        minutes, high byte   first               events 8 to 15     bytes, high byte     minutes, high byte
- *     5        rounds, low byte     second              0                  0                    0
- *     6        rounds, middle byte  third               0                  0                    0
- *     7        rounds, high byte    0                   0                  0                    0
+ *     byte     opening_solve,         opening_judge     opening_due       opening_listing,    opening_read_listing
+ *              opening_solve_within                                       opening_house,
+ *                                                                         opening_convert,
+ *                                                                         opening_ring
+ *     0        number                 number            number            number              number
+ *     1, 2     line                   line              line              line                line
+ *     3        minutes, low byte      word              events 0 to 7     bytes, low byte     minutes, low byte
+ *     4        minutes, high byte     first             events 8 to 15    bytes, high byte    minutes, high byte
+ *     5        rounds, low byte       second            0                 0                   0
+ *     6        rounds, middle byte    third             0                 0                   0
+ *     7        rounds, high byte      0                 0                 0                   0
  *
  * number is 0 if the call was not refused, or says why it was; line is a line of the sheet, with 18 and 19 of the
  * listing, and of opening_ring of what that reads, low byte first; minutes and bytes are as many as were written;
- * rounds are as many as the solver took; word is 0 pass, 1 Late, 2 Rule or 3 Unheard; of the events due, event u is bit
- * u of the two bytes. Byte 0 is the lowest: (answer & 0xff) is the number. On a refusal all bytes from 3 on are 0, save
- * that the rounds stand beside number 13 too.
+ * rounds are as many as the solver took, or, where opening_solve_within was stopped, what is left, and then the highest
+ * bit of byte 7, which neither reaches, is 1; word is 0 pass, 1 Late, 2 Rule or 3 Unheard; of the events due, event u
+ * is bit u of the two bytes. Byte 0 is the lowest: (answer & 0xff) is the number. On a refusal all bytes from 3 on are
+ * 0, save that the rounds stand beside number 13 too.
  *
  * Rounds
  *
@@ -114,9 +116,9 @@
  *         the rules, or behind the reactions, that are no such section are 2 to 5;
  *         ring: bytes behind the line feed                                                                 (line 2)
  *     11  judge, due, listing: not exactly n * 2^k minutes in the table, or an odd number of bytes         (line 0)
- *     12  solve, read_listing: the table has fewer than n * 2^k whole pairs of bytes;
+ *     12  solve, solve_within, read_listing: the table has fewer than n * 2^k whole pairs of bytes;
  *         listing, house, convert, ring: out is shorter than the text                                      (line 0)
- *     13  solve: the sheet is in order, and no good table exists                                           (line 0)
+ *     13  solve, solve_within: the sheet is in order, and no good table exists                             (line 0)
  *     14  due: the table does not pass the judge                                                           (line 0)
  *     15  due: the text is not of the form above, or a letter in it is undefined or stands twice, with
  *         either sign                                                                                      (line 0)
@@ -130,13 +132,14 @@
  *     20  the start is given a label other than `-`: the last line of the cases
  *     21  an event's or rule's label lacks part of the label of an event whose signal it uses: the last line of the cases
  *     22  the row is a `fix`, which 3 takes for a kind; never of convert
+ *     23  solve_within: a count of 0 rounds                                                                (line 0)
  *
  * Of the sheet, 1 is tried before any line; then its first line at fault decides, and on it the lowest number, but 22
  * is tried directly after 3, before 4. 20 and 21 look at all labels, and are tried on the last line of the cases, if
  * that section has lines. A fault of the sheet (1 to 10, 20 to 22) comes before all others. Then each call has its own,
- * in this order: solve 12, 13; judge 11; due 11, 14, 15, 16; listing 11, 12; house 12; convert 17, 12; read_listing 18,
- * 19, 12, where 18 is tried over the whole listing before any 19. Of ring the order is 1, then on its line 2, 3, 4 and
- * 5, where a 4 in either field is before a 5 in the other, then 10, and then 12.
+ * in this order: solve 12, 13; solve_within 12, 23, 13; judge 11; due 11, 14, 15, 16; listing 11, 12; house 12; convert
+ * 17, 12; read_listing 18, 19, 12, where 18 is tried over the whole listing before any 19. Of ring the order is 1, then
+ * on its line 2, 3, 4 and 5, where a 4 in either field is before a 5 in the other, then 10, and then 12.
  *
  * Example, with <stdio.h> and <string.h>:
  *
@@ -144,6 +147,10 @@
  *                                "min,start,call,5,-\nmin,call,door,15,p\n";
  *     const uint8_t *sheet = (const uint8_t *)text;
  *     uint8_t table[OPENING_TABLE_MOST];
+ *
+ *     uint64_t early = opening_solve_within(sheet, strlen(text), 1, table, sizeof table);
+ *     if (opening_number(early) == 0 && !opening_finished(early))
+ *         printf("%u left\n", opening_left(early));                           // prints 215 left
  *
  *     uint64_t solved = opening_solve(sheet, strlen(text), table, sizeof table);
  *     if (opening_number(solved) != 0) {
@@ -198,6 +205,22 @@ enum { OPENING_PASS = 0, OPENING_LATE = 1, OPENING_RULE = 2, OPENING_UNHEARD = 3
  * than needed is no fault. Otherwise the table keeps all its contents. With number 0, and with 13, opening_rounds(answer)
  * says how many rounds it took; with every other number that is 0. */
 uint64_t opening_solve(const uint8_t *sheet, size_t sheet_len, uint8_t *table, size_t table_len);
+
+/* Does the same in at most `rounds` rounds. What opening_solve refuses before any round is refused alike. If these
+ * rounds are enough, the answer and the table are those of opening_solve, bit for bit, with 13 too, and
+ * opening_finished(answer) is 1. Otherwise the run is stopped after the last of them, which raised a cell and passed no
+ * limit: the answer's number is 0, opening_finished(answer) is 0, and the table holds a floor, that is each cell's
+ * minute after so many rounds, with the blanks of a table.
+ *
+ * No good table has any event earlier than its floor. opening_left(answer) is the sum, over the cells in which an event
+ * other than the start happens, of the horizon minus the floor: at most so many rounds remain, and one more, until the
+ * table, or 13, is known. This sum may be 0. A floor need not be good, and the judge may not pass it; where only the
+ * round that raises nothing is missing, it is the least good table already.
+ *
+ * The table is lent as for opening_solve, and a floor takes as many bytes as a table. A count of 0 is refused with 23,
+ * after 12 and before 13; with every number but 0 the table keeps all its contents. */
+uint64_t opening_solve_within(const uint8_t *sheet, size_t sheet_len, uint32_t rounds, uint8_t *table,
+                              size_t table_len);
 
 /* Says whether a table, whoever wrote it, is good for the sheet, and if not, what the first breach is.
  *
@@ -307,12 +330,26 @@ static inline unsigned opening_number(uint64_t answer) { return (unsigned)(answe
 /* Of every answer: the line of the refusal, 0 if there is none. */
 static inline unsigned opening_line(uint64_t answer) { return (unsigned)(answer >> 8 & 0xffff); }
 
-/* Of the answers of opening_solve and opening_read_listing: how many minutes were written, n * 2^k, or 0 on a refusal. */
+/* Of the answers of opening_solve, opening_solve_within and opening_read_listing: how many minutes were written,
+ * n * 2^k, or 0 on a refusal. */
 static inline unsigned opening_minutes(uint64_t answer) { return (unsigned)(answer >> 24 & 0xffff); }
 
-/* Of the answer of opening_solve: how many rounds the solver took, the last one included, with number 13 too; 0 with
- * every other refusal. */
-static inline uint32_t opening_rounds(uint64_t answer) { return (uint32_t)(answer >> 40 & 0xffffff); }
+/* Of the answers of opening_solve and opening_solve_within: how many rounds the solver took, the last one included,
+ * with number 13 too; 0 where it was stopped, and with every other refusal. */
+static inline uint32_t opening_rounds(uint64_t answer)
+{
+    return (uint32_t)((1 - (answer >> 63)) * (answer >> 40 & 0x7fffff));
+}
+
+/* Of the same: what is left, where it was stopped; otherwise 0. */
+static inline uint32_t opening_left(uint64_t answer)
+{
+    return (uint32_t)((answer >> 63) * (answer >> 40 & 0x7fffff));
+}
+
+/* Of the same: 1 where the solver finished, with a table or with 13; 0 where it was stopped, and where it was refused
+ * before any round. */
+static inline unsigned opening_finished(uint64_t answer) { return opening_rounds(answer) != 0; }
 
 /* Of the answer of opening_due: the events due, bit u for event u. 0 on a refusal too, so look at the number first. */
 static inline unsigned opening_events(uint64_t answer) { return (unsigned)(answer >> 24 & 0xffff); }

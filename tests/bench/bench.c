@@ -1,5 +1,5 @@
 /* The workshop bench: calls the library as a C program does, and compares every answer and every lent byte with what
- * document 01 and points 1 to 4 and 6 to 8 of document 02 ask. The answers here were written by hand from the papers;
+ * document 01 and points 1 to 4 and 6 to 9 of document 02 ask. The answers here were written by hand from the papers;
  * where a table is played, or its listing read back, what the solver wrote is to come out.
  *
  * cc -std=c11 -O2 -Wall -Wextra -Werror -o bench bench.c DIR/libopening.a
@@ -101,8 +101,67 @@ static void solve(const char *about, const char *sheet, size_t sheet_len, size_t
     expect(about, "the line", opening_line(answer), line);
     expect(about, "the count of minutes", opening_minutes(answer), number == 0 ? count : 0);
     expect(about, "the count of rounds", opening_rounds(answer), rounds);
+    expect(about, "whether it finished", opening_finished(answer), rounds > 0);
+    expect(about, "the sum that is left", opening_left(answer), 0);
+    expect(about, "the highest bit", answer >> 63, 0);
     expect_memory(about, "table", &table, &wanted);
     expect_memory(about, "sheet", &paper, &paper_before);
+}
+
+/* What a run within so many rounds is to answer: a refusal with its line; or with number 0 so many minutes, as a table
+ * or as a floor. With a table, and with 13, it says how many rounds it took, and with a floor, which sum is left. */
+struct within {
+    unsigned number, line, stopped, rounds, left;
+    const uint16_t *minutes;
+    size_t count;
+};
+
+/* Solves within so many rounds, with a table of so many bytes; the whole answer is compared. */
+static void solve_within(const char *about, const char *sheet, size_t sheet_len, uint32_t limit, size_t table_len,
+                         struct within asked)
+{
+    static struct lent paper, paper_before, table, wanted;
+    lend(&paper, sheet, sheet_len, '\n');
+    lend_room(&table, table_len);
+    paper_before = paper;
+    wanted = table;
+    if (asked.number == 0)
+        pairs(slice(&wanted), asked.minutes, asked.count);
+
+    uint64_t answer = opening_solve_within(slice(&paper), sheet_len, limit, slice(&table), table_len);
+    calls++;
+    expect(about, "the number", opening_number(answer), asked.number);
+    expect(about, "the line", opening_line(answer), asked.line);
+    expect(about, "the count of minutes", opening_minutes(answer), asked.number == 0 ? asked.count : 0);
+    expect(about, "whether it finished", opening_finished(answer), asked.rounds > 0);
+    expect(about, "the count of rounds", opening_rounds(answer), asked.rounds);
+    expect(about, "the sum that is left", opening_left(answer), asked.left);
+    expect(about, "the highest bit", answer >> 63, asked.stopped);
+    expect_memory(about, "table", &table, &wanted);
+    expect_memory(about, "sheet", &paper, &paper_before);
+}
+
+/* Wanted: a refusal, whether the table is generous or empty. */
+static void not_within(const char *about, const char *sheet, size_t sheet_len, uint32_t limit, unsigned number,
+                       unsigned line)
+{
+    const struct within asked = {number, line, 0, 0, 0, NULL, 0};
+    solve_within(about, sheet, sheet_len, limit, 100, asked);
+    solve_within(about, sheet, sheet_len, limit, 0, asked);
+}
+
+/* Wanted: this answer where the table is exact or longer, and 12 where it is shorter. */
+static void within_lengths(const char *about, const char *sheet, uint32_t limit, size_t exact, struct within asked)
+{
+    const struct within short_of = {12, 0, 0, 0, 0, NULL, 0};
+    const size_t length = strlen(sheet);
+    solve_within(about, sheet, length, limit, exact, asked);
+    solve_within(about, sheet, length, limit, exact + 1, asked);
+    solve_within(about, sheet, length, limit, exact + 2, asked);
+    solve_within(about, sheet, length, limit, OPENING_TABLE_MOST + 7, asked);
+    solve_within(about, sheet, length, limit, exact - 1, short_of);
+    solve_within(about, sheet, length, limit, exact - 2, short_of);
+    solve_within(about, sheet, length, limit, 0, short_of);
 }
 
 /* Judges these bytes. Wanted: a refusal with its line, or the word and its numbers; the whole answer is compared. */
@@ -490,14 +549,23 @@ static const struct {
 
 /* ---------------------------------------------------------------- What is tried */
 
-/* The readers of the header on a number made by hand. */
+/* The readers of the header on two numbers made by hand: the highest bit says whether the 23 bits below it are the sum
+ * of a run that was stopped, or the count of rounds. */
 static void readers(void)
 {
-    const uint64_t answer = 0x8877665544332211u;
+    const uint64_t answer = 0x0877665544332211u, stopped = 0x8877665544332211u, none = 0x0000005544332211u;
     expect("readers", "opening_number", opening_number(answer), 0x11);
     expect("readers", "opening_line", opening_line(answer), 0x3322);
     expect("readers", "opening_minutes", opening_minutes(answer), 0x5544);
-    expect("readers", "opening_rounds", opening_rounds(answer), 0x887766);
+    expect("readers", "opening_rounds", opening_rounds(answer), 0x087766);
+    expect("readers", "opening_left", opening_left(answer), 0);
+    expect("readers", "opening_finished", opening_finished(answer), 1);
+    expect("readers", "opening_rounds, stopped", opening_rounds(stopped), 0);
+    expect("readers", "opening_left, stopped", opening_left(stopped), 0x087766);
+    expect("readers", "opening_finished, stopped", opening_finished(stopped), 0);
+    expect("readers", "opening_rounds, none", opening_rounds(none), 0);
+    expect("readers", "opening_left, none", opening_left(none), 0);
+    expect("readers", "opening_finished, none", opening_finished(none), 0);
     expect("readers", "opening_word", opening_word(answer), 0x44);
     expect("readers", "opening_first", opening_first(answer), 0x55);
     expect("readers", "opening_second", opening_second(answer), 0x66);
@@ -506,31 +574,37 @@ static void readers(void)
     expect("readers", "opening_bytes", opening_bytes(answer), 0x5544);
 }
 
-/* Each of them takes all the bits of its bytes and no other. */
+/* Each of them takes all of its bits and no other; with the highest bit beside, the count is 0, and the sum is read. */
 static void readers_bit_by_bit(void)
 {
     static const struct {
         const char *name;
         unsigned (*read)(uint64_t);
-        unsigned byte, bytes;
+        unsigned first, behind;
     } reader[] = {
-        {"opening_number", opening_number, 0, 1},
-        {"opening_line", opening_line, 1, 2},
-        {"opening_minutes", opening_minutes, 3, 2},
-        {"opening_rounds", opening_rounds, 5, 3},
-        {"opening_word", opening_word, 3, 1},
-        {"opening_first", opening_first, 4, 1},
-        {"opening_second", opening_second, 5, 1},
-        {"opening_third", opening_third, 6, 1},
-        {"opening_events", opening_events, 3, 2},
-        {"opening_bytes", opening_bytes, 3, 2},
+        {"opening_number", opening_number, 0, 8},
+        {"opening_line", opening_line, 8, 24},
+        {"opening_minutes", opening_minutes, 24, 40},
+        {"opening_rounds", opening_rounds, 40, 63},
+        {"opening_left", opening_left, 64, 64},
+        {"opening_word", opening_word, 24, 32},
+        {"opening_first", opening_first, 32, 40},
+        {"opening_second", opening_second, 40, 48},
+        {"opening_third", opening_third, 48, 56},
+        {"opening_events", opening_events, 24, 40},
+        {"opening_bytes", opening_bytes, 24, 40},
     };
-    for (size_t i = 0; i < sizeof reader / sizeof reader[0]; i++) {
-        for (unsigned bit = 0; bit < 64; bit++) {
-            const unsigned first = 8 * reader[i].byte, behind = first + 8 * reader[i].bytes;
-            const unsigned wanted = first <= bit && bit < behind ? 1u << (bit - first) : 0;
-            expect("readers, bit by bit", reader[i].name, reader[i].read((uint64_t)1 << bit), wanted);
+    for (unsigned bit = 0; bit < 64; bit++) {
+        const uint64_t answer = (uint64_t)1 << bit, stopped = answer | (uint64_t)1 << 63;
+        const unsigned in_count = 40 <= bit && bit < 63;
+        for (size_t i = 0; i < sizeof reader / sizeof reader[0]; i++) {
+            const unsigned first = reader[i].first, wanted = first <= bit && bit < reader[i].behind;
+            expect("readers, bit by bit", reader[i].name, reader[i].read(answer), wanted ? 1u << (bit - first) : 0);
         }
+        expect("readers, bit by bit", "opening_finished", opening_finished(answer), in_count);
+        expect("readers, stopped", "opening_rounds", opening_rounds(stopped), 0);
+        expect("readers, stopped", "opening_left", opening_left(stopped), in_count ? 1u << (bit - 40) : 0);
+        expect("readers, stopped", "opening_finished", opening_finished(stopped), 0);
     }
 }
 
@@ -639,6 +713,9 @@ static void refused_by_all_calls(const char *about, const char *sheet, unsigned 
 {
     solve(about, sheet, strlen(sheet), 100, number, line, 0, NULL, 0);
     solve(about, sheet, strlen(sheet), 0, number, line, 0, NULL, 0);
+    not_within(about, sheet, strlen(sheet), 0, number, line);
+    not_within(about, sheet, strlen(sheet), 1, number, line);
+    not_within(about, sheet, strlen(sheet), UINT32_MAX, number, line);
     judge_refused(about, sheet, 12, number, line);
     judge_refused(about, sheet, 0, number, line);
     judge_refused(about, sheet, 7, number, line);
@@ -679,6 +756,8 @@ static void long_sheets(void)
     memcpy(sheet, duress, strlen(duress));
     solve("4,096 bytes", sheet, OPENING_SHEET_MOST, 12, 10, 16, 0, NULL, 0);
     solve("4,097 bytes", sheet, OPENING_SHEET_MOST + 1, 12, 1, 0, 0, NULL, 0);
+    not_within("4,096 bytes, within 0 rounds", sheet, OPENING_SHEET_MOST, 0, 10, 16);
+    not_within("4,097 bytes, within 0 rounds", sheet, OPENING_SHEET_MOST + 1, 0, 1, 0);
     judge_bytes("4,096 bytes, judged", sheet, OPENING_SHEET_MOST, bytes, sizeof bytes, behind);
     judge_bytes("4,097 bytes, judged", sheet, OPENING_SHEET_MOST + 1, bytes, sizeof bytes, too_long);
     refused_by_all("4,096 bytes, by the others", sheet, OPENING_SHEET_MOST, 10, 16);
@@ -1328,7 +1407,8 @@ static void rows_left(void)
     house("64 rows, no bytes", sheet, end, 0, 12, 0, NULL);
 }
 
-/* 16 events, 4 signals: 256 minutes in 512 bytes, so that both bytes of their count are used. Event i waits for minute i. */
+/* 16 events, 4 signals: 256 minutes in 512 bytes, so that both bytes of their count are used. Event i waits for minute
+ * i, so the first round makes the table, and 16 * (15 * 60 - 120) minutes are left of the horizon. */
 static void largest_table(void)
 {
     static char sheet[OPENING_SHEET_MOST];
@@ -1346,38 +1426,42 @@ static void largest_table(void)
     solve("256 minutes, generous", sheet, end, 600, 0, 0, 2, minutes, 256);
     solve("256 minutes, a pair less", sheet, end, 510, 12, 0, 0, NULL, 0);
     judge("256 minutes", sheet, minutes, 256, OPENING_PASS, 0, 0, 0);
+    within_lengths("256 minutes, as a floor", sheet, 1, 512, (struct within){0, 0, 1, 0, 12480, minutes, 256});
+    within_lengths("256 minutes, as a table", sheet, 2, 512, (struct within){0, 0, 0, 2, 0, minutes, 256});
     minutes[255] = 61;
     judge("the last of 256 late", sheet, minutes, 256, OPENING_LATE, 15, 15, 0);
     minutes[255] = 14;
     judge("the last rule broken in the last case", sheet, minutes, 256, OPENING_RULE, 15, 14, 0);
 }
 
+#define TWO_EVENTS "events,2\na\nb\nsignals,0\n"
+
+/* b one later in each round, up to the horizon, which the round behind passes */
+static const char climb[] = "horizon,60\n" TWO_EVENTS "rules,1\nmin,b,b,1,-\n";
+static const char short_climb[] = "horizon,0\n" TWO_EVENTS "rules,1\nmin,b,b,1,-\n";
+/* by 7 in each round: 7, 14, .., 56, 63 */
+static const char steps[] = "horizon,60\n" TWO_EVENTS "rules,1\nmin,b,b,7,-\n";
+/* the start itself: 0 is its limit, whatever the horizon */
+static const char start[] = "horizon,60\n" TWO_EVENTS "rules,1\nmin,a,a,1,-\n";
+/* the start is raised where b is later than 40: by the round behind the one in which b has reached 41 */
+static const char held[] = "horizon,60\n" TWO_EVENTS "rules,2\nmin,b,b,1,-\nmax,a,b,40,-\n";
+/* each one later than the other before the round, so both one later in each */
+static const char pair[] = "horizon,60\nevents,3\na\nb\nc\nsignals,0\nrules,2\nmin,b,c,1,-\nmin,c,b,1,-\n";
+/* a chain: b reaches its minute in the first round, c in the second, d in the third; the one behind raises nothing */
+static const char chain[] = "horizon,60\nevents,4\na\nb\nc\nd\nsignals,0\nrules,3\n"
+                            "min,c,d,1,-\nmin,b,c,1,-\nmin,a,b,1,-\n";
+/* the same chain typed from its end, as `max` rows */
+static const char turned[] = "horizon,60\nevents,4\na\nb\nc\nd\nsignals,0\nrules,3\n"
+                             "max,d,c,-1,-\nmax,c,b,-1,-\nmax,b,a,-1,-\n";
+/* b and c drive each other while the cases can't be told apart, that is until 51. A minute takes four rounds: b is
+ * raised where p is false, then where it is true, then c there, then c where p is false. The last is b, to 52 in
+ * round 4 * 51 + 1, and the round behind it raises nothing. */
+static const char until_heard[] = "horizon,60\nevents,4\na\nkey\nb\nc\nsignals,1\np,key\nrules,3\n"
+                                  "min,a,key,50,-\nmin,b,c,0,p\nmin,c,b,1,!p\n";
+
 /* How long a sheet keeps the solver: the start's own row, a climb that a signal ends, and one that a limit ends. */
 static void counted_rounds(void)
 {
-#define TWO_EVENTS "events,2\na\nb\nsignals,0\n"
-    /* b one later in each round, up to the horizon, which the round behind passes */
-    static const char climb[] = "horizon,60\n" TWO_EVENTS "rules,1\nmin,b,b,1,-\n";
-    static const char short_climb[] = "horizon,0\n" TWO_EVENTS "rules,1\nmin,b,b,1,-\n";
-    /* by 7 in each round: 7, 14, .., 56, 63 */
-    static const char steps[] = "horizon,60\n" TWO_EVENTS "rules,1\nmin,b,b,7,-\n";
-    /* the start itself: 0 is its limit, whatever the horizon */
-    static const char start[] = "horizon,60\n" TWO_EVENTS "rules,1\nmin,a,a,1,-\n";
-    /* the start is raised where b is later than 40: by the round behind the one in which b has reached 41 */
-    static const char held[] = "horizon,60\n" TWO_EVENTS "rules,2\nmin,b,b,1,-\nmax,a,b,40,-\n";
-    /* c, then b, one later than the other before the round: c stands at 1, 1, 3, 3, .. and b at 0, 2, 2, 4, .. */
-    static const char pair[] = "horizon,60\nevents,3\na\nb\nc\nsignals,0\nrules,2\nmin,b,c,1,-\nmin,c,b,1,-\n";
-    /* a chain: each round raises one more event to its minute, and the one behind the last raises nothing */
-    static const char chain[] = "horizon,60\nevents,4\na\nb\nc\nd\nsignals,0\nrules,3\n"
-                                "min,c,d,1,-\nmin,b,c,1,-\nmin,a,b,1,-\n";
-    /* the same chain typed from its end, as `max` rows */
-    static const char turned[] = "horizon,60\nevents,4\na\nb\nc\nd\nsignals,0\nrules,3\n"
-                                 "max,d,c,-1,-\nmax,c,b,-1,-\nmax,b,a,-1,-\n";
-    /* b and c drive each other while the cases can't be told apart, that is until 51. A minute takes four rounds: b is
-     * raised where p is false, then where it is true, then c there, then c where p is false. The last is b, to 52 in
-     * round 4 * 51 + 1, and the round behind it raises nothing. */
-    static const char until_heard[] = "horizon,60\nevents,4\na\nkey\nb\nc\nsignals,1\np,key\nrules,3\n"
-                                      "min,a,key,50,-\nmin,b,c,0,p\nmin,c,b,1,!p\n";
     solve("a climb", climb, strlen(climb), 4, 13, 0, 61, NULL, 0);
     solve("a climb, a pair less", climb, strlen(climb), 2, 12, 0, 0, NULL, 0);
     solve("a climb, no bytes", climb, strlen(climb), 0, 12, 0, 0, NULL, 0);
@@ -1390,6 +1474,132 @@ static void counted_rounds(void)
     solve("a chain, turned about", turned, strlen(turned), 8, 0, 0, 4, (const uint16_t[]){0, 1, 2, 3}, 4);
     solve("until it is heard", until_heard, strlen(until_heard), 16, 0, 0, 206,
           (const uint16_t[]){0, 50, 52, 51, 0, 50, 51, 51}, 8);
+}
+
+/* One that climbs of 16 events in 16 cases: the other cells stay 0. */
+#define SIXTEEN "events,16\na\nb\nc\nd\ne\nf\ng\nh\ni\nj\nk\nl\nm\nn\no\np\n"
+static const char broad_climb[] = "horizon,10080\n" SIXTEEN "signals,4\nw,b\nx,c\ny,d\nz,e\n"
+                                  "rules,1\nmin,p,p,1,-\n";
+
+/* Floors after so many rounds, fewer than the run takes, and the sum of what is left of the horizon beside each, over
+ * the events but the start, and not over blanks. */
+static const struct {
+    const char *sheet;
+    uint32_t limit;
+    unsigned left;
+    size_t count;
+    uint16_t minutes[8];
+} floors[] = {
+    /* The call comes to 5 and, where p is true, the door to 15; then the door to 20 there, and to 6 where p is false,
+     * as p counts from then on. The third round raises nothing: 55 + 60 + 55 + 45, and 55 + 54 + 55 + 40. */
+    {example, 1, 215, 6, {0, 5, 0, 0, 5, 15}},
+    {example, 2, 204, 6, {0, 5, 6, 0, 5, 20}},
+    /* The same: it is the third round in which the start is to come at 1, since the door is at 20 and not at 19. */
+    {no_table, 1, 215, 6, {0, 5, 0, 0, 5, 15}},
+    {no_table, 2, 204, 6, {0, 5, 6, 0, 5, 20}},
+    /* With a reaction of 15 the door, where p is false, follows where it is true: to 15, then to 20. */
+    {after_15, 1, 215, 6, {0, 5, 0, 0, 5, 15}},
+    {after_15, 2, 195, 6, {0, 5, 15, 0, 5, 20}},
+    {after_15, 3, 190, 6, {0, 5, 20, 0, 5, 20}},
+    /* The key comes to 5, and what happens only where p is true to 3, then to 8: 55 + 55 + 57, then 55 + 55 + 52. */
+    {duress, 1, 167, 6, {0, 5, 65535, 0, 5, 3}},
+    {duress, 2, 162, 6, {0, 5, 65535, 0, 5, 8}},
+    {high, 1, 9080, 2, {0, 1000}},
+    {climb, 1, 59, 2, {0, 1}},
+    {climb, 37, 23, 2, {0, 37}},
+    {climb, 59, 1, 2, {0, 59}},
+    {climb, 60, 0, 2, {0, 60}},
+    {steps, 1, 53, 2, {0, 7}},
+    {steps, 8, 4, 2, {0, 56}},
+    {held, 40, 20, 2, {0, 40}},
+    {held, 41, 19, 2, {0, 41}},
+    {pair, 1, 118, 3, {0, 1, 1}},
+    {pair, 60, 0, 3, {0, 60, 60}},
+    {chain, 1, 177, 4, {0, 1, 1, 1}},
+    {chain, 2, 175, 4, {0, 1, 2, 2}},
+    {chain, 3, 174, 4, {0, 1, 2, 3}},
+    {turned, 2, 175, 4, {0, 1, 2, 2}},
+    /* The key at 50 leaves 10 in each case. b and c stand at 25 in both after 4 * 25 rounds; then b comes to 26 where p
+     * is false, then where it is true, then c there, then c where p is false. */
+    {until_heard, 1, 259, 8, {0, 50, 1, 0, 0, 50, 0, 0}},
+    {until_heard, 100, 160, 8, {0, 50, 25, 25, 0, 50, 25, 25}},
+    {until_heard, 101, 159, 8, {0, 50, 26, 25, 0, 50, 25, 25}},
+    {until_heard, 102, 158, 8, {0, 50, 26, 25, 0, 50, 26, 25}},
+    {until_heard, 103, 157, 8, {0, 50, 26, 25, 0, 50, 26, 26}},
+    {until_heard, 104, 156, 8, {0, 50, 26, 26, 0, 50, 26, 26}},
+    {until_heard, 204, 56, 8, {0, 50, 51, 51, 0, 50, 51, 51}},
+    {until_heard, 205, 55, 8, {0, 50, 52, 51, 0, 50, 51, 51}},
+};
+
+static void floors_by_hand(void)
+{
+    for (size_t i = 0; i < sizeof floors / sizeof floors[0]; i++) {
+        const struct within asked = {0, 0, 1, 0, floors[i].left, floors[i].minutes, floors[i].count};
+        char about[64];
+        sprintf(about, "floor %u, after %u rounds", (unsigned)i, (unsigned)floors[i].limit);
+        within_lengths(about, floors[i].sheet, floors[i].limit, 2 * floors[i].count, asked);
+    }
+}
+
+/* Runs that finish within so many rounds: how many they take, and the table, unless there is none. */
+static const struct {
+    const char *sheet;
+    unsigned rounds;
+    size_t count;
+    uint16_t minutes[8];
+    int none;
+} finished[] = {
+    {example, 3, 6, {0, 5, 6, 0, 5, 20}, 0},
+    {no_table, 3, 6, {0}, 1},
+    {after_15, 4, 6, {0, 5, 20, 0, 5, 20}, 0},
+    {duress, 3, 6, {0, 5, 65535, 0, 5, 8}, 0},
+    {high, 2, 2, {0, 1000}, 0},
+    {climb, 61, 2, {0}, 1},
+    {short_climb, 1, 2, {0}, 1},
+    {steps, 9, 2, {0}, 1},
+    {start, 1, 2, {0}, 1},
+    {held, 42, 2, {0}, 1},
+    {pair, 61, 3, {0}, 1},
+    {chain, 4, 4, {0, 1, 2, 3}, 0},
+    {turned, 4, 4, {0, 1, 2, 3}, 0},
+    {until_heard, 206, 8, {0, 50, 52, 51, 0, 50, 51, 51}, 0},
+};
+
+/* Within as many rounds as it takes, or more, those too whose low bits are all 0; and within none: that is 23, with a
+ * table and without, unless it is 12. */
+static void finished_by_hand(void)
+{
+    static const uint32_t limits[] = {0, 1, 256, 65536, 16777216, 2147483648u, UINT32_MAX};
+    for (size_t i = 0; i < sizeof finished / sizeof finished[0]; i++) {
+        const int none = finished[i].none;
+        const size_t count = none ? 0 : finished[i].count;
+        const struct within asked = {none ? 13 : 0, 0, 0, finished[i].rounds, 0, finished[i].minutes, count};
+        const size_t exact = 2 * finished[i].count;
+        char about[64];
+        for (size_t j = 0; j < sizeof limits / sizeof limits[0]; j++) {
+            const uint32_t limit = limits[j] < 256 ? finished[i].rounds + limits[j] : limits[j];
+            sprintf(about, "finished %u, within %u rounds", (unsigned)i, (unsigned)limit);
+            within_lengths(about, finished[i].sheet, limit, exact, asked);
+        }
+        sprintf(about, "finished %u, within 0 rounds", (unsigned)i);
+        within_lengths(about, finished[i].sheet, 0, exact, (struct within){23, 0, 0, 0, 0, NULL, 0});
+    }
+}
+
+/* Of 240 cells 16 are raised by 1 in each round: 240 * 10080 is 2419200. */
+static void broad_floors(void)
+{
+    static const uint32_t limits[] = {1, 5000, 10079, 10080};
+    static const unsigned left[] = {2419184, 2339200, 2257936, 2257920};
+    static const struct within none = {13, 0, 0, 10081, 0, NULL, 0};
+    for (size_t i = 0; i < sizeof limits / sizeof limits[0]; i++) {
+        uint16_t minutes[256] = {0};
+        for (size_t s = 0; s < 16; s++)
+            minutes[16 * s + 15] = (uint16_t)limits[i];
+        const struct within asked = {0, 0, 1, 0, left[i], minutes, 256};
+        within_lengths("a broad climb", broad_climb, limits[i], 512, asked);
+    }
+    within_lengths("a broad climb, to its end", broad_climb, 10081, 512, none);
 }
 
 /* The heaviest sheets by hand, and how many rounds they take: (n - 1) * H + 1. */
@@ -1430,6 +1640,58 @@ static void heaviest_sheets(void)
         house(about, sheet, exact, 0, 12, 0, NULL);
     }
     expect("heaviest sheets", "the longest", strlen(heaviest[5].sheet), 255);
+}
+
+/* Floors of the heaviest sheets, each by its place: a round raises one event by a minute, b first and then the next in
+ * turn, so the sum is (n - 1) * H less the rounds. */
+static const struct {
+    size_t sheet;
+    uint32_t limit;
+    unsigned left;
+    size_t count;
+    uint16_t minutes[16];
+} heavy_floors[] = {
+    {1, 1, 10079, 2, {0, 1}},
+    {1, 10080, 0, 2, {0, 10080}},
+    {2, 14, 0, 3, {0, 7, 7}},
+    {2, 13, 1, 3, {0, 7, 6}},
+    {3, 1, 179, 4, {0, 1, 0, 0}},
+    {3, 2, 178, 4, {0, 1, 1, 0}},
+    {3, 3, 177, 4, {0, 1, 1, 1}},
+    {3, 4, 176, 4, {0, 2, 1, 1}},
+    {3, 100, 80, 4, {0, 34, 33, 33}},
+    {3, 101, 79, 4, {0, 34, 34, 33}},
+    {3, 102, 78, 4, {0, 34, 34, 34}},
+    {3, 180, 0, 4, {0, 60, 60, 60}},
+    {4, 555, 445, 11, {0, 56, 56, 56, 56, 56, 55, 55, 55, 55, 55}},
+    {5, 65535, 85665, 16,
+     {0, 4369, 4369, 4369, 4369, 4369, 4369, 4369, 4369, 4369, 4369, 4369, 4369, 4369, 4369, 4369}},
+    {5, 65536, 85664, 16,
+     {0, 4370, 4369, 4369, 4369, 4369, 4369, 4369, 4369, 4369, 4369, 4369, 4369, 4369, 4369, 4369}},
+    {5, 75007, 76193, 16,
+     {0, 5001, 5001, 5001, 5001, 5001, 5001, 5001, 5000, 5000, 5000, 5000, 5000, 5000, 5000, 5000}},
+    {5, 151199, 1, 16,
+     {0, 10080, 10080, 10080, 10080, 10080, 10080, 10080, 10080, 10080, 10080, 10080, 10080, 10080, 10080, 10079}},
+    {5, 151200, 0, 16,
+     {0, 10080, 10080, 10080, 10080, 10080, 10080, 10080, 10080, 10080, 10080, 10080, 10080, 10080, 10080, 10080}},
+};
+
+static void floors_of_heaviest_sheets(void)
+{
+    for (size_t i = 0; i < sizeof heavy_floors / sizeof heavy_floors[0]; i++) {
+        const struct within asked = {0, 0, 1, 0, heavy_floors[i].left, heavy_floors[i].minutes, heavy_floors[i].count};
+        char about[64];
+        const char *sheet = heaviest[heavy_floors[i].sheet].sheet;
+        const uint32_t limit = heavy_floors[i].limit;
+        sprintf(about, "heaviest sheet %u, after %u rounds", (unsigned)heavy_floors[i].sheet, (unsigned)limit);
+        within_lengths(about, sheet, limit, 2 * heavy_floors[i].count, asked);
+    }
+    for (size_t i = 0; i < sizeof heaviest / sizeof heaviest[0]; i++) {
+        const char *sheet = heaviest[i].sheet;
+        const struct within none = {13, 0, 0, heaviest[i].rounds, 0, NULL, 0};
+        solve_within("heaviest sheet, to its end", sheet, strlen(sheet), heaviest[i].rounds, 32, none);
+        solve_within("heaviest sheet, to its end", sheet, strlen(sheet), UINT32_MAX, 32, none);
+    }
 }
 
 /* Lines that are turned away, each whatever room is lent. */
@@ -1538,7 +1800,11 @@ int main(void)
     rows_resulting();
     fourth_trial();
     counted_rounds();
+    floors_by_hand();
+    finished_by_hand();
+    broad_floors();
     heaviest_sheets();
+    floors_of_heaviest_sheets();
     lines_turned_away();
     for (size_t i = 0; i < sizeof heaviest / sizeof heaviest[0]; i++)
         ring_then_solve(heaviest[i].line, heaviest[i].rounds);

@@ -23,10 +23,10 @@ body() { awk '/^ \* Example, /{ p = 1; next } /^ \*\/$/{ exit } p { sub(/^ \*/, 
   body
   printf '    return 0;\n}\n'
 } >"$room/example.c"
-[ "$(body | grep -c opening_)" -ge 11 ] || fail 'the comment has no example'
+[ "$(body | grep -c opening_)" -ge 14 ] || fail 'the comment has no example'
 gcc -std=c99 -O2 -Wall -Wextra -Wpedantic -Werror -Iinclude -o "$room/example" "$room/example.c" "$1" || fail 'not compiled'
-[ "$("$room/example" | tr '\n' ' ')" = '0 5 6 0 5 20 3 rounds good door at 6 ' ] || fail 'where p is false'
-[ "$("$room/example" p | tr '\n' ' ')" = '0 5 6 0 5 20 3 rounds good door at 20 ' ] || fail 'where p is true'
+[ "$("$room/example" | tr '\n' ' ')" = '215 left 0 5 6 0 5 20 3 rounds good door at 6 ' ] || fail 'where p is false'
+[ "$("$room/example" p | tr '\n' ' ')" = '215 left 0 5 6 0 5 20 3 rounds good door at 20 ' ] || fail 'where p is true'
 nm "$1" >"$room/symbols" || fail 'no symbols'
 grep -q ' T opening_solve$' "$room/symbols" || fail 'the symbols are not those of the library'
 ! grep -E '^[0-9a-f]* [BbCDdGgSs] ' "$room/symbols" || fail 'the library has memory of its own'

@@ -1,6 +1,7 @@
 //! The mode without a word: the C calls of `libopening.a` on generated sheets, tables, minutes, texts, listings and
 //! lines, against the model.
 
+use crate::floors;
 use crate::gen::{self, Rng};
 use crate::lent::{lend_bytes, lend_room, lend_text, Lent};
 use crate::library::{self, Library, Question};
@@ -14,12 +15,12 @@ use std::process::exit;
 
 /// The number and the line stand in the lowest three bytes of every answer; on a refusal the other numbers are 0, but
 /// for the count of rounds beside 13.
-fn refusal_answer(refusal: Refusal) -> u64 {
+pub fn refusal_answer(refusal: Refusal) -> u64 {
     u64::from(refusal.number) | (refusal.line as u64) << 8
 }
 
 /// What is written or due stands in the next two bytes.
-fn value_answer(value: usize) -> u64 {
+pub fn value_answer(value: usize) -> u64 {
     (value as u64) << 24
 }
 
@@ -129,10 +130,15 @@ pub fn compare(seed: u64, cases: u64) {
     println!("{cases} cases from seed {seed}: no difference");
 }
 
-/// All calls for the sheet of one seed, the converter's for one that is made for it too, at times those that write
-/// other texts for a second sheet, which has more of what they turn on, and the writer of the heaviest sheets for a
-/// line.
+/// All calls for what one seed makes: the one that may stop a run for a sheet of its own.
 pub fn compare_one(library: &Library, seed: u64, counts: &mut Counts) -> Result<(), String> {
+    compare_others(library, seed, counts)?;
+    floors::compare_one(library, seed, counts)
+}
+
+/// All other calls for a sheet, the converter's for one that is made for it too, at times those that write other texts
+/// for a second sheet, which has more of what they turn on, and the writer of the heaviest sheets for a line.
+pub fn compare_others(library: &Library, seed: u64, counts: &mut Counts) -> Result<(), String> {
     let mut rng = Rng::new(seed);
     let sheet = gen::sheet(&mut rng);
     let case = Case::new(&mut rng, &sheet, solve);
@@ -186,7 +192,7 @@ fn compare_long_texts(library: &Library, rng: &mut Rng, counts: &mut Counts) -> 
 }
 
 /// Exact, generous, odd and too short tables; for a refused sheet a short and a long one.
-fn solver_lengths(rng: &mut Rng, reading: &Result<Net, Refusal>) -> Vec<usize> {
+pub fn solver_lengths(rng: &mut Rng, reading: &Result<Net, Refusal>) -> Vec<usize> {
     match reading {
         Err(_) => vec![rng.below(40), 600],
         Ok(net) => {
@@ -426,7 +432,7 @@ fn listing_scene(listing: &Lent) -> String {
 }
 
 /// A call's answer, and each part of lent memory, its guards too: first what it is to be, then what it is.
-fn check(call: &str, (right, answer): (u64, u64), memory: &[(&str, &Lent, &Lent)]) -> Result<(), String> {
+pub fn check(call: &str, (right, answer): (u64, u64), memory: &[(&str, &Lent, &Lent)]) -> Result<(), String> {
     if answer != right {
         let bytes = |answer: u64| answer.to_le_bytes().map(|byte| byte.to_string()).join(" ");
         return Err(format!("the {call} answers the bytes\n  {}\nand not\n  {}\n", bytes(answer), bytes(right)));
@@ -437,9 +443,13 @@ fn check(call: &str, (right, answer): (u64, u64), memory: &[(&str, &Lent, &Lent)
     Ok(())
 }
 
-/// The sheet and the table, so that the call can be made by hand.
 fn scene(case: &Case, table: Option<&Lent>) -> String {
-    let sheet = format!("sheet of {} bytes\n{}", case.sheet.length, text_of(case.sheet.slice()));
+    scene_of(&case.sheet, table)
+}
+
+/// The sheet and the table, so that the call can be made by hand.
+pub fn scene_of(sheet: &Lent, table: Option<&Lent>) -> String {
+    let sheet = format!("sheet of {} bytes\n{}", sheet.length, text_of(sheet.slice()));
     sheet + &table.map_or(String::new(), |table| format!("table of {} bytes {:?}", table.length, table.slice()))
 }
 

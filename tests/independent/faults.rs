@@ -46,6 +46,7 @@ const fn convert(convert: fn(&[u8], &mut [u8]) -> u64) -> Library {
 
 const REFUSES_ALL: Library = Library {
     solve: |_, _| refused_call(13),
+    solve_within: |_, _, _| refused_call(13),
     judge: |_, _| refused_call(11),
     due: |_| refused_call(16),
     listing: |_, _, _| refused_call(12),

@@ -2,6 +2,7 @@
 //! solver counts other rounds or puts their count elsewhere, by the mode without a word; and writers of the heaviest
 //! sheets, as libraries by that mode and as programs by the mode `ring`.
 
+use crate::early;
 use crate::leaps::{self, Slip as Solved};
 use crate::library::own::{self, refused_call, write_text};
 use crate::library::Library;
@@ -22,7 +23,7 @@ pub struct Ringing {
 /// The right one; its solver passes over rounds.
 pub const RIGHT: Ringing = Ringing { print: ring_again, library: LEAPING };
 
-const LEAPING: Library = Library { solve: leaping, ..own::LIBRARY };
+pub const LEAPING: Library = Library { solve: leaping, solve_within: leaping_within, ..own::LIBRARY };
 
 const fn solver(solve: fn(&[u8], &mut [u8]) -> u64) -> Library {
     Library { solve, ..own::LIBRARY }
@@ -42,7 +43,7 @@ pub fn ring_faults() -> Vec<(&'static str, Ringing)> {
     let printing = |(name, print): (&'static str, Printer)| (name, Ringing { print, ..RIGHT });
     let calling = |(name, library): (&'static str, Library)| (name, Ringing { library, ..RIGHT });
     let printers = PRINTERS.into_iter().chain(PROGRAMS).map(printing);
-    printers.chain(BESIDE.into_iter().map(calling)).collect()
+    printers.chain(BESIDE.into_iter().chain(early::RINGS).map(calling)).collect()
 }
 
 /// The wrong program with a name.
@@ -91,6 +92,11 @@ const COUNTS: [(&str, Library); 33] = [
 /// The right solver, which passes over rounds.
 pub fn leaping(sheet: &[u8], table: &mut [u8]) -> u64 {
     own::solve_by(sheet, table, |net| leaps::run_and_turns(net).0)
+}
+
+/// The same where it may be stopped.
+pub fn leaping_within(sheet: &[u8], rounds: u32, table: &mut [u8]) -> u64 {
+    own::solve_within_by(sheet, rounds, table, |net, most| leaps::stopped_with(net, most, Solved::None))
 }
 
 /// The right table, with the count of a run with a slip.
@@ -346,15 +352,12 @@ const BESIDE: [(&str, Library); 10] = [
     ("rounds-high-byte-lost-in-the-line", solving(|sheet, table| moved(leaping(sheet, table), 8))),
 ];
 
-/// A solver, for the mode `count`.
-type Solver = fn(&[u8], &mut [u8]) -> u64;
-
-/// Solvers that count other rounds than plain ones.
-pub const SOLVERS: [(&str, Solver); 4] = [
-    ("solver's-rounds-are-turns", |sheet, table| own::solve_by(sheet, table, turns)),
-    ("solver's-rounds-one-less-from-1000-on", |sheet, table| rounds_as(sheet, table, |it| it - (it / 1_000).min(1))),
-    ("solver's-rounds-of-a-run-in-place", |sheet, table| counted_as(sheet, table, Solved::RaisedInPlace)),
-    ("solver's-rounds-left-out", |sheet, table| leaping(sheet, table) & 0xff_ffff_ffff),
+/// For the mode `count`: solvers that count other rounds than plain ones.
+pub const SOLVERS: [(&str, Library); 4] = [
+    ("solver's-rounds-are-turns", solving(|sheet, table| own::solve_by(sheet, table, turns))),
+    ("solver's-rounds-one-less-from-1000-on", solving(|s, table| rounds_as(s, table, |it| it - (it / 1_000).min(1)))),
+    ("solver's-rounds-of-a-run-in-place", solving(|sheet, table| counted_as(sheet, table, Solved::RaisedInPlace))),
+    ("solver's-rounds-left-out", solving(|sheet, table| leaping(sheet, table) & 0xff_ffff_ffff)),
 ];
 
 const fn of_slip(ring: fn(&[u8], &mut [u8]) -> u64) -> Library {

@@ -10,7 +10,7 @@
 use crate::library::own;
 use crate::library::Tally;
 use crate::model::{self, holds_in, truth, Kind, Net, Rule, BLANK};
-use crate::rounds::{self, Run};
+use crate::rounds::{self, Floor, Run};
 
 /// A bound of a cell: the least of these cells, each with these minutes added.
 type Bound = Vec<(usize, i64)>;
@@ -58,6 +58,12 @@ pub enum Slip {
     RulesOfLabelOnly,
     AbsentRaised,
     BlanksZero,
+    StopPassedOver,
+    StopAtNextPeriod,
+    StopAtLastPeriod,
+    StopBeforeLeap,
+    StopByTurns,
+    StopBeforeEnd,
 }
 
 pub const COUNT_FAULTS: [(&str, Tally); 32] = [
@@ -106,7 +112,7 @@ pub fn leaping(sheet: &[u8]) -> u64 {
 
 /// How many rounds the right one makes one by one.
 pub fn turns(sheet: &[u8]) -> u64 {
-    model::read(sheet).map_or(0, |net| u64::from(Leaper::new(&net, Slip::None).run().1))
+    model::read(sheet).map_or(0, |net| u64::from(run_and_turns(&net).1))
 }
 
 /// The table of a solver with a slip.
@@ -116,17 +122,40 @@ pub fn table_with(net: &Net, slip: Slip) -> Option<Vec<u16>> {
 
 /// Its table and its count.
 pub fn run_with(net: &Net, slip: Slip) -> Run {
-    Leaper::new(net, slip).run().0
+    stopped_with(net, u32::MAX, slip).expect(NOT_STOPPED)
+}
+
+/// The same, or its floor after so many rounds.
+pub fn stopped_with(net: &Net, most: u32, slip: Slip) -> Result<Run, Floor> {
+    Leaper::new(net, slip).run(most).ends
 }
 
 /// The run of the right one, and how many rounds it makes one by one.
 pub fn run_and_turns(net: &Net) -> (Run, u32) {
-    Leaper::new(net, Slip::None).run()
+    let Course { ends, turns, .. } = Leaper::new(net, Slip::None).run(u32::MAX);
+    (ends.expect(NOT_STOPPED), turns)
+}
+
+/// How many rounds are made before and behind each leap of the right one.
+pub fn bends(net: &Net) -> Vec<u32> {
+    Leaper::new(net, Slip::None).run(u32::MAX).bends
 }
 
 fn answer(sheet: &[u8], slip: Slip) -> u64 {
-    model::read(sheet).map_or(0, |net| rounds::answer(&net, &Leaper::new(&net, slip).run().0))
+    model::read(sheet).map_or(0, |net| rounds::answer(&net, &run_with(&net, slip)))
 }
+
+/// How a run goes.
+struct Course {
+    /// Its end, or the floor where it is stopped.
+    ends: Result<Run, Floor>,
+    /// How many rounds were made one by one.
+    turns: u32,
+    /// How many rounds were made before and behind each leap.
+    bends: Vec<u32>,
+}
+
+const NOT_STOPPED: &str = "no run is that long";
 
 struct Leaper {
     /// The bounds of each cell; the first is its own value.
@@ -159,27 +188,37 @@ impl Leaper {
         Leaper { bounds: all(slip), leap_bounds: all(leap_slip), limits, blank, events, slip }
     }
 
-    /// The run, and how many rounds were made one by one.
-    fn run(&self) -> (Run, u32) {
+    /// The run, or the floor after so many rounds.
+    fn run(&self, most: u32) -> Course {
         let mut tables = vec![vec![0; self.limits.len()]];
         let (mut count, mut turns, mut look) = (0u32, 0, FIRST_LOOK);
-        let mut before_leap = None;
-        loop {
+        let (mut before_leap, mut bends) = (None, vec![]);
+        let ends = loop {
             let before = tables.last().unwrap();
+            if most <= if self.slip == Slip::StopByTurns { turns } else { count } {
+                let found = if self.slip == Slip::StopBeforeLeap { before_leap.as_ref() } else { None };
+                break Err(self.floor(found.unwrap_or(before)));
+            }
             let after = self.round(before);
             (count, turns) = (count + 1, turns + 1);
+            if self.slip == Slip::StopBeforeEnd && count == most {
+                break Err(self.floor(before));
+            }
             if self.passed(if self.slip == Slip::LimitTestedBefore { before } else { &after }) {
-                return (self.ended(count, None), turns);
+                break Ok(self.ended(count, None));
             }
             if after == *before {
                 let found = if self.slip == Slip::TableBeforeLeap { before_leap.unwrap_or(after) } else { after };
-                return (self.ended(count, Some(found)), turns);
+                break Ok(self.ended(count, Some(found)));
             }
             tables.push(after);
             if tables.len() >= look {
                 look += look / 4;
-                if let Some(leap) = self.leap(&tables) {
-                    count = count.wrapping_add(self.passed_over(&leap));
+                if let Some(leap) = self.leap(&tables, most.wrapping_sub(count)) {
+                    let landing = count.wrapping_add(self.passed_over(&leap));
+                    bends.extend([count, landing]);
+                    let stops = self.slip == Slip::StopAtLastPeriod && most < landing + leap.period as u32;
+                    count = if stops { most } else { landing };
                     before_leap = tables.pop();
                     tables = vec![leap.table];
                     look = FIRST_LOOK;
@@ -189,7 +228,8 @@ impl Leaper {
                 tables.drain(..tables.len() - 1);
                 look = FIRST_LOOK;
             }
-        }
+        };
+        Course { ends, turns, bends }
     }
 
     fn ended(&self, count: u32, table: Option<Table>) -> Run {
@@ -199,12 +239,21 @@ impl Leaper {
             Slip::PassingNotCounted => table.is_none(),
             _ => false,
         };
-        let number = |(minute, &blank): (i64, &bool)| match blank && self.slip != Slip::BlanksZero {
+        Run { count: count - u32::from(uncounted), table: table.map(|table| self.written(&table)) }
+    }
+
+    fn written(&self, table: &Table) -> Vec<u16> {
+        let number = |(&minute, &blank): (&i64, &bool)| match blank && self.slip != Slip::BlanksZero {
             true => BLANK,
             false => minute as u16,
         };
-        let table = table.map(|table| table.into_iter().zip(&self.blank).map(number).collect());
-        Run { count: count - u32::from(uncounted), table }
+        table.iter().zip(&self.blank).map(number).collect()
+    }
+
+    fn floor(&self, table: &Table) -> Floor {
+        let free = (0..table.len()).filter(|cell| cell % self.events != 0 && !self.blank[*cell]);
+        let left = free.map(|cell| self.limits[cell] - table[cell]).sum::<i64>() as u32;
+        Floor { table: self.written(table), left }
     }
 
     fn passed_over(&self, leap: &Leap) -> u32 {
@@ -227,8 +276,9 @@ impl Leaper {
         table.iter().zip(&self.limits).any(|(minute, limit)| minute > limit)
     }
 
-    /// A leap from the last of these tables, if the rises before it repeat and will do so for some time.
-    fn leap(&self, tables: &[Table]) -> Option<Leap> {
+    /// A leap from the last of these tables, if the rises before it repeat and will do so for some time, over no more
+    /// rounds than are left.
+    fn leap(&self, tables: &[Table], left: u32) -> Option<Leap> {
         let period = period(tables)?;
         let tables = &tables[tables.len() - 1 - period..];
         let (first, last) = (&tables[0], &tables[period]);
@@ -237,6 +287,11 @@ impl Leaper {
         if self.slip != Slip::HorizonPassedOver {
             times = (0..last.len()).filter(|&cell| rises[cell] > 0).map(|cell| (self.limits[cell] - last[cell]) / rises[cell]).fold(times, i64::min);
         }
+        times = times.min(match self.slip {
+            Slip::StopPassedOver | Slip::StopByTurns => MANY,
+            Slip::StopAtNextPeriod => left.div_ceil(period as u32).into(),
+            _ => (left / period as u32).into(),
+        });
         if times < 1 {
             return None;
         }

@@ -5,6 +5,7 @@
 #[derive(Clone, Copy)]
 pub struct Library {
     pub solve: fn(sheet: &[u8], table: &mut [u8]) -> u64,
+    pub solve_within: fn(sheet: &[u8], rounds: u32, table: &mut [u8]) -> u64,
     pub judge: fn(sheet: &[u8], table: &[u8]) -> u64,
     pub due: fn(question: Question) -> u64,
     pub listing: fn(sheet: &[u8], table: &[u8], out: &mut [u8]) -> u64,
@@ -35,18 +36,25 @@ pub struct Tally {
 #[cfg(not(standalone))]
 pub use linked::{LIBRARY, TALLY};
 #[cfg(standalone)]
-pub use own::{LIBRARY, TALLY};
+pub use own::TALLY;
+/// The model, but that a run which may be stopped passes over rounds where it is long.
+#[cfg(standalone)]
+pub const LIBRARY: Library = Library { solve_within: own::solve_long_within, ..own::LIBRARY };
 
 #[cfg(not(standalone))]
 mod linked {
     use super::{Library, Question, Tally};
 
-    pub const LIBRARY: Library = Library { solve, judge, due, listing, house, read_listing, convert, ring };
+    pub const LIBRARY: Library =
+        Library { solve, solve_within, judge, due, listing, house, read_listing, convert, ring };
     pub const TALLY: Tally = Tally { leaping, plain, turns };
 
     #[link(name = "opening", kind = "static")]
     extern "C" {
         fn opening_solve(sheet: *const u8, sheet_len: usize, table: *mut u8, table_len: usize) -> u64;
+        fn opening_solve_within(
+            sheet: *const u8, sheet_len: usize, rounds: u32, table: *mut u8, table_len: usize,
+        ) -> u64;
         fn opening_judge(sheet: *const u8, sheet_len: usize, table: *const u8, table_len: usize) -> u64;
         fn opening_due(
             sheet: *const u8, sheet_len: usize, table: *const u8, table_len: usize, minute: u16, heard: *const u8, heard_len: usize,
@@ -72,6 +80,10 @@ mod linked {
 
     fn solve(sheet: &[u8], table: &mut [u8]) -> u64 {
         unsafe { opening_solve(sheet.as_ptr(), sheet.len(), table.as_mut_ptr(), table.len()) }
+    }
+
+    fn solve_within(sheet: &[u8], rounds: u32, table: &mut [u8]) -> u64 {
+        unsafe { opening_solve_within(sheet.as_ptr(), sheet.len(), rounds, table.as_mut_ptr(), table.len()) }
     }
 
     fn judge(sheet: &[u8], table: &[u8]) -> u64 {
@@ -121,9 +133,10 @@ pub mod own {
     use super::{Library, Question, Tally};
     use crate::model::{self, Net, Refusal, Verdict};
     use crate::leaps;
-    use crate::rounds::{self, Run};
+    use crate::rounds::{self, Floor, Run};
 
-    pub const LIBRARY: Library = Library { solve, judge, due, listing, house, read_listing, convert, ring };
+    pub const LIBRARY: Library =
+        Library { solve, solve_within, judge, due, listing, house, read_listing, convert, ring };
     pub const TALLY: Tally = Tally { leaping: leaps::leaping, plain, turns: leaps::turns };
 
     /// The bytes, lowest first: refusal number; line (two bytes); then five bytes that each call fills in its own way.
@@ -194,16 +207,57 @@ pub mod own {
 
     /// The same with another run.
     pub fn solve_by(sheet: &[u8], table: &mut [u8], run: impl Fn(&Net) -> Run) -> u64 {
-        let net = match model::read(sheet) {
+        roomy(sheet, table).map_or_else(refused, |net| ended(&run(&net), table))
+    }
+
+    /// The sheet's own refusals, then 12.
+    pub fn roomy(sheet: &[u8], table: &[u8]) -> Result<Net, Refusal> {
+        let net = model::read(sheet)?;
+        if table.len() / 2 < net.cells() { Err(Refusal { number: 12, line: 0 }) } else { Ok(net) }
+    }
+
+    /// A table is written, or it is 13; either with the count of rounds.
+    pub fn ended(run: &Run, table: &mut [u8]) -> u64 {
+        let answer = run.table.as_ref().map_or_else(|| refused_call(13), |minutes| write(minutes, table));
+        with_rounds(answer, run.count)
+    }
+
+    /// The sheet's own refusals, then 12, 23 and 13; or, where the run takes more rounds, the floor.
+    pub fn solve_within(sheet: &[u8], rounds: u32, table: &mut [u8]) -> u64 {
+        solve_within_by(sheet, rounds, table, rounds::stopped)
+    }
+
+    /// The same with another run.
+    pub fn solve_within_by(
+        sheet: &[u8], rounds: u32, table: &mut [u8], stopped: impl Fn(&Net, u32) -> Result<Run, Floor>,
+    ) -> u64 {
+        let net = match roomy(sheet, table) {
             Err(refusal) => return refused(refusal),
+            Ok(_) if rounds == 0 => return refused_call(23),
             Ok(net) => net,
         };
-        if table.len() / 2 < net.cells() {
-            return refused_call(12);
+        match stopped(&net, rounds) {
+            Ok(run) => ended(&run, table),
+            Err(floor) => halted(&floor, table),
         }
-        let Run { count, table: found } = run(&net);
-        let answer = found.map_or_else(|| refused_call(13), |minutes| write(&minutes, table));
-        with_rounds(answer, count)
+    }
+
+    /// So many rounds are made one by one sooner than they are passed over.
+    #[cfg(standalone)]
+    const PLAIN: u32 = 300;
+
+    /// The same by a run that passes over rounds behind the first.
+    #[cfg(standalone)]
+    pub fn solve_long_within(sheet: &[u8], rounds: u32, table: &mut [u8]) -> u64 {
+        solve_within_by(sheet, rounds, table, |net, most| match rounds::stopped(net, most.min(PLAIN)) {
+            Err(_) if most > PLAIN => leaps::stopped_with(net, most, leaps::Slip::None),
+            stopped => stopped,
+        })
+    }
+
+    /// A floor is written; the sum stands where the count of rounds would, below the highest bit, which is 1.
+    pub fn halted(floor: &Floor, table: &mut [u8]) -> u64 {
+        write(&floor.table, table) | u64::from(floor.left) << 40 | 1 << 63
     }
 
     /// The count of rounds "goes with a solver's table and with refusal 13": three bytes behind the minutes.

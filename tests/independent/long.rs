@@ -45,6 +45,13 @@ fn long_sheet(rng: &mut Rng, make: Maker, mut horizon: i64) -> Vec<u8> {
     }
 }
 
+/// A sheet of one of the makers with a small horizon: its run is soon made, and most often takes more rounds than that
+/// of an ordinary sheet.
+pub fn climb(rng: &mut Rng) -> Vec<u8> {
+    let (make, horizon) = (rng.pick(&MAKERS), rng.between(3, 60));
+    finished(rng, make, horizon)
+}
+
 /// The heaviest sheet: "Its events are a, b, c and so on; its rules are `min` rows labelled `-`, of 0 from b on to each
 /// next event, then of 1 from the last back to b."
 pub fn heaviest(events: usize, horizon: i64) -> Vec<u8> {
@@ -113,9 +120,10 @@ fn bound_above(rng: &mut Rng, draft: &mut Draft) {
     draft.rules.push(DraftRule { kind: "max", from, to: climbing, limit, label });
 }
 
-/// Brings the horizon close to the latest minute of the table, if there is one: at it, or up to two below or above.
+/// Brings the horizon close to the latest minute of the table, if there is one: at it, or up to two below or above. (A
+/// sheet is refused where another event gives a signal now and its label is not part of those that use the signal.)
 fn tighten(rng: &mut Rng, draft: &mut Draft) {
-    let net = model::read(&draft.bytes()).expect("a drafted sheet is valid");
+    let Ok(net) = model::read(&draft.bytes()) else { return };
     let table = rounds::run_within(&net, ROUNDS_MOST).and_then(|run| run.table);
     let latest = table.and_then(|table| table.into_iter().filter(|&minute| minute != model::BLANK).max());
     if let Some(latest) = latest {

@@ -1,34 +1,36 @@
 //! The comparison of `libopening.a` and `libtally.a`, and of programs that print tables, house forms, converted sheets,
 //! verdicts or the heaviest sheets, with the model of documents 01 and 02.
 //!
-//! compare [SEED [COUNT]]                  generated sheets, tables, texts, listings and lines, every answer and every
-//!                                         lent byte compared
+//! compare [SEED [COUNT]]                  generated sheets, tables, numbers of rounds, texts, listings and lines,
+//!                                         every answer and every lent byte compared
 //! compare table PROGRAM [SEED [COUNT]]    generated sheets, what a program that prints tables prints for each compared
 //! compare house PROGRAM [SEED [COUNT]]    the same for a program that prints house forms
 //! compare convert PROGRAM [SEED [COUNT]]  the same for a program that prints sheets without their `fix` rows
 //! compare judge PROGRAM [SEED [COUNT]]    generated sheets and listings, as files in a folder for a program that
 //!                                         judges a listing's table, what it prints for each pair compared
 //! compare ring PROGRAM [SEED [COUNT]]     the heaviest sheets for every n at some H, what a program prints, what the
-//!                                         library writes and how many rounds it takes to solve it; then generated
-//!                                         lines, what the program prints for each
+//!                                         library writes, how many rounds it takes to solve it and the floors on the
+//!                                         way; then generated lines, what the program prints for each
 //! compare numbers                         each number that the library can write, in listings, house forms, converted
 //!                                         and heaviest sheets
 //! compare count [SEED [COUNT]]            generated sheets of many rounds, the count of rounds and the table compared,
-//!                                         also of the C call
+//!                                         also of the C call, and the floors at many numbers of rounds
 //! compare count-files FILE..              the same for given sheets, with a line for each
 //! compare expected DIR                    the answers that the papers ask for the trial files DIR/001.csv or 001.fix,
 //!                                         002.csv or 002.fix, ..
 //! compare selftest [SEED [COUNT]]         the model's solvers against each other, and forms and converted sheets
 //!                                         against sheets, on tiny sheets; its readers of listings against each other
 //!
-//! compare faults [SEED [COUNT]]           that the comparison notices each wrong program of faults.rs and heavy.rs
+//! compare faults [SEED [COUNT]]           that the comparison notices each wrong program of faults.rs, heavy.rs and
+//!                                         early.rs
 //! compare table-faults [SEED [COUNT]]     that `table` notices each wrong program of printers.rs, for tables
 //! compare house-faults [SEED [COUNT]]     that `house` notices each wrong program of printers.rs, for house forms
 //! compare convert-faults [SEED [COUNT]]   that `convert` notices each wrong program of printers.rs, for sheets
 //! compare judge-faults [SEED [COUNT]]     that `judge` notices each wrong program of verdicts.rs
-//! compare ring-faults [SEED [COUNT]]      that `ring` notices each wrong program of heavy.rs
+//! compare ring-faults [SEED [COUNT]]      that `ring` notices each wrong program of heavy.rs, and some of early.rs
 //! compare numbers-faults                  that `numbers` notices each wrong program of digits.rs
-//! compare count-faults [SEED [COUNT]]     that `count` notices each wrong program of leaps.rs
+//! compare count-faults [SEED [COUNT]]     that `count` notices each wrong program of leaps.rs, and some of heavy.rs
+//!                                         and early.rs
 //! compare table-standin [FAULT]           the model as a program that prints tables, or one of the wrong ones
 //! compare house-standin [FAULT]           the same for house forms
 //! compare convert-standin [FAULT]         the same for sheets without their `fix` rows
@@ -42,7 +44,9 @@ mod calls;
 mod convert;
 mod converters;
 mod digits;
+mod early;
 mod faults;
+mod floors;
 mod gen;
 mod heavy;
 mod house;
@@ -73,10 +77,11 @@ use gen::Rng;
 use house::HOUSE;
 use judge::JUDGE;
 use leaps::COUNT_FAULTS;
-use library::own;
+use library::{own, Library};
 use model::{Files, Kind, Net, Refusal, Verdict};
 use printers::{Printer, CONVERT_FAULTS, HOUSE_FAULTS, TABLE_FAULTS};
 use program::Mode;
+use rounds::{Floor, Kept, Run};
 use std::collections::BTreeMap;
 use std::io::{Read, Write};
 use std::ops::Range;
@@ -212,9 +217,10 @@ fn pace(net: &Net) -> &'static str {
 
 /// Raising, searching and rounds agree on tiny sheets, and so do a sheet and its house form, and its forms and those of
 /// another typing; and so do other tiny sheets, by the former rules, and what they are converted to. Raising and rounds
-/// agree on other sheets of few rounds, and two readers of rows, of reactions and of labels on all of those. The two
-/// converters agree on sheets that are made for them, the readers of listings on other sheets and listings, and the
-/// writers of the heaviest sheets on lines; plain rounds of those are as many as was promised.
+/// agree on other sheets of few rounds, floors on these and on the tiny ones, and two readers of rows, of reactions and
+/// of labels on all of those. The two converters agree on sheets that are made for them, the readers of listings on
+/// other sheets and listings, and the writers of the heaviest sheets on lines; plain rounds of those are as many as was
+/// promised.
 fn selftest(seed: u64, cases: u64) {
     let mut counts = Counts::new();
     if let Err(words) = selftest_ring_rounds() {
@@ -250,8 +256,8 @@ fn selftest(seed: u64, cases: u64) {
     for (kind, count) in &counts {
         println!("{count:>8}  {kind}");
     }
-    let agree = "raising, searching and rounds agree, sheets, house forms and converted sheets too, readers of as \
-        many listings, and writers of the heaviest sheets on as many lines";
+    let agree = "raising, searching, rounds and floors agree, sheets, house forms and converted sheets too, readers of \
+        as many listings, and writers of the heaviest sheets on as many lines";
     println!("{cases} tiny sheets from seed {seed}: {agree}");
 }
 
@@ -265,7 +271,29 @@ fn selftest_rounds(sheet: &[u8]) -> Result<(), String> {
         return Err(format!("in arrays {run:?}\nby words {by_words:?}\nraised {raised:?}\n{}", text_of(sheet)));
     }
     let most = net.free_cells() as i64 * net.horizon + 1;
-    if i64::from(run.count) > most { Err(format!("{} rounds, more than {most}\n{}", run.count, text_of(sheet))) } else { Ok(()) }
+    if i64::from(run.count) > most {
+        return Err(format!("{} rounds, more than {most}\n{}", run.count, text_of(sheet)));
+    }
+    selftest_floors(&net, &run).map_err(|words| format!("{words}\n{}", text_of(sheet)))
+}
+
+/// Each floor by the paper's words and kept from a run; and some of them, and the end, in arrays and by a solver that
+/// passes over rounds.
+fn selftest_floors(net: &Net, run: &Run) -> Result<(), String> {
+    let kept = Kept::new(net);
+    let by_words = model::floors_by_rounds(net, run.count).into_iter().map(|(table, left)| Floor { table, left });
+    let by_words: Vec<Option<Floor>> = by_words.map(Some).chain([None]).collect();
+    if (0..=run.count).map(|most| kept.floor(most)).ne(by_words.iter().cloned()) || kept.run != *run {
+        return Err("other floors by words".to_string());
+    }
+    for most in [0, run.count / 2, run.count - 1, run.count] {
+        let right = by_words[most as usize].clone().map_or_else(|| Ok(run.clone()), Err);
+        let leapt = leaps::stopped_with(net, most, leaps::Slip::None);
+        if rounds::stopped(net, most) != right || leapt != right {
+            return Err(format!("after {most} rounds not {right:?}"));
+        }
+    }
+    Ok(())
 }
 
 /// The model's reader, and those of `sections.rs` and `retired.rs` without a slip.
@@ -371,15 +399,22 @@ fn selftest_ring(line: &[u8], counts: &mut Counts) -> Result<(), String> {
 }
 
 /// For every n, plain rounds of the heaviest sheet: no table, and "exactly (n - 1) × H + 1 rounds, the most for n
-/// events, that H and no signal", the most being C × H + 1.
+/// events, that H and no signal", the most being C × H + 1; and the floors on the way, as they are reckoned.
 fn selftest_ring_rounds() -> Result<(), String> {
     for events in model::RING_LEAST as usize..=model::EVENTS_MOST as usize {
         for horizon in [0, 1, 2, 60, 999, model::MINUTES_MOST] {
             let net = model::read(model::ring_of(events, horizon).as_bytes()).expect("a sheet");
-            let (run, right) = (rounds::run(&net), model::ring_rounds(events, horizon));
+            let (kept, right) = (Kept::new(&net), model::ring_rounds(events, horizon));
+            let run = &kept.run;
             let most = net.free_cells() as i64 * horizon + 1;
             if (run.count, &run.table) != (right, &None) || i64::from(right) != most {
                 return Err(format!("{run:?} and not 13 with {right} rounds for {events},{horizon}"));
+            }
+            for stop in [1, right / 3, right - 1].into_iter().filter(|&stop| stop < right) {
+                let (table, left) = model::ring_floor(events, horizon, stop);
+                if kept.floor(stop) != Some(Floor { table, left }) {
+                    return Err(format!("another floor after {stop} rounds for {events},{horizon}"));
+                }
             }
         }
     }
@@ -441,9 +476,20 @@ fn all_compared(seeds: Range<u64>, compare_one: impl Fn(u64) -> Result<(), Strin
     (1..).zip(seeds).try_for_each(|(place, seed)| compare_one(seed).map_err(|words| (place, words)))
 }
 
+/// A library, and what is compared of it for one seed: all calls, or those in which a wrong one may differ.
+#[derive(Clone, Copy)]
+struct Trying {
+    library: Library,
+    compare_one: fn(&Library, u64, &mut Counts) -> Result<(), String>,
+}
+
 fn notice_faults(seeds: Range<u64>) {
-    notice("faults", &own::LIBRARY, &[&FAULTS[..], &heavy::faults()].concat(), |library| {
-        all_compared(seeds.clone(), |seed| calls::compare_one(library, seed, &mut Counts::new()))
+    let stopping = |(name, library)| (name, Trying { library, compare_one: floors::compare_one });
+    let others = |(name, library)| (name, Trying { library, compare_one: calls::compare_others });
+    let faults = FAULTS.into_iter().chain(heavy::faults()).map(others).chain(early::faults().into_iter().map(stopping));
+    let right = Trying { library: own::LIBRARY, compare_one: calls::compare_one };
+    notice("faults", &right, &faults.collect::<Vec<_>>(), |Trying { library, compare_one }| {
+        all_compared(seeds.clone(), |seed| compare_one(library, seed, &mut Counts::new()))
     });
 }
 
@@ -466,12 +512,13 @@ fn notice_rings(seeds: Range<u64>) {
     notice("ring-faults", &heavy::RIGHT, &heavy::ring_faults(), |ringing| ring::compare_both(ringing, seeds.clone()));
 }
 
-/// The counters of `leaps.rs` by themselves, and some solvers of `heavy.rs` beside the right counters.
+/// The counters of `leaps.rs` by themselves, and some solvers of `heavy.rs` and `early.rs` beside the right counters.
 fn notice_count_faults(seed: u64, sheets: u64) {
-    let counters = COUNT_FAULTS.map(|(name, tally)| (name, Counting { tally, solve: None }));
-    let solvers = heavy::SOLVERS.map(|(name, solve)| (name, Counting { tally: own::TALLY, solve: Some(solve) }));
-    let right = Counting { tally: own::TALLY, solve: Some(heavy::leaping) };
-    let faults = [&counters[..], &solvers].concat();
+    let counters = COUNT_FAULTS.map(|(name, tally)| (name, Counting { tally, library: None }));
+    let beside = |library| Counting { tally: own::TALLY, library: Some(library) };
+    let solvers = heavy::SOLVERS.into_iter().chain(early::LONG).map(|(name, library)| (name, beside(library)));
+    let right = beside(heavy::LEAPING);
+    let faults: Vec<_> = counters.into_iter().chain(solvers).collect();
     notice("count-faults", &right, &faults, |counting| tally::compare_sheets(counting, seed, sheets).map(drop));
 }
 

@@ -850,6 +850,21 @@ pub fn solve_by_rounds(net: &Net) -> (u32, Option<Vec<u16>>) {
     unreachable!()
 }
 
+/// Document 02, point 9, for short runs: the floors after 0, 1, 2 and so on rounds, so many of them, "blanks as in a
+/// table", each with "the sum, over happening cells other than the start's, of H minus the floor".
+pub fn floors_by_rounds(net: &Net, count: u32) -> Vec<(Vec<u16>, u32)> {
+    let tables = std::iter::successors(Some(vec![0; net.cells()]), |before| Some(round(net, before)));
+    let floors = tables.take(count as usize).map(|minutes| with_blanks(net, &minutes));
+    floors.map(|floor| (floor.clone(), left(net, &floor))).collect()
+}
+
+/// That sum for any floor.
+pub fn left(net: &Net, floor: &[u16]) -> u32 {
+    let events = net.events.len();
+    let free = (0..net.cells()).filter(|cell| cell % events != 0 && net.happens(cell / events, cell % events));
+    free.map(|cell| net.horizon - i64::from(floor[cell])).sum::<i64>() as u32
+}
+
 /// "each cell takes the greatest of its own value and each bound that rules, signals (by the hyperarcs, with
 /// reactions) and label waits set from the table before the round". A cell without its event takes no part.
 fn round(net: &Net, before: &[i64]) -> Vec<i64> {
@@ -1245,4 +1260,12 @@ pub fn ring_of(events: usize, horizon: i64) -> String {
 /// "exactly (n - 1) × H + 1 rounds, the most for n events, that H and no signal".
 pub fn ring_rounds(events: usize, horizon: i64) -> u32 {
     (events as u32 - 1) * horizon as u32 + 1
+}
+
+/// The floor of that sheet after so many rounds, of which each but the last raises one event by a minute, b first and
+/// a round later the next; and the sum beside it, which is one less after each.
+pub fn ring_floor(events: usize, horizon: i64, rounds: u32) -> (Vec<u16>, u32) {
+    let length = events as u32 - 1;
+    let climbing = (0..length).map(|place| ((rounds + length - 1 - place) / length) as u16);
+    (std::iter::once(0).chain(climbing).collect(), length * horizon as u32 - rounds)
 }

@@ -1,12 +1,13 @@
 //! The mode `ring`: a program that reads one line `n,H` on standard input and prints the heaviest sheet for n events
-//! and the horizon H, against the model; and the library beside it, which is to write the same, and to
-//! solve it in as many rounds as were promised.
+//! and the horizon H, against the model; and the library beside it, which is to write the same, to solve it in as many
+//! rounds as were promised, and to hand out the floors of a run that is stopped, as they are reckoned.
 
 use crate::gen::Rng;
 use crate::heavy::Ringing;
-use crate::library::own::{refused_call, two_bytes, with_rounds};
+use crate::library::own::{halted, refused_call, two_bytes, with_rounds};
 use crate::library::{Library, LIBRARY};
 use crate::model::{self, EVENTS_MOST, RING_LEAST};
+use crate::rounds::Floor;
 use crate::program::{all_compared, check, printed, told, with_program, Mode, Program};
 use crate::{count, lines, Counts, Difference};
 use std::ops::Range;
@@ -26,7 +27,7 @@ pub fn compare(command: &str, seeds: Range<u64>) {
     with_program(command, |program| {
         compare_rings(program, &LIBRARY).map_err(|difference| difference.1)?;
         let number = rings().count();
-        let rings = format!("{number} rings, printed and written alike and solved in (n - 1) * H + 1 rounds");
+        let rings = format!("{number} rings, printed and written alike, solved in (n - 1) * H + 1 rounds and stopped");
         Ok(format!("{rings}; {}", all_compared(&RING, command, seeds, program)?))
     });
 }
@@ -50,7 +51,7 @@ fn compare_rings(program: Program, library: &Library) -> Result<(), Difference> 
 }
 
 /// The program prints the sheet byte for byte, the library writes the same, and its solver answers 13 with
-/// "exactly (n - 1) × H + 1 rounds".
+/// "exactly (n - 1) × H + 1 rounds"; and where it is stopped before, at some numbers of them, with their floor.
 fn compare_one_ring(program: Program, library: &Library, events: usize, horizon: i64) -> Result<(), String> {
     let (line, sheet) = (format!("{events},{horizon}\n").into_bytes(), model::ring_of(events, horizon).into_bytes());
     check(program, "the line", &line, &sheet)?;
@@ -61,10 +62,30 @@ fn compare_one_ring(program: Program, library: &Library, events: usize, horizon:
         return Err(format!("for {}the library answers {answer:#x} and leaves in {}", told(&line), told(&out)));
     }
     let (solved, rounds) = ((library.solve)(&sheet, &mut table), model::ring_rounds(events, horizon));
-    match solved == with_rounds(refused_call(13), rounds) && table == [b'?'; 512] {
-        true => Ok(()),
-        false => Err(format!("solving does not answer 13 with {rounds} rounds but {solved:#x}; of {}", told(&sheet))),
+    if solved != with_rounds(refused_call(13), rounds) || table != [b'?'; 512] {
+        return Err(format!("solving does not answer 13 with {rounds} rounds but {solved:#x}; of {}", told(&sheet)));
     }
+    let stops = [1, events as u32, rounds / 2, 65_536, rounds - 1];
+    for stop in stops.into_iter().filter(|&stop| 0 < stop && stop < rounds) {
+        if !is_floor(library, &sheet, (events, horizon), stop) {
+            return Err(format!("after {stop} rounds another floor or sum; of {}", told(&sheet)));
+        }
+    }
+    for most in [rounds, u32::MAX] {
+        let answer = (library.solve_within)(&sheet, most, &mut table);
+        if answer != solved || table != [b'?'; 512] {
+            return Err(format!("within {most} rounds not 13 but {answer:#x}; of {}", told(&sheet)));
+        }
+    }
+    Ok(())
+}
+
+/// A run that is stopped after so many rounds leaves their floor, and answers with the sum that is left.
+fn is_floor(library: &Library, sheet: &[u8], (events, horizon): (usize, i64), rounds: u32) -> bool {
+    let (mut right, mut table) = ([b'?'; 512], [b'?'; 512]);
+    let (floor, left) = model::ring_floor(events, horizon, rounds);
+    let answer = halted(&Floor { table: floor, left }, &mut right);
+    (library.solve_within)(sheet, rounds, &mut table) == answer && table == right
 }
 
 /// The line of one seed.

@@ -1,4 +1,5 @@
-//! Document 02, point 8: rounds, one after another, and their exact count, in arrays so that long runs can be counted too.
+//! Document 02, point 8: rounds, one after another, and their exact count, in arrays so that long runs can be counted
+//! too. And point 9: the floor after any number of them.
 //!
 //! "from all zeros, each cell takes the greatest of its own value and each bound that rules, signals (by the
 //! hyperarcs, with reactions) and label waits set from the table before the round." Cells without their event take no
@@ -12,12 +13,36 @@ const MOST: usize = 16;
 /// The minutes of one case; the places behind the last event stay 0. A minute is at most 10,080 before a round and 20,160 after it.
 type Row = [i16; MOST];
 
+type Table = [Row; MOST];
+
+/// "from all zeros"
+const ZEROS: Table = [[0; MOST]; MOST];
+
 /// How a run of rounds ends: the count "goes with a solver's table and with refusal 13".
 #[derive(Clone, Debug, PartialEq, Eq)]
 pub struct Run {
     pub count: u32,
     pub table: Option<Vec<u16>>,
 }
+
+/// What a run hands out that is stopped.
+#[derive(Clone, Debug, PartialEq, Eq)]
+pub struct Floor {
+    /// "the floor it has, blanks as in a table"
+    pub table: Vec<u16>,
+    /// "the sum, over happening cells other than the start's, of H minus the floor"
+    pub left: u32,
+}
+
+/// A run with the tables after every so many of its rounds: the floor after any number of them is then soon made.
+pub struct Kept {
+    pub run: Run,
+    rounds: Rounds,
+    tables: Vec<Table>,
+}
+
+/// So many rounds lie between two tables that are kept.
+const STRIDE: u32 = 64;
 
 /// What the rounds need of a network.
 struct Rounds {
@@ -41,19 +66,41 @@ pub fn run(net: &Net) -> Run {
 
 /// The same, or nothing if it takes more rounds than these.
 pub fn run_within(net: &Net, most: u32) -> Option<Run> {
-    let rounds = Rounds::new(net);
-    let mut before = [[0; MOST]; MOST];
-    for count in 1..=most {
-        let after = rounds.round(&before);
-        if rounds.passed(&after) {
-            return Some(Run { count, table: None });
-        }
-        if after == before {
-            return Some(Run { count, table: Some(rounds.table(&after)) });
-        }
-        before = after;
+    stopped(net, most).ok()
+}
+
+/// The same, or the floor after these rounds: a run "stops only after the Nth round, and only if that round raised a
+/// cell and passed no limit".
+pub fn stopped(net: &Net, most: u32) -> Result<Run, Floor> {
+    let (rounds, mut table) = (Rounds::new(net), ZEROS);
+    match (1..=most).find_map(|count| rounds.end(&mut table, count)) {
+        Some(run) => Ok(run),
+        None => Err(rounds.floor(&table)),
     }
-    None
+}
+
+impl Kept {
+    pub fn new(net: &Net) -> Self {
+        let (rounds, mut table, mut tables) = (Rounds::new(net), ZEROS, vec![ZEROS]);
+        for count in 1.. {
+            if let Some(run) = rounds.end(&mut table, count) {
+                return Kept { run, rounds, tables };
+            }
+            if count % STRIDE == 0 {
+                tables.push(table);
+            }
+        }
+        unreachable!()
+    }
+
+    /// The floor after so many rounds, if they do not end the run.
+    pub fn floor(&self, count: u32) -> Option<Floor> {
+        if count >= self.run.count {
+            return None;
+        }
+        let first = self.tables[(count / STRIDE) as usize];
+        Some(self.rounds.floor(&(0..count % STRIDE).fold(first, |table, _| self.rounds.round(&table))))
+    }
 }
 
 impl Rounds {
@@ -77,8 +124,21 @@ impl Rounds {
         }
     }
 
+    /// Makes one more round, with this count: the run, if it ends with it.
+    fn end(&self, table: &mut Table, count: u32) -> Option<Run> {
+        let after = self.round(table);
+        if self.passed(&after) {
+            return Some(Run { count, table: None });
+        }
+        if after == *table {
+            return Some(Run { count, table: Some(self.table(&after)) });
+        }
+        *table = after;
+        None
+    }
+
     /// One round, from the table before it.
-    fn round(&self, before: &[Row; MOST]) -> [Row; MOST] {
+    fn round(&self, before: &Table) -> Table {
         let mut after = *before;
         for s in 0..self.cases {
             for &(from, to, wait) in &self.bounds[s] {
@@ -106,17 +166,26 @@ impl Rounds {
         told
     }
 
-    fn passed(&self, table: &[Row; MOST]) -> bool {
+    fn passed(&self, table: &Table) -> bool {
         table.iter().any(|row| (0..MOST).any(|u| row[u] > self.limits[u]))
     }
 
     /// "case 0 first, events in sheet order"; "A cell without its event holds 65,535".
-    fn table(&self, table: &[Row; MOST]) -> Vec<u16> {
+    fn table(&self, table: &Table) -> Vec<u16> {
         let number = |cell: usize| match (cell / self.events, cell % self.events) {
             (case, event) if self.happening[case][event] == 0 => BLANK,
             (case, event) => table[case][event] as u16,
         };
         (0..self.cases * self.events).map(number).collect()
+    }
+
+    fn floor(&self, table: &Table) -> Floor {
+        let mut left = 0;
+        for (row, happening) in table.iter().zip(&self.happening) {
+            let free = (1..self.events).filter(|&event| happening[event] != 0);
+            left += free.map(|event| (self.limits[event] - row[event]) as u32).sum::<u32>();
+        }
+        Floor { table: self.table(table), left }
     }
 }
 

@@ -3,10 +3,12 @@
 //! rustc --edition 2021 -O -C panic=abort --cfg standalone --crate-type staticlib -o DIR/libopening.a standin.rs
 //! cp DIR/libopening.a DIR/libtally.a
 //!
-//! With FAULT=name in the environment it is one of the wrong programs of `faults.rs`, `heavy.rs` or `leaps.rs` instead.
+//! With FAULT=name in the environment it is one of the wrong programs of `faults.rs`, `heavy.rs`, `early.rs` or
+//! `leaps.rs` instead.
 #![allow(dead_code)]
 
 mod converters;
+mod early;
 mod faults;
 mod heavy;
 mod labels;
@@ -24,14 +26,17 @@ use std::slice::{from_raw_parts, from_raw_parts_mut};
 /// The fault of this list that the environment names, if any.
 fn fault<T: Copy>(faults: &[(&str, T)]) -> Option<T> {
     let name = std::env::var("FAULT").ok()?;
-    let known = |list: &[(&str, library::Library)]| list.iter().any(|fault| fault.0 == name);
-    let known = known(&faults::FAULTS) || known(&heavy::faults());
+    let known = libraries().iter().any(|fault| fault.0 == name);
     assert!(known || leaps::COUNT_FAULTS.iter().any(|fault| fault.0 == name), "FAULT is no fault of ours");
     faults.iter().find(|fault| fault.0 == name).map(|fault| fault.1)
 }
 
+fn libraries() -> Vec<(&'static str, library::Library)> {
+    [&faults::FAULTS[..], &heavy::faults(), &early::faults(), &early::LONG, &early::RINGS].concat()
+}
+
 fn chosen() -> library::Library {
-    fault(&faults::FAULTS).or_else(|| fault(&heavy::faults())).unwrap_or(library::LIBRARY)
+    fault(&libraries()).unwrap_or(library::LIBRARY)
 }
 
 fn chosen_tally() -> library::Tally {
@@ -43,6 +48,15 @@ fn chosen_tally() -> library::Tally {
 #[no_mangle]
 pub unsafe extern "C" fn opening_solve(sheet: *const u8, sheet_len: usize, table: *mut u8, table_len: usize) -> u64 {
     (chosen().solve)(from_raw_parts(sheet, sheet_len), from_raw_parts_mut(table, table_len))
+}
+
+/// # Safety
+/// The slices are valid, and the table does not overlap the sheet.
+#[no_mangle]
+pub unsafe extern "C" fn opening_solve_within(
+    sheet: *const u8, sheet_len: usize, rounds: u32, table: *mut u8, table_len: usize,
+) -> u64 {
+    (chosen().solve_within)(from_raw_parts(sheet, sheet_len), rounds, from_raw_parts_mut(table, table_len))
 }
 
 /// # Safety

@@ -1,26 +1,33 @@
 //! The modes `count` and `count-files`: the count of rounds and the table by a run that passes over
-//! rounds, by plain rounds, by the solver's C call, and by the model.
+//! rounds, by plain rounds, by the solver's C call, and by the model; and the floors of a run that is stopped.
 
+use crate::floors::{self, Asked};
 use crate::gen::Rng;
 use crate::lent::lend_text;
-use crate::library::own::{refused, refused_call, with_rounds, write};
-use crate::library::{Tally, LIBRARY, TALLY};
-use crate::model::Refusal;
-use crate::rounds::{self, Run, NO_TABLE};
-use crate::{fail, long, model, text_of};
+use crate::library::own::{ended, refused};
+use crate::library::{Library, Tally, LIBRARY, TALLY};
+use crate::model::{Net, Refusal};
+use crate::rounds::{self, Kept, NO_TABLE};
+use crate::{fail, long, model, text_of, Counts};
 use std::process::exit;
 
 /// With fewer sheets than these it is not asked how many leapt.
 const ENOUGH: u64 = 100;
 
-/// What counts: the three calls, and the solver's if it is asked too.
+/// A run is stopped at so many more numbers of rounds as make no more than these one by one, but at a few of them at
+/// least.
+const FLOORS_MOST: u64 = 24;
+const FLOORS_LEAST: u64 = 4;
+const TURNS: u64 = 50_000;
+
+/// What counts: the three calls, and the solver's two if they are asked too.
 #[derive(Clone, Copy)]
 pub struct Counting {
     pub tally: Tally,
-    pub solve: Option<fn(sheet: &[u8], table: &mut [u8]) -> u64>,
+    pub library: Option<Library>,
 }
 
-const COUNTING: Counting = Counting { tally: TALLY, solve: Some(LIBRARY.solve) };
+const COUNTING: Counting = Counting { tally: TALLY, library: Some(LIBRARY) };
 
 /// What was compared.
 #[derive(Default)]
@@ -28,6 +35,8 @@ pub struct Seen {
     sheets: u64,
     leapt: u64,
     leapt_to_tables: u64,
+    floors: u64,
+    floors_leapt: u64,
     tables: u64,
     without: u64,
     refused: u64,
@@ -37,10 +46,12 @@ pub struct Seen {
     labelled_without: u64,
 }
 
-/// What all three say of a sheet that is not refused.
+/// What all of them say of a sheet that is not refused.
 struct Counted {
     count: u32,
     turns: u64,
+    /// How often it was stopped.
+    floors: u64,
     has_table: bool,
     /// Whether some signal has a reaction other than 1.
     slow: bool,
@@ -113,6 +124,9 @@ pub fn compare_sheets(counting: &Counting, seed: u64, sheets: u64) -> Result<See
     if sheets >= ENOUGH && seen.labelled_tables.min(seen.labelled_without) == 0 {
         return Err((sheets, format!("{}: no table, or no refusal 13, with labelled events", seen.words())));
     }
+    if sheets >= ENOUGH && counting.library.is_some() && seen.floors_leapt < sheets {
+        return Err((sheets, format!("{}: fewer floors than sheets where rounds were leapt", seen.words())));
+    }
     Ok(seen)
 }
 
@@ -121,6 +135,8 @@ impl Seen {
         let leapt = 2 * counted.turns <= u64::from(counted.count);
         self.leapt += u64::from(leapt);
         self.leapt_to_tables += u64::from(leapt && counted.has_table);
+        self.floors += counted.floors;
+        self.floors_leapt += if leapt { counted.floors } else { 0 };
         self.tables += u64::from(counted.has_table);
         self.without += u64::from(!counted.has_table);
         self.slow_tables += u64::from(counted.slow && counted.has_table);
@@ -131,50 +147,63 @@ impl Seen {
 
     pub fn words(&self) -> String {
         let leapt = format!("{} leapt (at most half of the rounds made one by one), {} of them to a table", self.leapt, self.leapt_to_tables);
+        let floors = format!("{} floors, {} of them where rounds were leapt", self.floors, self.floors_leapt);
         let slow = format!("with reactions {} tables, {} without", self.slow_tables, self.slow_without);
         let labelled = format!("with labels {} tables, {} without", self.labelled_tables, self.labelled_without);
         let all = format!("{} tables, {} without", self.tables, self.without);
         let ends = format!("{all}; {slow}; {labelled}; {} refused", self.refused);
-        format!("{} sheets, {leapt}; {ends}", self.sheets)
+        format!("{} sheets, {leapt}; {floors}; {ends}", self.sheets)
     }
 }
 
 /// The answers for one sheet. A refused sheet makes no round, another at least one and no more than are counted.
-fn check(Counting { tally, solve }: &Counting, sheet: &[u8]) -> Result<Result<Counted, Refusal>, String> {
+fn check(Counting { tally, library }: &Counting, sheet: &[u8]) -> Result<Result<Counted, Refusal>, String> {
     let lent = lend_text(&mut Rng::new(sheet.len() as u64), sheet);
-    let kept = lent.clone();
+    let unaltered = lent.clone();
     let reading = model::read(sheet);
-    let run = reading.as_ref().map(rounds::run);
-    let right = reading.as_ref().ok().zip(run.as_ref().ok()).map_or(0, |(net, run)| rounds::answer(net, run));
+    let kept = reading.as_ref().ok().map(Kept::new);
+    let right = reading.as_ref().ok().zip(kept.as_ref()).map_or(0, |(net, kept)| rounds::answer(net, &kept.run));
     let (leaping, plain, turns) = ((tally.leaping)(lent.slice()), (tally.plain)(lent.slice()), (tally.turns)(lent.slice()));
     let count = right as u32;
     let fault = match (leaping == right, plain == right) {
         (false, _) => format!("by passing over rounds {}, and not {}", words_of(leaping), words_of(right)),
         (_, false) => format!("by plain rounds {}, and not {}", words_of(plain), words_of(right)),
         _ if (turns == 0) != (count == 0) || turns > u64::from(count) => format!("{turns} rounds one by one of {count}"),
-        _ if lent.is(&kept).is_err() => "the sheet was altered".to_string(),
-        _ if solve.is_some_and(|solve| !solved(solve, sheet, &run)) => {
+        _ if lent.is(&unaltered).is_err() => "the sheet was altered".to_string(),
+        _ if library.is_some_and(|library| !solved(&library, sheet, &reading, kept.as_ref())) => {
             format!("the solver's answer or its table is not that of {}", words_of(right))
         }
         _ => {
+            let asked = Asked { sheet: &lent, reading: &reading, kept: kept.as_ref() };
+            let floors = library.map_or(Ok(0), |library| stopped(&library, &asked, turns))?;
             let has_table = (right >> 32) as u32 != NO_TABLE;
-            let counted = |net: model::Net| (net.is_slow(), net.is_labelled());
-            let found = |(slow, labelled)| Counted { count, turns, has_table, slow, labelled };
-            return Ok(reading.map(|net| found(counted(net))));
+            let found = |net: &Net| Counted {
+                count, turns, floors, has_table, slow: net.is_slow(), labelled: net.is_labelled(),
+            };
+            return Ok(reading.as_ref().map(found).map_err(|refusal| *refusal));
         }
     };
     Err(format!("{fault}\nsheet of {} bytes\n{}", sheet.len(), text_of(sheet)))
 }
 
 /// The C call writes this run's table, or answers 13, with its count of rounds; or it gives the sheet's refusal.
-fn solved(solve: fn(&[u8], &mut [u8]) -> u64, sheet: &[u8], run: &Result<Run, &Refusal>) -> bool {
+fn solved(library: &Library, sheet: &[u8], reading: &Result<Net, Refusal>, kept: Option<&Kept>) -> bool {
     let (mut right, mut table) = ([b'?'; 512], [b'?'; 512]);
-    let answer = match run {
-        Err(refusal) => refused(**refusal),
-        Ok(Run { count, table: None }) => with_rounds(refused_call(13), *count),
-        Ok(Run { count, table: Some(minutes) }) => with_rounds(write(minutes, &mut right), *count),
+    let answer = match (reading, kept) {
+        (Err(refusal), _) => refused(*refusal),
+        (_, kept) => ended(&kept.expect("an accepted sheet has a run").run, &mut right),
     };
-    solve(sheet, &mut table) == answer && table == right
+    (library.solve)(sheet, &mut table) == answer && table == right
+}
+
+/// The run stopped at many numbers of rounds. Gives how many of them are fewer than it takes.
+fn stopped(library: &Library, asked: &Asked, turns: u64) -> Result<u64, String> {
+    let mut rng = Rng::new(asked.sheet.length as u64);
+    let (Ok(net), Some(kept)) = (asked.reading, asked.kept) else { return Ok(0) };
+    let more = (TURNS / turns).clamp(FLOORS_LEAST, FLOORS_MOST);
+    let numbers = floors::numbers(&mut rng, net, kept.run.count, more as usize);
+    floors::compare(library, &mut rng, asked, &numbers, &mut Counts::new())?;
+    Ok(numbers.iter().filter(|&&number| 0 < number && number < kept.run.count).count() as u64)
 }
 
 fn words_of(answer: u64) -> String {

@@ -27,6 +27,7 @@ use Rattle.calls.proofs.Writing.{listing-wrote}
 use Rattle.calls.proofs.Alike.{playing-alike}
 use Rattle.calls.proofs.Play.{lettered}
 use Rattle.calls.proofs.Playing.{playing}
+use Rattle.calls.proofs.ReachFits.{header-within, reach_told_by}
 use Rattle.calls.proofs.Header.{header-judge, header-solver, header-lister, header-house, header-player}
 use Rattle.calls.proofs.Header.{header-converter, header-recoverer, header-ring}
 
@@ -70,6 +71,8 @@ benched = record {
   plays = played_as;
   judge_holds = header-judge;
   solver_holds = header-solver;
+  within_holds = header-within;
+  reach_holds = reach_told_by;
   lister_holds = header-lister;
   recoverer_holds = header-recoverer;
   house_holds = header-house;

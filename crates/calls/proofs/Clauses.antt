@@ -12,13 +12,15 @@ use Rattle.calls.specs.Values.{Values, number_values}
 use Rattle.calls.specs.Lent.{Handed, Lent, in_place_lem}
 use Rattle.calls.specs.Calls.{judging, solving_into, listing_of, housed, converting, ringing}
 use Rattle.calls.specs.Counting.{rounds_taken}
+use Rattle.calls.specs.Within.{Reach, reach_of, progress_values, within_into}
 use Rattle.calls.specs.Recover.{recovering_into}
 use Rattle.calls.specs.Bench.{Finding, no_finding, judgement_values, bench_due}
 use Rattle.calls.specs.Answers.{Answers, AnswersInto}
-use Rattle.calls.specs.Numbers.{bytes, judges, solves, lists, houses, recovers}
+use Rattle.calls.specs.Numbers.{bytes, judges, solves, solves_within, lists, houses, recovers}
 use Rattle.calls.specs.Numbers.{plays, misnamed_in, unheard_by}
 use Rattle.calls.specs.Judges.{Passes, Breaches}
 use Rattle.calls.specs.Solves.{RefusesNone, WritesLeast, CountsRounds}
+use Rattle.calls.specs.StopsEarly.{StopsAfter, FinishesWithin, MakesNoRound}
 use Rattle.calls.specs.Lists.{WritesListing}
 use Rattle.calls.specs.ReadingBack.{ReadsBack}
 use Rattle.calls.specs.Playing.{TellsRow}
@@ -80,6 +82,23 @@ module _ (sheet : List ℕ) where
         none = demands.refused sheet m;
         least = demands.solved sheet m;
         rounds = demands.rounds sheet m;
+      })
+
+  pub within-clauses : (n : ℕ) (m : Lent) (v : Values ℕ) (c : Reach) (x : List ℕ)
+      → v ≡ progress_values (within_into sheet n m).answer → c ≡ reach_of (within_into sheet n m).answer
+      → x ≡ (within_into sheet n m).memory
+      → record {
+        refusals : AnswersInto sheet (solves_within n m.room) m.before v x;
+        stopped : StopsAfter sheet n m v c x;
+        finished : FinishesWithin sheet n m v c x;
+        no_round : MakesNoRound v c;
+      }
+  within-clauses n m v c x e g f =
+      rw (e, g, f) (record {
+        refusals = numbers.within sheet n m;
+        stopped = demands.stops sheet n m;
+        finished = demands.finishes sheet n m;
+        no_round = demands.makes_no_round sheet n m;
       })
 
   pub recover-clauses : (printed : List ℕ) (m : Lent) (v : Values ℕ) (x : List ℕ)

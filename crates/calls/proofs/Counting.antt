@@ -1,15 +1,14 @@
 -- The rounds that are counted are those that the network takes; with a refusal other than 13 there are none; and their
--- count fits three bytes. Assumes nothing.
+-- count fits three bytes but for their highest bit. Assumes nothing.
 use mathlib.Core.Path.{◌≡◌, refl, sym, ◌∙◌, ap}
 use mathlib.Core.Logic.{inl, inr}
 use mathlib.Core.List.{List, [], ◌∷◌}
 use Prim.Native.Nat.{ℕ, ◌-◌, ◌*◌, ◌≤◌, ◌<◌}
 use native.Mathlib.Nat.{mul-le-mul}
 use native.Mathlib.Omega.{arith}
-use borrow.Author.Tests.{leb-true, le-leb, lt-leb}
+use borrow.Author.Tests.{leb-true, le-leb}
 use Rattle.std.specs.Prelude.{Ok, Err}
 use Rattle.prelude.proofs.Tests.{either}
-use Rattle.refusal.specs.declared.Refusal.{Refusal}
 use Rattle.network.specs.Build.{scenarios, cells}
 use Rattle.network.specs.WellFormed.{WellFormed}
 use Rattle.network.specs.declared.Network.{Network}
@@ -24,7 +23,7 @@ use Rattle.calls.specs.Lent.{Lent}
 use Rattle.calls.specs.Calls.{enough, rests, solving_into}
 use Rattle.calls.specs.Counting.{OrUnsolved, answer_of, rounds_of, counted_as, rounds_taken, counting_into}
 use Rattle.calls.specs.Solves.{CountsRounds}
-use Rattle.calls.proofs.Call.{Ends, faulty, failed, worked, ends, call-refused, call_fails, call_works}
+use Rattle.calls.proofs.Call.{Ends, faulty, failed, worked, ends, call_works}
 use Rattle.calls.proofs.Small.{scenarios_few}
 use Rattle.calls.proofs.Solving.{unrested, refuses_none, reached}
 
@@ -49,13 +48,16 @@ module _ (sheet : List ℕ) (m : Lent) {r : OrUnsolved} {x : List ℕ} (h : Leav
   rounds-left = ap rounds_of h.answer ∙ rounds-counted (rounds_taken sheet m) (solving_into sheet m).answer
 
 -- 240 cells move at most, and none beyond 10,080
-rounds_few : (Γ : Network) → WellFormed Γ → (solve Γ).rounds < 16777216
-rounds_few Γ w =
+pub rise_few : (Γ : Network) → WellFormed Γ → moving Γ * Γ.horizon ≤ 2419200
+rise_few Γ w =
     let others : Γ.events - 1 ≤ 15 = omega (arith, w.events) in
     let few : (Γ.events - 1) * scenarios Γ ≤ 15 * 16 = mul-le-mul others (scenarios_few w) in
     let move : moving Γ ≤ 240 = omega (arith, moving_most Γ, few) in
     let most : moving Γ * Γ.horizon ≤ 240 * 10080 = mul-le-mul move w.horizon in
-    omega (arith, (counted Γ).most, most)
+    omega (arith, most)
+
+pub rounds_few : (Γ : Network) → WellFormed Γ → (solve Γ).rounds < 8388608
+rounds_few Γ w = omega (arith, (counted Γ).most, rise_few Γ w)
 
 module _ (sheet : List ℕ) (m : Lent) where
   abbrev net : Network
@@ -67,18 +69,12 @@ module _ (sheet : List ℕ) (m : Lent) where
   abbrev work : Network → ℕ
   work Γ = (solve Γ).rounds
 
-  pub rounds-refused : (r : Refusal) → read sheet ≡ Err r → rounds_taken sheet m ≡ 0
-  rounds-refused r p = sym (call-refused (λ _. 0) sheet tests work r p)
-
   module _ (Γ : Network) (a : read sheet ≡ Ok Γ) where
-    pub rounds-short : m.room < cells Γ → rounds_taken sheet m ≡ 0
-    rounds-short h = sym (call_fails (λ _. 0) sheet tests work Γ a _ (inl (lt-leb (cells Γ) m.room h, refl)))
-
     pub rounds-solved : cells Γ ≤ m.room → rounds_taken sheet m ≡ (solve Γ).rounds
     rounds-solved h = sym (call_works (λ _. 0) sheet tests work Γ a (le-leb (cells Γ) m.room h, tt))
 
   -- with room, the call succeeds or refuses with 13
-  answered : Accepts sheet → cells net ≤ m.room → ((number_values (solving_into sheet m).answer).number ≡ 0 → ⊥)
+  pub answered : Accepts sheet → cells net ≤ m.room → ((number_values (solving_into sheet m).answer).number ≡ 0 → ⊥)
       → ((number_values (solving_into sheet m).answer).number ≡ 13 → ⊥) → ⊥
   answered a room n none =
       elim (either (rests (solve net).end)) [
@@ -103,10 +99,10 @@ module _ (sheet : List ℕ) (m : Lent) where
       by_end n none (failed a r f e) = sym e
       by_end n none (worked a h e) = absurd (answered a (leb-true (cells net) m.room h.0) n none)
 
-  pub taken_few : rounds_taken sheet m < 16777216
+  pub taken_few : rounds_taken sheet m < 8388608
   taken_few = by_end (ends (λ _. 0) sheet tests work)
     where
-      by_end : Ends (λ _. 0) sheet tests work → rounds_taken sheet m < 16777216
+      by_end : Ends (λ _. 0) sheet tests work → rounds_taken sheet m < 8388608
       by_end (faulty r p e) = omega (arith, e)
       by_end (failed a r f e) = omega (arith, e)
       by_end (worked a h e) = omega (arith, e, rounds_few net (accepted_well_formed sheet a).0)

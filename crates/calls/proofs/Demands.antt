@@ -18,6 +18,7 @@ use Rattle.calls.proofs.Handed.{minutes_rightly}
 use Rattle.calls.proofs.Judging.{judge_passes, judge-breaches}
 use Rattle.calls.proofs.Reader.{summary_ok, summary_err, summary_counts}
 use Rattle.calls.proofs.Counting.{counts_rounds}
+use Rattle.calls.proofs.StopsEarly.{stops_after, finishes_within, makes_no_round}
 use Rattle.calls.proofs.Solving.{refuses_13, solves-least}
 use Rattle.calls.proofs.Writing.{wrote_into, listing-wrote}
 use Rattle.calls.proofs.Numbers.{numbers}
@@ -61,6 +62,9 @@ demands = record {
   solved = λ sheet m Γ r. rw (← r.network)
       (λ room n. let s = solves-least sheet m r.accepted room n in (s.0, s.1, wrote_into m s.0 (sym s.2)));
   rounds = counts_rounds;
+  stops = stops_after;
+  finishes = finishes_within;
+  makes_no_round = makes_no_round;
   lists = λ sheet t m Γ r. rw (← r.network)
       (λ e. listing-wrote sheet (as_minutes t) (minutes t) m r.accepted (minutes_rightly t (network_of sheet)) e);
   bench = benched;

@@ -18,7 +18,6 @@ use Rattle.sheet.proofs.WellFormed.{accepted_well_formed}
 use Rattle.checker.specs.declared.Verdict.{Verdict}
 use Rattle.checker.specs.Verdict.{verdict}
 use Rattle.dispatch.specs.HeardText.{heard_in, due_text}
-use Rattle.conversion.specs.FormerRules.{read_as_max_lem}
 use Rattle.calls.specs.Values.{OrRefusal, Values, number_values}
 use Rattle.calls.specs.Lent.{as_bytes, in_pairs}
 use Rattle.calls.specs.Calls.{judging_tests, housed, converting, ringing}
@@ -31,7 +30,8 @@ use Rattle.calls.specs.Answers.{OfSheet, Own, OneOf, AnswersBy, Answers}
 use Rattle.calls.specs.Numbers.{bytes, judges, solves, lists, houses, converts, recovers, plays}
 use Rattle.calls.specs.Numbers.{misnamed_in, unheard_by}
 use Rattle.calls.specs.Ringing.{rings}
-use Rattle.calls.specs.Header.{opening_number, opening_line, JudgeHolds, CountHolds, SolverHolds}
+use Rattle.calls.specs.Header.{bits, opening_number, opening_line, opening_rounds, told}
+use Rattle.calls.specs.Header.{JudgeHolds, CountHolds, SolverHolds}
 use Rattle.calls.proofs.Call.{Ends, faulty, failed, worked, ends}
 use Rattle.calls.proofs.Small.{verdict_small, solving_small, listing_small, house_small, playing_small}
 use Rattle.calls.proofs.Small.{recovering_small, converting_small, text_small}
@@ -81,7 +81,7 @@ judge_holds v s = record {
   rest = omega (arith, s.number, s.line, s.word, s.first, s.second, s.third);
 }
 
-count-holds : {Faulty : Refusal → Type 0} {ReadAs : Network → Type 0} (own : List Own) (v : Values ℕ)
+pub count-holds : {Faulty : Refusal → Type 0} {ReadAs : Network → Type 0} (own : List Own) (v : Values ℕ)
     → are_few own ≡ true → AnswersBy Faulty ReadAs own 0 v → v.value < 65536 → CountHolds (packed_count_lem v) v
 count-holds own v few a c =
     let n = number-few own v few a in
@@ -93,17 +93,31 @@ count-holds own v few a c =
       rest = omega arith;
     }
 
--- a count of rounds stands above what holds the rest
-rounds-hold : (v : Values ℕ) (k : ℕ) → CountHolds (packed_count_lem v) v → k < 16777216
-    → SolverHolds (packed_rounds_lem v k) v k
-rounds-hold v k h few =
+-- the values stand below the last three bytes, whatever stands there
+pub values_below : (v : Values ℕ) (k : ℕ) → CountHolds (packed_count_lem v) v → k < 16777216
+    → told (packed_rounds_lem v k) ≡ v
+values_below v k h few =
     let low : packed_count_lem v < 1099511627776 = omega (arith, h.rest) in
     let number : opening_number (packed_count_lem v) ≡ v.number = ap (λ (x : Values ℕ). x.number) h.values in
     let line : opening_line (packed_count_lem v) ≡ v.line = ap (λ (x : Values ℕ). x.line) h.values in
-    record {
-      values = values_are v _ _ _ (omega (arith, low, number)) (omega (arith, low, line)) (omega (arith, low, h.bytes));
-      rounds = omega (arith, low, few);
-    }
+    values_are v _ _ _ (omega (arith, low, number)) (omega (arith, low, line)) (omega (arith, low, h.bytes))
+
+-- and a count of rounds, under their highest bit
+pub rounds_above : (v : Values ℕ) (k : ℕ) → CountHolds (packed_count_lem v) v → k < 8388608
+    → opening_rounds (packed_rounds_lem v k) ≡ k
+rounds_above v k h few =
+    let low : packed_count_lem v < 1099511627776 = omega (arith, h.rest) in
+    let clear : bits (packed_rounds_lem v k) 63 1 ≡ 0 = omega (arith, low) in
+    let value : bits (packed_rounds_lem v k) 40 23 ≡ k = omega (arith, low) in
+    rw (clear, value) (omega arith)
+
+rounds-hold : (v : Values ℕ) (k : ℕ) → CountHolds (packed_count_lem v) v → k < 8388608
+    → SolverHolds (packed_rounds_lem v k) v k
+rounds-hold v k h few = record {
+  values = values_below v k h (omega arith);
+  rounds = rounds_above v k h few;
+  rest = omega (arith, few, h.rest);
+}
 
 module _ (sheet b : List ℕ) where
   abbrev answer : OrRefusal Verdict

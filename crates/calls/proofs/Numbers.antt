@@ -22,6 +22,7 @@ use Rattle.calls.proofs.Matched.{answers-call}
 use Rattle.calls.proofs.Handed.{minutes_rightly, bytes_rightly}
 use Rattle.calls.proofs.Judging.{judge-answers}
 use Rattle.calls.proofs.Solving.{solver_writes}
+use Rattle.calls.proofs.StopsEarly.{within_writes}
 use Rattle.calls.proofs.Writing.{lister_writes, house_writes, converter_writes}
 use Rattle.calls.proofs.Recovering.{recoverer-writes}
 use Rattle.calls.proofs.Player.{player-answers, list-says, mask-says, text_says}
@@ -65,6 +66,7 @@ numbers = record {
       (λ a. tt) (λ Γ. (refl, refl));
   judge = λ sheet t. judge-answers sheet (as_minutes t) (minutes t) (λ _. minutes_rightly t (network_of sheet));
   solver = λ sheet m. solver_writes sheet (in_place_lem m);
+  within = within_writes;
   lister = λ sheet t m. lister_writes sheet (as_minutes t) (minutes t) m (λ _. minutes_rightly t (network_of sheet));
   house_writer = house_writes;
   converter = converter_writes;

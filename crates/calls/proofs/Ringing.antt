@@ -1,20 +1,18 @@
 -- What holds of the call that writes the heaviest sheet for a line: the line is refused with its fault, or asks for a
 -- sheet, which is written where there is room. Assumes nothing.
-use mathlib.Core.Path.{◌≡◌, refl, sym, ◌∙◌, ap}
-use mathlib.Core.Logic.{◌⊎◌, inl, inr, ◌↔◌}
-use mathlib.Core.Bool.{Bool, true, false}
-use mathlib.Core.List.{List, [], ◌∷◌}
+use mathlib.Core.Path.{◌≡◌, refl, sym, ap}
+use mathlib.Core.Logic.{◌⊎◌, inl, inr}
+use mathlib.Core.Bool.{true}
+use mathlib.Core.List.{List}
 use Prim.Native.Nat.{ℕ, zero, suc, ◌≤◌, ◌<◌}
 use native.Mathlib.Omega.{arith}
-use borrow.Author.Tests.{leb-false, le-leb, lt-leb}
-use lib.Dec.{leb}
+use borrow.Author.Tests.{le-leb, lt-leb}
 use lib.ListN.{length}
 use Rattle.std.specs.Prelude.{Result, Ok, Err}
 use Rattle.prelude.proofs.Checks.{fails-not-hold}
 use Rattle.prelude.proofs.Tests.{lt_or_ge}
 use Rattle.refusal.specs.declared.Cause.TheVariants.{BufferTooShort}
 use Rattle.refusal.specs.declared.Refusal.{Refusal}
-use Rattle.network.specs.Limits as L
 use Rattle.network.specs.Build.{empty}
 use Rattle.network.specs.declared.Network.{Network}
 use Rattle.line.specs.TwoCounts.{two_counts_tests}
@@ -28,10 +26,10 @@ use Rattle.heaviest.specs.Fault.{tests, Fault}
 use Rattle.heaviest.proofs.Heaviest.{ring_heaviest}
 use Rattle.heaviest.proofs.Length.{length-ring}
 use Rattle.heaviest.proofs.Exactly.{read_iff, refused_iff}
-use Rattle.calls.specs.Values.{OrRefusal, turned_away, number_values}
-use Rattle.calls.specs.Call.{without_line_lem, Left, call_on}
+use Rattle.calls.specs.Values.{OrRefusal, number_values}
+use Rattle.calls.specs.Call.{without_line_lem, Left}
 use Rattle.calls.specs.Lent.{Lent, in_place_lem}
-use Rattle.calls.specs.Calls.{writing, refusing, ring_tests, ringing}
+use Rattle.calls.specs.Calls.{writing, refusing, ringing}
 use Rattle.calls.specs.Answers.{WroteText}
 use Rattle.calls.specs.Ringing.{AsksAs, rings, AnswersRing, WritesHeaviest, Ringing}
 use Rattle.calls.proofs.Settled.{Settles}

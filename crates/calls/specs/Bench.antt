@@ -13,6 +13,7 @@ use Rattle.calls.specs.Call.{Left}
 use Rattle.calls.specs.Lent.{as_bytes, in_pairs}
 use Rattle.calls.specs.Calls.{judging, solving_into, listing_of}
 use Rattle.calls.specs.Counting.{OrUnsolved, rounds_of, solved_values, counting_into}
+use Rattle.calls.specs.Within.{OrProgress, Reach, NoRound, Finishes, Stops, reach_of, progress_values, within_into}
 use Rattle.calls.specs.Play.{playing}
 use Rattle.calls.specs.Recover.{recovering_into}
 
@@ -27,6 +28,10 @@ bench_solving sheet b = solving_into sheet (in_pairs b)
 -- and the count of rounds beside it
 abbrev pub bench_counting : List ℕ → List ℕ → Left OrUnsolved
 bench_counting sheet b = counting_into sheet (in_pairs b)
+
+-- solving into bytes within n rounds
+abbrev pub bench_within : List ℕ → ℕ → List ℕ → Left OrProgress
+bench_within sheet n b = within_into sheet n (in_pairs b)
 
 -- reading a listing back into bytes
 abbrev pub bench_recovering : List ℕ → List ℕ → List ℕ → Left (OrRefusal ℕ)
@@ -106,3 +111,16 @@ packed_rounds_lem v k = packed_count_lem v + 1099511627776 * k
 abbrev pub packed_counted : Left OrUnsolved → Left ℕ
 packed_counted l =
     record { answer = packed_rounds_lem (solved_values l.answer) (rounds_of l.answer); memory = l.memory }
+
+-- that of solving within n rounds: in the same three bytes the count of rounds, or their highest bit and what is left
+abbrev pub reach_bytes : Reach → ℕ
+reach_bytes NoRound = 0
+reach_bytes (Finishes k) = k
+reach_bytes (Stops l) = 8388608 + l
+
+abbrev pub packed_reach_lem : Values ℕ → Reach → ℕ
+packed_reach_lem v c = packed_rounds_lem v (reach_bytes c)
+
+abbrev pub packed_progress : Left OrProgress → Left ℕ
+packed_progress l =
+    record { answer = packed_reach_lem (progress_values l.answer) (reach_of l.answer); memory = l.memory }

@@ -10,10 +10,12 @@ use Rattle.calls.specs.Values.{number_values}
 use Rattle.calls.specs.Lent.{in_place_lem}
 use Rattle.calls.specs.Calls.{housed, converting, ringing}
 use Rattle.calls.specs.Counting.{solved_values, rounds_of}
-use Rattle.calls.specs.Bench.{bench_judgement, bench_counting, bench_listed, judgement_values}
+use Rattle.calls.specs.Within.{reach_of, progress_values}
+use Rattle.calls.specs.Bench.{bench_judgement, bench_counting, bench_within, bench_listed, judgement_values}
 use Rattle.calls.specs.Bench.{bench_due, bench_recovering, packed, packed_count_lem, packed_rounds_lem}
+use Rattle.calls.specs.Bench.{packed_reach_lem}
 use Rattle.calls.specs.Play.{events_due_lem}
-use Rattle.calls.specs.Header.{JudgeHolds, CountHolds, SolverHolds}
+use Rattle.calls.specs.Header.{JudgeHolds, CountHolds, SolverHolds, ReachTold, ReachHolds}
 use Rattle.calls.specs.Answers.{Reads}
 use Rattle.calls.specs.Numbers.{bytes}
 use Rattle.calls.specs.Judges.{Passes, Breaches}
@@ -39,6 +41,10 @@ pub record Benched : Type 0 where
   pub solver_holds : (sheet b : List ℕ)
       → let r = (bench_counting sheet b).answer in
       SolverHolds (packed_rounds_lem (solved_values r) (rounds_of r)) (solved_values r) (rounds_of r)
+  pub within_holds : (sheet : List ℕ) (n : ℕ) (b : List ℕ)
+      → let r = (bench_within sheet n b).answer in
+      ReachHolds (packed_reach_lem (progress_values r) (reach_of r)) (progress_values r) (reach_of r)
+  pub reach_holds : (a : ℕ) → ReachTold a
   pub lister_holds : (sheet b m : List ℕ) → Short (minutes_of b)
       → let v = number_values (bench_listed sheet b m).answer in CountHolds (packed_count_lem v) v
   pub recoverer_holds : (sheet printed b : List ℕ)

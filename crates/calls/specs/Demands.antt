@@ -1,7 +1,7 @@
 -- The three demands, as statements about every sheet, table and lent buffer. They speak of the definitions that the
--- calls' contracts are equations with: `summary`, `judgement`, `solving_into` and `listed` (Calls), in `Numbers` and
--- `Benched` those of all calls that read a sheet. What is said here of a call's definition each call's contract says of
--- its answer.
+-- calls' contracts are equations with: `summary`, `judgement`, `solving_into` and `listed` (Calls), `within_into`
+-- (Within), in `Numbers` and `Benched` those of all calls that read a sheet. What is said here of a call's definition
+-- each call's contract says of its answer.
 use Rattle.std.specs.Prelude.{◌≡◌, ◌↔◌, true, List, [], ℕ, ◌≤◌, ◌<◌, length, get_or, Err}
 use Rattle.std.proofs.Math.Option.{none}
 use Rattle.refusal.specs.Refusal.{turn_of}
@@ -38,11 +38,13 @@ use Rattle.calls.specs.Values.{number_values}
 use Rattle.calls.specs.Lent.{Lent, in_place_lem}
 use Rattle.calls.specs.Calls.{summary, judgement, solving_into, listed}
 use Rattle.calls.specs.Counting.{rounds_taken}
+use Rattle.calls.specs.Within.{reach_of, progress_values, within_into}
 use Rattle.calls.specs.Bench.{judgement_values}
 use Rattle.calls.specs.Answers.{Reads}
 use Rattle.calls.specs.Reader.{AcceptsLayout, RefusesFault, CountsContents}
 use Rattle.calls.specs.Judges.{Passes, Breaches}
 use Rattle.calls.specs.Solves.{RefusesNone, WritesLeast, CountsRounds}
+use Rattle.calls.specs.StopsEarly.{StopsAfter, FinishesWithin, MakesNoRound}
 use Rattle.calls.specs.Lists.{WritesListing}
 use Rattle.calls.specs.Labels.{LabelHolds}
 use Rattle.calls.specs.Former.{Prompt, Unlabelled, PlainPoints, Former, FormerFirst}
@@ -122,6 +124,14 @@ pub record Demands : Type 0 where
   -- and how long a sheet keeps it
   pub rounds : (sheet : List ℕ) (m : Lent)
       → CountsRounds sheet m (number_values (solving_into sheet m).answer) (rounds_taken sheet m)
+  -- and what it answers within n rounds
+  pub stops : (sheet : List ℕ) (n : ℕ) (m : Lent)
+      → let l = within_into sheet n m in StopsAfter sheet n m (progress_values l.answer) (reach_of l.answer) l.memory
+  pub finishes : (sheet : List ℕ) (n : ℕ) (m : Lent)
+      → let l = within_into sheet n m in
+      FinishesWithin sheet n m (progress_values l.answer) (reach_of l.answer) l.memory
+  pub makes_no_round : (sheet : List ℕ) (n : ℕ) (m : Lent)
+      → let l = within_into sheet n m in MakesNoRound (progress_values l.answer) (reach_of l.answer)
   -- of the listing's call
   pub lists : (sheet t m : List ℕ)
       → let l = listed sheet t m in

@@ -1,13 +1,14 @@
 -- Demand 1: the own refusals of each public call that reads a sheet, in checking order, with their causes, and that it
--- answers by them (01, Refused sheets and calls; 02, points 1, 2, 4 and 7). A later call is one list and one field
+-- answers by them (01, Refused sheets and calls; 02, points 1, 2, 4, 7 and 9). A later call is one list and one field
 -- more. What holds so of the call that reads a line stands in `Ringing`.
-use Rattle.std.specs.Prelude.{◌≡◌, List, [], ◌∷◌, ℕ, ◌*◌, ◌/◌, ◌<◌, length}
+use Rattle.std.specs.Prelude.{◌≡◌, List, [], ◌∷◌, ℕ, ◌*◌, ◌/◌, ◌<◌, ◌≤◌, length}
 use Rattle.pairs.specs.Pairs.{minutes_of}
 use Rattle.network.specs.Limits as L
 use Rattle.network.specs.Build.{scenarios, cells}
 use Rattle.network.specs.Solution.{Solution}
 use Rattle.network.specs.Least.{Inconsistent}
 use Rattle.network.specs.declared.Network.{Network}
+use Rattle.solver.specs.Rounds.{TakesRounds}
 use Rattle.dispatch.specs.Heard.{WellNamed}
 use Rattle.dispatch.specs.History.{History}
 use Rattle.dispatch.specs.Said.{said_from}
@@ -19,13 +20,15 @@ use Rattle.canonical.specs.House.{house_text}
 use Rattle.conversion.specs.FormerRules.{read_as_max_lem}
 use Rattle.conversion.specs.Converted.{resulting, converted}
 use Rattle.calls.specs.Values.{number_values}
+use Rattle.calls.specs.Lent.{Lent}
 use Rattle.calls.specs.Calls.{summary, no_counts, summary_values, judgement, solving, listed}
 use Rattle.calls.specs.Calls.{housed, converting}
+use Rattle.calls.specs.Within.{progress_values, within_into}
 use Rattle.calls.specs.Bench.{no_finding, judgement_values, bench_judgement, bench_solving, bench_listed, bench_due}
 use Rattle.calls.specs.Bench.{bench_recovering}
 use Rattle.calls.specs.Play.{events_due_lem, events_due_on_lem}
 use Rattle.calls.specs.Recover.{recovering}
-use Rattle.calls.specs.Answers.{Own, Answers, Writes}
+use Rattle.calls.specs.Answers.{Own, Answers, AnswersInto, Writes}
 
 -- "A table handed in has not exactly n × 2^k numbers"; as bytes it has two for each, so that "an odd number of bytes is
 -- refusal 11"
@@ -52,6 +55,16 @@ judges right = wrong_length right ∷ []
 -- "the solver counts the whole pairs it is lent"
 abbrev pub solves : ℕ → List Own
 solves lent = too_short lent cells ∷ no_table ∷ []
+
+-- "23, N is 0, after 12"; and 13 only where n rounds are enough
+abbrev pub no_rounds : ℕ → Own
+no_rounds n = record { number = 23; cause = λ Γ. n ≡ 0 }
+
+abbrev pub no_table_within : ℕ → Own
+no_table_within n = record { number = 13; cause = λ Γ. Inconsistent Γ × ((k : ℕ) → TakesRounds Γ k → k ≤ n) }
+
+abbrev pub solves_within : ℕ → ℕ → List Own
+solves_within n lent = too_short lent cells ∷ no_rounds n ∷ no_table_within n ∷ []
 
 abbrev pub lists : (Network → Type 0) → List ℕ → List ℕ → List ℕ → List Own
 lists right sheet t m = wrong_length right ∷ too_short (length m) (λ Γ. length (listing sheet Γ t)) ∷ []
@@ -115,6 +128,9 @@ pub record Numbers : Type 0 where
   pub reader : (sheet : List ℕ) → Answers sheet [] no_counts (summary_values (summary sheet))
   pub judge : (sheet t : List ℕ) → Answers sheet (judges (minutes t)) no_finding (judgement_values (judgement sheet t))
   pub solver : (sheet m : List ℕ) → Writes sheet (solves (length m)) (solving sheet m) m
+  pub within : (sheet : List ℕ) (n : ℕ) (m : Lent)
+      → let l = within_into sheet n m in
+      AnswersInto sheet (solves_within n m.room) m.before (progress_values l.answer) l.memory
   pub lister : (sheet t m : List ℕ) → Writes sheet (lists (minutes t) sheet t m) (listed sheet t m) m
   pub house_writer : (sheet m : List ℕ) → Writes sheet (houses sheet m) (housed sheet m) m
   -- the converter reads by the former rules: its faults are those of the sheet with each `fix` row read as a `max` row
@@ -127,7 +143,8 @@ pub record Numbers : Type 0 where
   pub player_on : (sheet t : List ℕ) (m x : ℕ)
       → Answers sheet (plays (minutes t) t (misnamed_on x) (unheard_on t m x)) 0
       (number_values (events_due_on_lem sheet t m x))
-  -- of the bench's calls; its house form and its converter are those of the public calls
+  -- of the bench's calls; its house form and its converter are those of the public calls, and what it answers within
+  -- n rounds is told above, for any lent memory
   pub bench_judge : (sheet b : List ℕ)
       → Answers sheet (judges (bytes b)) no_finding (judgement_values (bench_judgement sheet b))
   pub bench_solver : (sheet b : List ℕ)

@@ -27,6 +27,25 @@ pub struct Solved {
     pub rounds: u32,
 }
 
+/// A floor that solving had reached when it was stopped: no good table has any event earlier.
+#[derive(Clone, Copy)]
+pub struct Floor {
+    /// So many minutes stand in the table, in the places of a good table's and with its blanks.
+    pub minutes: usize,
+    /// The sum, over the events that happen other than the start, in all cases, of the horizon minus the floor: at most
+    /// so many rounds remain, and one more.
+    pub left: u32,
+}
+
+/// How far solving came within so many rounds.
+#[derive(Clone, Copy)]
+pub enum Progress {
+    /// It finished.
+    Finished(Solved),
+    /// It was stopped after the last of these rounds.
+    Stopped(Floor),
+}
+
 /// Why nothing was solved.
 #[derive(Clone, Copy)]
 pub struct Unsolved {

@@ -15,7 +15,7 @@ use Rattle.fixpoint.proofs.Turns.{rest_turn, pass_turn, more_turn}
 use Rattle.fixpoint.proofs.Run.{ran_as}
 
 module _ (step : List ℕ → List ℕ) (cap : List ℕ) (R : Rising (length cap) step) where
-  run-done : (k n m : ℕ) (t : List ℕ) → ((run_from step cap k n t).end ≡ Spent → ⊥)
+  pub run-done : (k n m : ℕ) (t : List ℕ) → ((run_from step cap k n t).end ≡ Spent → ⊥)
       → run_from step cap k (n + m) t ≡ run_from step cap k n t
   run-done k zero m t h = absurd (h refl)
   run-done k (suc n) m t h =

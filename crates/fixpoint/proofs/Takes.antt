@@ -1,5 +1,5 @@
 -- A run that is not stopped counts the rounds that it takes, and rests exactly where what they make is within the cap.
--- There is one such count. Assumes nothing.
+-- There is one such count, and fewer rounds are those that go on. Assumes nothing.
 use mathlib.Core.Path.{◌≡◌, refl, ◌∙◌, ap}
 use mathlib.Core.Logic.{inl, inr, ◌↔◌}
 use mathlib.Core.Bool.{true, false}
@@ -13,7 +13,7 @@ use Rattle.prelude.proofs.Bytes.{same_true, same_of_eq}
 use Rattle.fixpoint.specs.Iterate.{iterate}
 use Rattle.fixpoint.specs.Step.{Rising}
 use Rattle.fixpoint.specs.Run.{within, room, Rests, Passes, Spent, Run, run_from, run}
-use Rattle.fixpoint.specs.Takes.{IsLast, Takes}
+use Rattle.fixpoint.specs.Takes.{GoesOn, Takes}
 use Rattle.fixpoint.proofs.Turns.{unlike, rest_turn, pass_turn, more_turn}
 use Rattle.fixpoint.proofs.Run.{run_ends}
 
@@ -25,9 +25,8 @@ module _ (step : List ℕ → List ℕ) (cap : List ℕ) (R : Rising (length cap
     pub takes : Takes step cap floor r.rounds
     pub rests : (r.end ≡ Rests) ↔ (within cap (at r.rounds) ≡ true)
 
-  -- none of the first k rounds is the last
   abbrev Goes : ℕ → Type 0
-  Goes k = (i : ℕ) → i < k → IsLast step cap floor i → ⊥
+  Goes k = GoesOn step cap floor k
 
   goes_on : (k : ℕ) → Goes k → within cap (at (suc k)) ≡ true → same (at (suc k)) (at k) ≡ false → Goes (suc k)
   goes_on k g w s i l e =
@@ -86,3 +85,11 @@ takes_once {m = m} {n} A B =
             | inr h ↦ omega (arith, A.count, B.count)
           ]
     ]
+
+-- fewer rounds are exactly those none of which is the last
+pub goes_iff : {step : List ℕ → List ℕ} {cap floor : List ℕ} {n m : ℕ} → Takes step cap floor m
+    → (n < m) ↔ GoesOn step cap floor n
+goes_iff {n = n} T = (
+  λ l i h. T.no_sooner i (omega (arith, T.count)),
+  λ g. elim (lt_or_ge T.before n) [ inl l ↦ absurd (g T.before l T.last) | inr h ↦ omega (arith, T.count) ],
+)

@@ -26,7 +26,7 @@ use Rattle.calls.specs.Calls.{enough, writing, refusing, listed, fit}
 use Rattle.calls.specs.Calls.{house_tests, housed, convert_tests, converting, ringing}
 use Rattle.calls.proofs.Call.{call-refused, call_fails, call_works}
 use Rattle.opening.specs.Prologue.{handed_in_lem}
-use Rattle.opening.proofs.Prologue.{handed-refused, handed_fails, handed_works}
+use Rattle.opening.proofs.Prologue.{length_test, opened-refused, opened_fails, opened_works}
 
 -- the answer of a part of a call, with its refusal as the call's
 abbrev pub refused_by : {E : Type 0} → (E → Refusal) → Result ℕ E → OrRefusal ℕ
@@ -76,20 +76,19 @@ module _ (sheet t m : List ℕ) where
   abbrev rest : Network → Tests
   rest Γ = enough (in_place_lem m) (length (text Γ)) ∷ []
 
+  abbrev work : Network → Left (OrRefusal ℕ)
+  work Γ = writing (in_place_lem m) (text Γ)
+
   pub listing-refused : (r : Refusal) → handed_in_lem sheet (length t) ≡ Err r → Leaves (listed sheet t m) (Err r) m
   listing-refused r p =
-      kept m r
-      (handed-refused sheet t (refusing (in_place_lem m)) rest (λ Γ. writing (in_place_lem m) (text Γ)) r p)
+      kept m r (opened-refused sheet (length_test t) (refusing (in_place_lem m)) rest work r p)
 
   pub listing-written : (Γ : Network) → handed_in_lem sheet (length t) ≡ Ok Γ → (x : List ℕ) (w : Option ℕ)
       → HandedOut (text Γ) m x w → Leaves (listed sheet t m) (or_short w) x
   listing-written Γ q x w is =
       written-by (text Γ) m x w is
-      (λ room.
-      handed_works sheet t (refusing (in_place_lem m)) rest (λ Δ. writing (in_place_lem m) (text Δ)) Γ q (room, tt))
-      (λ short.
-      handed_fails sheet t (refusing (in_place_lem m)) rest (λ Δ. writing (in_place_lem m) (text Δ)) Γ q _
-      (inl (short, refl)))
+      (λ room. opened_works sheet (length_test t) (refusing (in_place_lem m)) rest work Γ q (room, tt))
+      (λ short. opened_fails sheet (length_test t) (refusing (in_place_lem m)) rest work Γ q _ (inl (short, refl)))
 
 -- a text of what the sheet is read into: a house form, or a converted sheet
 module _ (sheet m : List ℕ) (tests : Network → Tests) (text : Network → List ℕ) where

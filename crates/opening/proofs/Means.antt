@@ -12,15 +12,17 @@ use Rattle.calls.specs.Call.{Leaves}
 use Rattle.calls.specs.Lent.{as_minutes, in_place_lem}
 use Rattle.calls.specs.Calls.{summary, no_counts, summary_values, judgement, listed, housed, converting, ringing}
 use Rattle.calls.specs.Counting.{OrUnsolved, solved_values, rounds_of, counting}
+use Rattle.calls.specs.Within.{OrProgress, within, progress_values, reach_of}
 use Rattle.calls.specs.Play.{events_due_lem, events_due_on_lem}
 use Rattle.calls.specs.Recover.{recovering}
 use Rattle.calls.specs.Bench.{no_finding, judgement_values}
 use Rattle.calls.specs.Answers.{Answers, AnswersInto}
-use Rattle.calls.specs.Numbers.{minutes, judges, solves, lists, houses, recovers, plays}
+use Rattle.calls.specs.Numbers.{minutes, judges, solves, solves_within, lists, houses, recovers, plays}
 use Rattle.calls.specs.Numbers.{misnamed_by, unheard_by, misnamed_on, unheard_on}
 use Rattle.calls.specs.Reader.{AcceptsLayout, RefusesFault, CountsContents}
 use Rattle.calls.specs.Judges.{Passes, Breaches}
 use Rattle.calls.specs.Solves.{RefusesNone, WritesLeast, CountsRounds}
+use Rattle.calls.specs.StopsEarly.{StopsAfter, FinishesWithin, MakesNoRound}
 use Rattle.calls.specs.Lists.{WritesListing}
 use Rattle.calls.specs.ReadingBack.{ReadsBack}
 use Rattle.calls.specs.Playing.{TellsRow}
@@ -33,7 +35,7 @@ use Rattle.calls.proofs.Demands.{demands}
 use Rattle.calls.proofs.Playing.{playing}
 use Rattle.calls.proofs.Handed.{minutes_rightly}
 use Rattle.calls.proofs.Counting.{uncounted, rounds-left}
-use Rattle.calls.proofs.Clauses.{judge-clauses, list-clauses, solve-clauses, recover-clauses}
+use Rattle.calls.proofs.Clauses.{judge-clauses, list-clauses, solve-clauses, within-clauses, recover-clauses}
 use Rattle.calls.proofs.Clauses.{house-clauses, convert-clauses, ring-clauses}
 
 module _ (sheet : List ℕ) where
@@ -112,6 +114,25 @@ module _ (sheet : List ℕ) where
       let w = solve-clauses sheet (in_place_lem m) (solved_values r) (rounds_of r) x
       (ap number_values (uncounted sheet (in_place_lem m) h).answer) (rounds-left sheet (in_place_lem m) h) h.memory in
       record { outcome = h; refusals = w.refusals; none = w.none; least = w.least; rounds = w.rounds }
+
+  pub within_means : (n : ℕ) (m : List ℕ) (r : OrProgress) (x : List ℕ) → Leaves (within sheet n m) r x
+      → record {
+        outcome : Leaves (within sheet n m) r x;
+        refusals : AnswersInto sheet (solves_within n (length m)) m (progress_values r) x;
+        stopped : StopsAfter sheet n (in_place_lem m) (progress_values r) (reach_of r) x;
+        finished : FinishesWithin sheet n (in_place_lem m) (progress_values r) (reach_of r) x;
+        no_round : MakesNoRound (progress_values r) (reach_of r);
+      }
+  within_means n m r x h =
+      let w = within-clauses sheet n (in_place_lem m) (progress_values r) (reach_of r) x (ap progress_values h.answer)
+      (ap reach_of h.answer) h.memory in
+      record {
+        outcome = h;
+        refusals = w.refusals;
+        stopped = w.stopped;
+        finished = w.finished;
+        no_round = w.no_round;
+      }
 
   module _ (m : List ℕ) (r : OrRefusal ℕ) (x : List ℕ) where
     pub recover_means : (printed : List ℕ) → Leaves (recovering sheet printed m) r x

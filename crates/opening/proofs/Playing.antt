@@ -18,7 +18,7 @@ use Rattle.calls.specs.Values.{OrRefusal}
 use Rattle.calls.specs.Call.{without_line_lem, Tests}
 use Rattle.calls.specs.Play.{named, ever_heard, events_of, is_pass, events_due_on_lem}
 use Rattle.opening.specs.Prologue.{handed_in_lem, of_unanswered}
-use Rattle.opening.proofs.Prologue.{handed-refused, handed_fails, handed_works}
+use Rattle.opening.proofs.Prologue.{length_test, opened-refused, opened_fails, opened_works}
 use Rattle.opening.proofs.Leaves.{refused_by}
 
 module _ (sheet t : List ℕ) (m x : ℕ) where
@@ -34,12 +34,12 @@ module _ (sheet t : List ℕ) (m x : ℕ) where
 
   pub due-refused : (r : Refusal) → handed_in_lem sheet (length t) ≡ Err r → Err r ≡ events_due_on_lem sheet t m x
   unfolding events_due_on_lem
-  due-refused r p = handed-refused sheet t Err rest work r p
+  due-refused r p = opened-refused sheet (length_test t) Err rest work r p
 
   module _ (Γ : Network) (q : handed_in_lem sheet (length t) ≡ Ok Γ) where
     pub due_fails : is_pass (verdict Γ t) ≡ false → Err (without_line_lem C.TableFails) ≡ events_due_on_lem sheet t m x
     unfolding events_due_on_lem
-    due_fails v = handed_fails sheet t Err rest work Γ q _ (inl (v, refl))
+    due_fails v = opened_fails sheet (length_test t) Err rest work Γ q _ (inl (v, refl))
 
     pub due-answers : verdict Γ t ≡ Pass → refused_by of_unanswered (due_on Γ t m x) ≡ events_due_on_lem sheet t m x
     unfolding events_due_on_lem
@@ -52,8 +52,9 @@ module _ (sheet t : List ℕ) (m x : ℕ) where
             → refused_by of_unanswered d ≡ events_due_on_lem sheet t m x
         by_said (Ok y) s =
             ap (λ (z : Result ℕ Unanswered). Ok (events_of z)) (sym s)
-            ∙ handed_works sheet t Err rest work Γ q (pass, (ap named s, (ap ever_heard s, tt)))
+            ∙ opened_works sheet (length_test t) Err rest work Γ q (pass, (ap named s, (ap ever_heard s, tt)))
         by_said (Err P.Misnamed) s =
-            handed_fails sheet t Err rest work Γ q _ (inr (pass, inl (ap named s, refl)))
+            opened_fails sheet (length_test t) Err rest work Γ q _ (inr (pass, inl (ap named s, refl)))
         by_said (Err P.NeverHeard) s =
-            handed_fails sheet t Err rest work Γ q _ (inr (pass, inr (ap named s, inl (ap ever_heard s, refl))))
+            opened_fails sheet (length_test t) Err rest work Γ q _
+            (inr (pass, inr (ap named s, inl (ap ever_heard s, refl))))

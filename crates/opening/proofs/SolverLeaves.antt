@@ -1,32 +1,29 @@
 -- What the solver's call leaves in the lent table, by what the solver did. Assumes nothing.
 use mathlib.Core.Path.{◌≡◌, refl, sym, ◌∙◌, ap}
-use mathlib.Core.Logic.{inl, inr}
-use mathlib.Core.Bool.{true, false}
-use mathlib.Core.List.{List}
-use Prim.Native.Nat.{ℕ, ◌≤◌, ◌<◌}
-use borrow.Author.Tests.{le-leb, lt-leb}
-use lib.Dec.{leb}
+use mathlib.Core.Logic.{inl}
+use mathlib.Core.Bool.{Bool, false}
+use mathlib.Core.List.{List, [], ◌∷◌}
+use Prim.Native.Nat.{ℕ}
 use lib.ListN.{length}
 use Rattle.std.specs.Prelude.{Result, Ok, Err}
 use Rattle.prelude.proofs.Tests.{zero-is-one}
-use Rattle.refusal.specs.declared.Cause.TheVariants.{BufferTooShort, Inconsistent}
+use Rattle.refusal.specs.declared.Cause.TheVariants.{Inconsistent}
 use Rattle.refusal.specs.declared.Refusal.{Refusal}
 use Rattle.fixpoint.specs.Run.{End, Rests, Passes, Spent, Run}
 use Rattle.network.specs.Build.{cells}
 use Rattle.network.specs.WellFormed.{WellFormed}
 use Rattle.network.specs.declared.Network.{Network}
-use Rattle.sheet.specs.Reading.{read}
 use Rattle.solver.specs.Solve.{solve, found}
 use Rattle.solver.specs.Solved.{solved_of, table_after, SolvedIs}
 use Rattle.solver.specs.declared.Inconsistent.{Inconsistent as NoTable}
 use Rattle.solver.proofs.Least.{solve-least}
 use Rattle.calls.specs.Values.{OrRefusal}
-use Rattle.calls.specs.Call.{without_line_lem, Left, Leaves}
+use Rattle.calls.specs.Call.{without_line_lem, Tests, Left, Leaves}
 use Rattle.calls.specs.Lent.{in_place_lem}
-use Rattle.calls.specs.Calls.{writing, refusing, rests, solving_tests, solving}
+use Rattle.calls.specs.Calls.{enough, writing, refusing, rests, solving}
 use Rattle.calls.specs.Counting.{counted_as, rounds_taken, counting}
-use Rattle.calls.proofs.Call.{call-refused, call_fails, call_works}
-use Rattle.calls.proofs.Counting.{rounds-refused, rounds-short, rounds-solved}
+use Rattle.opening.specs.Prologue.{lent_for_lem}
+use Rattle.opening.proofs.Prologue.{opened-refused, opened_fails, opened_works}
 use Rattle.opening.proofs.Leaves.{leaves_as, kept}
 
 -- the network is consistent, or it is not
@@ -74,52 +71,44 @@ counted-left : (sheet m : List ℕ) {r : OrRefusal ℕ} {k : ℕ} {x : List ℕ}
 counted-left sheet m h e = rw (e, h.answer) (record { answer = refl; memory = h.memory })
 
 module _ (sheet m : List ℕ) where
+  abbrev pub room_test : Network → Bool × Refusal
+  room_test Γ = enough (in_place_lem m) (cells Γ)
+
+  abbrev rest : Network → Tests
+  rest Γ = (rests (solve Γ).end, without_line_lem Inconsistent) ∷ []
+
   abbrev work : Network → Left (OrRefusal ℕ)
   work Γ = writing (in_place_lem m) (found Γ)
 
   -- refused before any round
-  pub solving-refused : (r : Refusal) → read sheet ≡ Err r → Leaves (counting sheet m) (counted_as 0 (Err r)) m
-  solving-refused r p =
+  pub solving-refused : (r : Refusal) → lent_for_lem sheet (length m) ≡ Err r
+      → Leaves (counting sheet m) (counted_as 0 (Err r)) m
+  solving-refused r q =
       counted-left sheet m
-      (kept m r (call-refused (refusing (in_place_lem m)) sheet (solving_tests (in_place_lem m)) work r p))
-      (sym (rounds-refused sheet (in_place_lem m) r p))
+      (kept m r (opened-refused sheet room_test (refusing (in_place_lem m)) rest work r q))
+      (opened-refused sheet room_test (λ _. 0) (λ _. []) (λ Γ. (solve Γ).rounds) r q)
 
-  module _ (Γ : Network) (a : read sheet ≡ Ok Γ) where
-    pub solving-short : length m < cells Γ
-        → Leaves (counting sheet m) (counted_as 0 (Err (without_line_lem BufferTooShort))) m
-    solving-short h =
+  module _ (Γ : Network) (q : lent_for_lem sheet (length m) ≡ Ok Γ) (w : WellFormed Γ) {x : List ℕ}
+      {s : Result ℕ NoTable} (is : SolvedIs Γ m x s) where
+    made : {k : ℕ} → k ≡ (solve Γ).rounds → k ≡ rounds_taken sheet (in_place_lem m)
+    made e = e ∙ opened_works sheet room_test (λ _. 0) (λ _. []) (λ Δ. (solve Δ).rounds) Γ q tt
+
+    pub solving_consistent : (k : ℕ) → s ≡ Ok k → Leaves (counting sheet m) (counted_as k (Ok (cells Γ))) x
+    solving_consistent k p =
+        let r = consistent_rests Γ m x s is k p in
+        let size = (solve-least Γ w r.0).solves.sized in
         counted-left sheet m
-        (kept m _
-        (call_fails (refusing (in_place_lem m)) sheet (solving_tests (in_place_lem m)) work Γ a _
-        (inl (lt-leb (cells Γ) (length m) h, refl))))
-        (sym (rounds-short sheet (in_place_lem m) Γ a h))
+        (leaves_as
+        (opened_works sheet room_test (refusing (in_place_lem m)) rest work Γ q (rw r.0, tt))
+        (record { answer = ap (λ (n : ℕ). Ok n) (sym size); memory = r.1 }))
+        (made (ap told (sym p ∙ is.answer) ∙ told-solved (solve Γ)))
 
-    module _ (w : WellFormed Γ) (room : cells Γ ≤ length m) {x : List ℕ} {s : Result ℕ NoTable}
-        (is : SolvedIs Γ m x s) where
-      has_room : leb (cells Γ) (length m) ≡ true
-      has_room = le-leb (cells Γ) (length m) room
-
-      made : {k : ℕ} → k ≡ (solve Γ).rounds → k ≡ rounds_taken sheet (in_place_lem m)
-      made e = e ∙ sym (rounds-solved sheet (in_place_lem m) Γ a room)
-
-      pub solving_consistent : (k : ℕ) → s ≡ Ok k → Leaves (counting sheet m) (counted_as k (Ok (cells Γ))) x
-      solving_consistent k q =
-          let r = consistent_rests Γ m x s is k q in
-          let size = (solve-least Γ w r.0).solves.sized in
-          counted-left sheet m
-          (leaves_as
-          (call_works (refusing (in_place_lem m)) sheet (solving_tests (in_place_lem m)) work Γ a
-          (has_room, (rw r.0, tt)))
-          (record { answer = ap (λ (n : ℕ). Ok n) (sym size); memory = r.1 }))
-          (made (ap told (sym q ∙ is.answer) ∙ told-solved (solve Γ)))
-
-      pub solving-none : (k : NoTable) → s ≡ Err k
-          → Leaves (counting sheet m) (counted_as k.rounds (Err (without_line_lem Inconsistent))) x
-      solving-none k q =
-          let r = none_passes Γ m x s is k q in
-          counted-left sheet m
-          (leaves_as
-          (call_fails (refusing (in_place_lem m)) sheet (solving_tests (in_place_lem m)) work Γ a _
-          (inr (has_room, inl (r.0, refl))))
-          (record { answer = refl; memory = r.1 }))
-          (made (ap told (sym q ∙ is.answer) ∙ told-solved (solve Γ)))
+    pub solving-none : (k : NoTable) → s ≡ Err k
+        → Leaves (counting sheet m) (counted_as k.rounds (Err (without_line_lem Inconsistent))) x
+    solving-none k p =
+        let r = none_passes Γ m x s is k p in
+        counted-left sheet m
+        (leaves_as
+        (opened_fails sheet room_test (refusing (in_place_lem m)) rest work Γ q _ (inl (r.0, refl)))
+        (record { answer = refl; memory = r.1 }))
+        (made (ap told (sym p ∙ is.answer) ∙ told-solved (solve Γ)))

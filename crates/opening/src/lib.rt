@@ -10,24 +10,26 @@ ghost use Rattle.calls.specs.Lent.{in_place_lem};
 ghost use Rattle.calls.specs.Calls.{summary, no_counts, summary_values, judgement, listed, housed, converting};
 ghost use Rattle.calls.specs.Calls.{ringing};
 ghost use Rattle.calls.specs.Counting.{counting, solved_values, rounds_of};
+ghost use Rattle.calls.specs.Within.{within, progress_values, reach_of};
 ghost use Rattle.calls.specs.Play.{events_due_lem, events_due_on_lem};
 ghost use Rattle.calls.specs.Recover.{recovering};
 ghost use Rattle.calls.specs.Bench.{no_finding, judgement_values};
 ghost use Rattle.calls.specs.Answers.{Answers, AnswersInto};
-ghost use Rattle.calls.specs.Numbers.{minutes, judges, solves, lists, houses, recovers, plays};
+ghost use Rattle.calls.specs.Numbers.{minutes, judges, solves, solves_within, lists, houses, recovers, plays};
 ghost use Rattle.calls.specs.Numbers.{misnamed_by, unheard_by, misnamed_on, unheard_on};
 ghost use Rattle.calls.specs.Reader.{AcceptsLayout, RefusesFault, CountsContents};
 ghost use Rattle.calls.specs.Judges.{Passes, Breaches};
 ghost use Rattle.calls.specs.Solves.{RefusesNone, WritesLeast, CountsRounds};
+ghost use Rattle.calls.specs.StopsEarly.{StopsAfter, FinishesWithin, MakesNoRound};
 ghost use Rattle.calls.specs.Lists.{WritesListing};
 ghost use Rattle.calls.specs.ReadingBack.{ReadsBack};
 ghost use Rattle.calls.specs.Playing.{TellsRow};
 ghost use Rattle.calls.specs.Housing.{WritesForm};
 ghost use Rattle.calls.specs.Converting.{AnswersFormer, WritesConverted};
 ghost use Rattle.calls.specs.Ringing.{AnswersRing, WritesHeaviest};
-ghost use Rattle.opening.specs.Prologue.{handed_in_lem, of_unread, of_unanswered};
+ghost use Rattle.opening.specs.Prologue.{handed_in_lem, lent_for_lem, unsolved, of_unread, of_unanswered};
 
-use calls::{Counts, Solved, Unsolved};
+use calls::{Counts, Floor, Progress, Solved, Unsolved};
 use checker::Verdict;
 use dispatch::{Heard, Said, Unanswered};
 use network::Network;
@@ -35,6 +37,7 @@ use network::accepted::Accepted;
 use network::times::Strategy;
 use readback::Unread;
 use refusal::{Cause, Refusal};
+use solver::{Inconsistent, Outcome};
 
 // Lent memory of these lengths is long enough for every sheet: a table's minutes, a listing's bytes as it is written,
 // and the bytes of a sheet, also in its house form, converted, or the heaviest one. No listing that is longer than the
@@ -56,6 +59,19 @@ fn handed_in(sheet: &[u8], minutes: usize) -> Result<Accepted<'_>, Refusal>
     let accepted = sheet::read(sheet)?;
     if minutes != accepted.formed.cell_count() {
         return Err(Refusal::without_line(Cause::WrongTableLength));
+    }
+    Ok(accepted)
+}
+
+// The sheet, for a call whose first test of its own is whether there is room for its table among so many minutes.
+fn lent_for(sheet: &[u8], minutes: usize) -> Result<Accepted<'_>, Refusal>
+    ensures { MatchResult result
+        (λ a. (a.sheet.now ≡ sheet.now) × (lent_for_lem sheet.now minutes ≡ Ok a.formed.network))
+        (λ r. lent_for_lem sheet.now minutes ≡ Err r) }
+{
+    let accepted = sheet::read(sheet)?;
+    if minutes < accepted.formed.cell_count() {
+        return Err(Refusal::without_line(Cause::BufferTooShort));
     }
     Ok(accepted)
 }
@@ -93,6 +109,16 @@ pub fn judge_table(sheet: &[u8], table: &[u16]) -> Result<Verdict, Refusal>
     Ok(checker::check(&strategy))
 }
 
+// That there is no table, and after how many rounds that was known.
+fn unsolved(none: Inconsistent) -> Unsolved
+    ensures { result ≡ unsolved none }
+{
+    Unsolved {
+        refusal: Refusal::without_line(Cause::Inconsistent),
+        rounds: none.rounds,
+    }
+}
+
 /// The least good table into the first cells of the table. With it, and with 13, goes the count of rounds: from all
 /// zeros each cell whose event happens takes the greatest of its own minute and of each bound that is set there, all
 /// read off the table before the round, until a round raises nothing or passes a limit; that one counts too.
@@ -103,17 +129,37 @@ pub fn solve_sheet(sheet: &[u8], table: &mut [u16]) -> Result<Solved, Unsolved>
     ensures least { WritesLeast sheet.now (in_place_lem table.old) (solved_values result) table.new }
     ensures rounds { CountsRounds sheet.now (in_place_lem table.old) (solved_values result) (rounds_of result) }
 {
-    let accepted = sheet::read(sheet)?;
+    let accepted = lent_for(sheet, table.len())?;
     let minutes = accepted.formed.cell_count();
-    if table.len() < minutes {
-        return Err(Refusal::without_line(Cause::BufferTooShort).into());
-    }
     match solver::solve(&accepted.formed, table) {
         Ok(rounds) => Ok(Solved { minutes, rounds }),
-        Err(none) => Err(Unsolved {
-            refusal: Refusal::without_line(Cause::Inconsistent),
-            rounds: none.rounds,
-        }),
+        Err(none) => Err(unsolved(none)),
+    }
+}
+
+/// What at most so many rounds reach, into the first cells of the table. Where these are enough, the answer and the
+/// table are those of `solve_sheet`. Otherwise it is stopped after the last of them and writes a floor: no good table
+/// has any event earlier, and at most as many rounds remain as are left, and one more. A count of 0 is refused with 23,
+/// which is tried after 12 and before 13.
+pub fn solve_within(sheet: &[u8], rounds: u32, table: &mut [u16]) -> Result<Progress, Unsolved>
+    ensures outcome { Leaves (within sheet.now rounds table.old) result table.new }
+    ensures refusals { AnswersInto sheet.now (solves_within rounds (length table.old)) table.old
+        (progress_values result) table.new }
+    ensures stopped { StopsAfter sheet.now rounds (in_place_lem table.old) (progress_values result) (reach_of result)
+        table.new }
+    ensures finished { FinishesWithin sheet.now rounds (in_place_lem table.old) (progress_values result)
+        (reach_of result) table.new }
+    ensures no_round { MakesNoRound (progress_values result) (reach_of result) }
+{
+    let accepted = lent_for(sheet, table.len())?;
+    if rounds == 0 {
+        return Err(Refusal::without_line(Cause::NoRounds).into());
+    }
+    let minutes = accepted.formed.cell_count();
+    match solver::solve_within(&accepted.formed, rounds, table) {
+        Ok(Outcome::Finished(rounds)) => Ok(Progress::Finished(Solved { minutes, rounds })),
+        Ok(Outcome::Stopped(left)) => Ok(Progress::Stopped(Floor { minutes, left })),
+        Err(none) => Err(unsolved(none)),
     }
 }
 

@@ -1,17 +1,22 @@
--- The calls that fill a table with minutes: the solver and the reader of listings. Assumes nothing.
+-- The calls that fill a table with minutes: the solver, within so many rounds too, and the reader of listings. Assumes
+-- nothing.
 use mathlib.Core.Path.{◌≡◌}
-use mathlib.Core.Bool.{Bool, true}
+use mathlib.Core.Bool.{Bool, true, false, ◌||◌, cond}
 use mathlib.Core.List.{List, [], ◌∷◌}
 use Prim.Native.Nat.{ℕ}
+use lib.Dec.{leb}
 use lib.ListN.{length}
 use Rattle.prelude.specs.Checks.{Hold}
-use Rattle.refusal.specs.declared.Cause.TheVariants.{BufferTooShort, Inconsistent}
+use Rattle.refusal.specs.declared.Cause.TheVariants.{BufferTooShort, NoRounds, Inconsistent}
 use Rattle.network.specs.Build.{cells}
+use Rattle.network.specs.WellFormed.{WellFormed}
 use Rattle.network.specs.declared.Network.{Network}
 use Rattle.sheet.specs.Reading.{network_of, Accepts}
 use Rattle.sheet.proofs.WellFormed.{accepted_well_formed}
 use Rattle.solver.specs.Solve.{solve, found}
+use Rattle.solver.specs.Stopped.{stops, floor_after}
 use Rattle.solver.proofs.Least.{solve-least}
+use Rattle.solver.proofs.Stopped.{length-floor}
 use Rattle.listing.specs.Listing.{header}
 use Rattle.readback.proofs.RoundTrip.{length-recovered}
 use Rattle.calls.specs.Call.{without_line_lem, Tests}
@@ -35,6 +40,24 @@ solver_fills sheet = record {
       let Γ = (network_of sheet) in
       ((solve-least Γ (accepted_well_formed sheet a).0 ((rests-true (solve Γ).end).0 h.1.0)).solves.sized, h.0);
 }
+
+abbrev pub within_fills : (sheet : List ℕ) (n : ℕ) → Fills sheet
+within_fills sheet n = record {
+  tests = λ roomy Γ.
+      (roomy, without_line_lem BufferTooShort)
+      ∷ (leb 1 n, without_line_lem NoRounds)
+      ∷ (stops Γ n || rests (solve Γ).end, without_line_lem Inconsistent)
+      ∷ [];
+  text = λ Γ. cond (stops Γ n) (floor_after Γ n) (found Γ);
+  sized = λ a roomy h.
+      let Γ = network_of sheet in
+      (by_stop Γ (accepted_well_formed sheet a).0 (stops Γ n) h.1.1.0, h.0);
+}
+  where
+    by_stop : (Γ : Network) → WellFormed Γ → (b : Bool) → b || rests (solve Γ).end ≡ true
+        → length (cond b (floor_after Γ n) (found Γ)) ≡ cells Γ
+    by_stop Γ w true e = length-floor Γ n
+    by_stop Γ w false e = (solve-least Γ w ((rests-true (solve Γ).end).0 e)).solves.sized
 
 abbrev pub reader_fills : (sheet bytes : List ℕ) → Fills sheet
 reader_fills sheet bytes = record {

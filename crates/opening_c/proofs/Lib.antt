@@ -2,4 +2,5 @@
 pub mod Taken
 pub mod Fills
 pub mod Pairs
+pub mod WithinPairs
 pub mod Told

@@ -53,7 +53,7 @@ module _ (sheet : List ℕ) (fills : Fills sheet) (b z : List ℕ) (size : lengt
   abbrev into : Lent → Left (OrRefusal ℕ)
   into l = call (refusing l) sheet (tests l) (work l)
 
-  same-room : Accepts sheet → leb (cells net) (length m) ≡ leb (cells net) (length b / 2)
+  pub same-room : Accepts sheet → leb (cells net) (length m) ≡ leb (cells net) (length b / 2)
   same-room a =
       let few = cells-few (accepted_well_formed sheet a).0 in
       elim (lt_or_ge (length b / 2) (cells net)) [
@@ -143,7 +143,7 @@ module _ (sheet : List ℕ) (fills : Fills sheet) (b z : List ℕ) (size : lengt
   pairs_go left = record { sized = pairs_sized left; room = pairs_room left; packed = pairs_packed left }
 
 -- the array of the bench's calls before they go
-abbrev zeros : List ℕ
+abbrev pub zeros : List ℕ
 zeros = replicate L.cells 0
 
 pub from_zeros : (sheet : List ℕ) (fills : Fills sheet) (b : List ℕ) (k : ℕ) (lent : k ≡ min (length b / 2) 256)

@@ -1,5 +1,5 @@
 -- What the header's functions tell of a count that was packed. Assumes nothing.
-use mathlib.Core.Path.{◌≡◌, refl, ◌∙◌, ap}
+use mathlib.Core.Path.{◌≡◌, refl, sym, ◌∙◌, ap}
 use mathlib.Core.List.{List}
 use Prim.Native.Nat.{ℕ, ◌+◌, ◌*◌}
 use Rattle.calls.specs.Values.{OrRefusal, Values, number_values}
@@ -7,9 +7,11 @@ use Rattle.calls.specs.Call.{Left, Leaves}
 use Rattle.calls.specs.Lent.{Lent}
 use Rattle.calls.specs.Calls.{solving_into}
 use Rattle.calls.specs.Counting.{rounds_taken, counting_into}
-use Rattle.calls.specs.Bench.{packed_count_lem, packed_left, packed_counted}
+use Rattle.calls.specs.Within.{reach_of, within_into}
+use Rattle.calls.specs.Bench.{packed_count_lem, packed_left, packed_counted, reach_bytes, packed_progress}
 use Rattle.calls.specs.Header.{told, shifted, CountHolds}
 use Rattle.calls.proofs.Counting.{answer-counted, rounds-counted}
+use Rattle.calls.proofs.Within.{written_into, written-same, memory-same}
 
 pub record Tells (a : ℕ) (v : Values ℕ) : Type 0 where
   pub values : told a ≡ v
@@ -46,3 +48,12 @@ counted-left sheet m h e f =
       answer = f ∙ rw (e, h.answer, answer-counted c a, rounds-counted c a) refl;
       memory = h.memory;
     }
+
+-- and with how far the run came
+pub progress-left : (sheet : List ℕ) (n : ℕ) (m : Lent) {a k r : ℕ} {x : List ℕ}
+    → Leaves (packed_left (written_into sheet n m)) a x → k ≡ reach_bytes (reach_of (within_into sheet n m).answer)
+    → r ≡ a + 1099511627776 * k → Leaves (packed_progress (within_into sheet n m)) r x
+progress-left sheet n m h e f = record {
+  answer = f ∙ rw (e, h.answer, written-same sheet n m) refl;
+  memory = h.memory ∙ sym (memory-same sheet n m);
+}

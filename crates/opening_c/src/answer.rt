@@ -50,10 +50,10 @@ pub(crate) fn word(verdict: Verdict) -> u32
     }
 }
 
-// The solver's answer, with its count of rounds in the last three bytes.
-pub(crate) fn with_rounds(answer: u64, rounds: u32) -> u64
-    requires { (answer < 1099511627776) × (rounds < 16777216) }
-    ensures { result ≡ answer + 1099511627776 * rounds }
+// The answer of a call that makes rounds, with what it tells of them in the last three bytes.
+pub(crate) fn with_rounds(answer: u64, told: u32) -> u64
+    requires { (answer < 1099511627776) × (told < 16777216) }
+    ensures { result ≡ answer + 1099511627776 * told }
 {
-    answer + 1099511627776 * u64::from(rounds)
+    answer + 1099511627776 * u64::from(told)
 }

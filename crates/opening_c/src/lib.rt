@@ -12,13 +12,15 @@ ghost use Rattle.calls.specs.Call.{Leaves};
 ghost use Rattle.calls.specs.Lent.{in_place_lem, in_pairs};
 ghost use Rattle.calls.specs.Calls.{housed, converting, ringing};
 ghost use Rattle.calls.specs.Counting.{answer_of, rounds_of};
+ghost use Rattle.calls.specs.Within.{written_of, reach_of};
 ghost use Rattle.calls.specs.Bench as B;
-ghost use Rattle.calls.specs.Header.{told, found, shifted, opening_rounds};
+ghost use Rattle.calls.specs.Header.{told, found, shifted, opening_rounds, reach_told, ReachTold};
 ghost use Rattle.calls.specs.Answers.{Answers, AnswersInto};
-ghost use Rattle.calls.specs.Numbers.{bytes, judges, solves, lists, houses, recovers, plays};
+ghost use Rattle.calls.specs.Numbers.{bytes, judges, solves, solves_within, lists, houses, recovers, plays};
 ghost use Rattle.calls.specs.Numbers.{misnamed_in, unheard_by};
 ghost use Rattle.calls.specs.Judges.{Passes, Breaches};
 ghost use Rattle.calls.specs.Solves.{RefusesNone, WritesLeast, CountsRounds};
+ghost use Rattle.calls.specs.StopsEarly.{StopsAfter, FinishesWithin, MakesNoRound};
 ghost use Rattle.calls.specs.Lists.{WritesListing};
 ghost use Rattle.calls.specs.ReadingBack.{ReadsBack};
 ghost use Rattle.calls.specs.Playing.{TellsRow};
@@ -30,9 +32,12 @@ ghost use Rattle.opening_c.specs.Packed.{HasRoom, packed_table_lem};
 mod answer;
 
 use answer::{packed, with_rounds, word};
-use calls::{Solved, Unsolved};
+use calls::{Progress, Solved, Unsolved};
 use network::Network;
 use refusal::Refusal;
+
+// The bit of an answer's last three bytes that says that the run was stopped.
+const STOPPED: u32 = 1 << 23;
 
 // How many minutes of a sheet's table so many bytes have room for: whole pairs are counted.
 fn room(bytes: usize) -> usize
@@ -57,6 +62,29 @@ fn rounds(solved: Result<Solved, Unsolved>) -> u32
 {
     match solved {
         Ok(found) => found.rounds,
+        Err(unsolved) => unsolved.rounds,
+    }
+}
+
+// What solving within so many rounds has written, or why it has not.
+fn written_within(progress: Result<Progress, Unsolved>) -> Result<usize, Refusal>
+    ensures { result ≡ written_of progress }
+{
+    match progress {
+        Ok(Progress::Finished(found)) => Ok(found.minutes),
+        Ok(Progress::Stopped(floor)) => Ok(floor.minutes),
+        Err(unsolved) => Err(unsolved.refusal),
+    }
+}
+
+// How far it came: the rounds that it took, or the highest bit of three bytes and what is left.
+fn reach(progress: Result<Progress, Unsolved>) -> u32
+    requires { B.reach_bytes (reach_of progress) < 16777216 }
+    ensures { result ≡ B.reach_bytes (reach_of progress) }
+{
+    match progress {
+        Ok(Progress::Finished(found)) => found.rounds,
+        Ok(Progress::Stopped(floor)) => STOPPED + floor.left,
         Err(unsolved) => unsolved.rounds,
     }
 }
@@ -101,12 +129,32 @@ pub extern "C" fn opening_solve(sheet: &[u8], table: &mut [u8]) -> u64
     ensures none { RefusesNone sheet.now (in_pairs table.old) (told result) }
     ensures least { WritesLeast sheet.now (in_pairs table.old) (told result) table.new }
     ensures rounds { CountsRounds sheet.now (in_pairs table.old) (told result) (opening_rounds result) }
+    ensures unused { shifted result 63 ≡ 0 }
 {
     let mut minutes = [0u16; Network::CELLS];
     let lent = room(table.len());
     let solved = opening::solve_sheet(sheet, &mut minutes[..lent]);
     let packed = packed_table(written(solved), &minutes, table);
     with_rounds(packed, rounds(solved))
+}
+
+/// The solver, within so many rounds.
+#[unsafe(no_mangle)]
+pub extern "C" fn opening_solve_within(sheet: &[u8], rounds: u32, table: &mut [u8]) -> u64
+    ensures outcome { Leaves (B.packed_progress (B.bench_within sheet.now rounds table.old)) result table.new }
+    ensures refusals { AnswersInto sheet.now (solves_within rounds (length table.old / 2)) table.old (told result)
+        table.new }
+    ensures stopped { StopsAfter sheet.now rounds (in_pairs table.old) (told result) (reach_told result) table.new }
+    ensures finished { FinishesWithin sheet.now rounds (in_pairs table.old) (told result) (reach_told result)
+        table.new }
+    ensures no_round { MakesNoRound (told result) (reach_told result) }
+    ensures header { ReachTold result }
+{
+    let mut minutes = [0u16; Network::CELLS];
+    let lent = room(table.len());
+    let progress = opening::solve_within(sheet, rounds, &mut minutes[..lent]);
+    let packed = packed_table(written_within(progress), &minutes, table);
+    with_rounds(packed, reach(progress))
 }
 
 // The listing.

@@ -37,6 +37,8 @@ number_of C.StartLabelled = 20
 number_of C.IncompleteLabel = 21
 -- "22, the row is a `fix`, with its line, tried directly after 3" (02, point 7)
 number_of C.RetiredKind = 22
+-- "23, N is 0", of the rounds after which the solver is to stop
+number_of C.NoRounds = 23
 
 -- where a cause stands among the tests of one line: "on one line the lowest number does" (01, Refused sheets and
 -- calls), but 22 is "tried directly after 3" (02, point 7), which has the turn 6, and before 4, which has 8

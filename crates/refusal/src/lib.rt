@@ -53,6 +53,8 @@ pub enum Cause {
     IncompleteLabel = 21,
     // The row is a `fix`, which the converter alone reads.
     RetiredKind = 22,
+    // The solver is given a count of 0 rounds.
+    NoRounds = 23,
 }
 
 // A line is counted from 1; 0 where the refusal concerns no line, as the papers and include/opening.h have it.

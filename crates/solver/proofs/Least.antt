@@ -4,6 +4,7 @@
 use Rattle.std.proofs.Common.{◌≡◌, ℕ, ◌+◌, ◌*◌, ◌≤◌, true, false, List, sym, ◌∙◌, inl, inr, arith, eq-eqb}
 use lib.ListN.{length-replicate}
 use Rattle.prelude.proofs.Tests.{either, clash, by_cond}
+use Rattle.fixpoint.specs.Order.{Below}
 use Rattle.fixpoint.specs.Step.{Prefixpoint}
 use Rattle.fixpoint.specs.Run.{within, Rests}
 use Rattle.fixpoint.proofs.Order.{zeros_below}
@@ -13,7 +14,7 @@ use Rattle.network.specs.Build.{cells}
 use Rattle.network.specs.Happens.{happens}
 use Rattle.network.specs.Strategy.{time}
 use Rattle.network.specs.Solution.{Solution}
-use Rattle.network.specs.Least.{Least, Inconsistent}
+use Rattle.network.specs.Least.{NoLater, Least, Inconsistent}
 use Rattle.network.specs.WellFormed.{WellFormed}
 use Rattle.network.specs.declared.Network.{Network}
 use Rattle.rounds.specs.Propagate.{propagate}
@@ -26,6 +27,18 @@ use Rattle.rounds.proofs.Effects.{step_rises}
 use Rattle.solver.specs.Masked.{masked}
 use Rattle.solver.specs.Solve.{floor, solve, found}
 use Rattle.solver.proofs.Masked.{length-masked, masked_there, masked_missing, Good, blanked_solves, zeroed_good}
+
+-- what is below a table with zeros for its blanks has no event later, once its own blanks are put in
+pub no_later_of_below : (Γ : Network) (ρ τ : List ℕ) → Below ρ (masked Γ 0 τ) → NoLater Γ (masked Γ L.blank ρ) τ
+no_later_of_below Γ ρ τ b = record {
+  at_most = λ s u hs hu here.
+      omega (
+        arith,
+        masked_there Γ L.blank ρ s u hs hu here,
+        masked_there Γ 0 τ s u hs hu here,
+        b.at (s * Γ.events + u),
+      );
+}
 
 module _ (Γ : Network) (W : WellFormed Γ) where
   -- a solution, with zeros for its blanks, is a prefixpoint within the cap
@@ -83,15 +96,7 @@ module _ (Γ : Network) (W : WellFormed Γ) where
       let ρ = (solve Γ).reached in
       record {
         solves = blanked_solves W ρ (good_of_prefixpoint ρ (ends.rests e).0 (ends.rests e).1);
-        no_later = λ τ h. record {
-          at_most = λ s u hs hu here.
-              omega (
-                arith,
-                masked_there Γ L.blank ρ s u hs hu here,
-                masked_there Γ 0 τ s u hs hu here,
-                (ends.below (masked Γ 0 τ) (prefixpoint_of_solution τ h)).at (s * Γ.events + u),
-              );
-        };
+        no_later = λ τ h. no_later_of_below Γ ρ τ (ends.below (masked Γ 0 τ) (prefixpoint_of_solution τ h));
       }
 
   -- and where it does not there is none

@@ -30,7 +30,7 @@ room_zeros h t n =
     ∙ sum_below_scaled h t n)
 
 module _ (Γ : Network) where
-  floor_sized : length (floor Γ) ≡ length (cap Γ)
+  pub floor_sized : length (floor Γ) ≡ length (cap Γ)
   floor_sized = length-replicate (cells Γ) 0 ∙ sym (length-cap Γ)
 
   pub solve_ends : Ended (propagate Γ) (cap Γ) (step_rises Γ) (floor Γ) (solve Γ)
@@ -52,7 +52,7 @@ module _ (Γ : Network) where
     );
   }
 
-  -- no more cells move than there are but for the start's; these do where every event happens
+  -- no more cells move than there are but for the start's
   abbrev columns : ℕ → ℕ
   columns i = cond (eqb (i % Γ.events) 0) 0 1
 
@@ -70,13 +70,3 @@ module _ (Γ : Network) where
       fewer true b = omega arith
       fewer false true = omega arith
       fewer false false = omega arith
-
-  pub moving_all : ((s u : ℕ) → happens Γ s u ≡ true) → moving Γ ≡ (Γ.events - 1) * scenarios Γ
-  moving_all h =
-      sum_below-same (λ i. cond (fixed Γ (i / Γ.events) (i % Γ.events)) 0 1) columns (cells Γ)
-      (λ i l. rw (h (i / Γ.events) (i % Γ.events)) (all (eqb (i % Γ.events) 0)))
-      ∙ rows_but_first Γ.events (scenarios Γ)
-    where
-      all : (a : Bool) → ◌≡◌ {A = ℕ} (cond (a || false) 0 1) (cond a 0 1)
-      all true = omega arith
-      all false = omega arith

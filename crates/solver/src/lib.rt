@@ -1,13 +1,15 @@
 // The least solution of a network by value iteration, or that there is none (004, Theorem 1). Rounds go on from a
-// table until one raises nothing or passes a limit, or the budget is used up; where they are seen to repeat, some are
-// passed over at once (docs/LEAP.md).
+// table until one raises nothing or passes a limit, or the budget is used up, which leaves a floor; where they are seen
+// to repeat, some are passed over at once (docs/LEAP.md).
 #![tactic(auto)]
 
 ghost use Rattle.std.specs.Prelude.{◌≡◌, ◌*◌, ◌≤◌, length};
 ghost use Rattle.network.specs.Limits as L;
 ghost use Rattle.network.specs.Build.{cells};
 ghost use Rattle.rows.specs.Rows.{Times};
+ghost use Rattle.solver.specs.Stopped.{left};
 ghost use Rattle.solver.specs.Solved.{SolvedIs};
+ghost use Rattle.solver.specs.Within.{WithinIs};
 ghost use Rattle.solver.specs.Run.{RunIs, Onward};
 
 use bounds::list::BoundList;
@@ -16,6 +18,7 @@ use leap::pace;
 use leap::pass::Stretch;
 use network::Network;
 use network::formed::Formed;
+use network::times::Strategy;
 use rounds::{Compiled, Effect};
 use rows::Table;
 
@@ -133,22 +136,74 @@ pub fn run(compiled: &Compiled, a: &mut Table, budget: u32) -> Ended
     }
 }
 
+// What a run of at most so many rounds has written.
+#[derive(Clone, Copy, PartialEq, Eq)]
+pub enum Outcome {
+    // It finished, after so many rounds: the least solution.
+    Finished(u32),
+    // It was stopped: the floor, beside which so much is left.
+    Stopped(u32),
+}
+
+// What is left of a floor: the sum, over the cells of events that happen other than the start's, of the horizon minus
+// the time.
+fn left(floor: &Strategy<'_>) -> u32
+    ensures { result ≡ left floor.now.formed.now.network floor.now.table.now }
+{
+    let network = &floor.formed.network;
+    let mut left: u32 = 0;
+    for (i, time) in floor.table.iter().enumerate() {
+        let s = i / network.events;
+        let u = i % network.events;
+        if u != 0 && floor.formed.happens(s, u) {
+            left += u32::from(network.horizon.saturating_sub(*time));
+        }
+    }
+    left
+}
+
+// Into the first cells of the table what at most so many rounds reach: the least solution, or a floor below all
+// solutions; or that there is none.
+pub fn solve_within(
+    formed: &Formed,
+    rounds: u32,
+    table: &mut [u16],
+) -> Result<Outcome, Inconsistent>
+    requires { cells formed.now.network ≤ length table.old }
+    ensures { WithinIs formed.now.network rounds table.old table.new result }
+{
+    let mut lists = [BoundList::empty(); Network::CASES];
+    let compiled = Compiled::of(formed, &mut lists);
+    let mut a = [0; Network::CELLS];
+    let ended = run(&compiled, &mut a, rounds);
+    match ended.end {
+        End::Rests => {
+            compiled.frame.copy_out(&a, table);
+            Ok(Outcome::Finished(ended.rounds))
+        }
+        End::Passes => Err(Inconsistent {
+            rounds: ended.rounds,
+        }),
+        End::Spent => {
+            compiled.frame.copy_out(&a, table);
+            let floor = Strategy {
+                formed,
+                table: &table[..formed.cell_count()],
+            };
+            Ok(Outcome::Stopped(left(&floor)))
+        }
+    }
+}
+
 // The least solution into the first cells of the table, or that there is none; the count of rounds either way.
 pub fn solve(formed: &Formed, table: &mut [u16]) -> Result<u32, Inconsistent>
     requires { cells formed.now.network ≤ length table.old }
     ensures { SolvedIs formed.now.network table.old table.new result }
 {
-    let mut lists = [BoundList::empty(); Network::CASES];
-    let compiled = Compiled::of(formed, &mut lists);
-    let mut a = [0; Network::CELLS];
-    let ended = run(&compiled, &mut a, BUDGET);
-    match ended.end {
-        End::Rests => {
-            compiled.frame.copy_out(&a, table);
-            Ok(ended.rounds)
-        }
-        End::Passes | End::Spent => Err(Inconsistent {
-            rounds: ended.rounds,
-        }),
+    match solve_within(formed, BUDGET, table) {
+        Ok(Outcome::Finished(rounds)) => Ok(rounds),
+        // No run takes as many rounds.
+        Ok(Outcome::Stopped(_)) => unreachable!(),
+        Err(none) => Err(none),
     }
 }

@@ -48,4 +48,11 @@ returns c =
     let held = rw (← h.answer) at (benched.solver_holds sheet b) in
     let w = solve-clauses sheet (in_pairs b) _ _ _ (held.values ∙ ap number_values (answer-counted k a))
     (held.rounds ∙ rounds-counted k a) h.memory in
-    record { outcome = h; refusals = w.refusals; none = w.none; least = w.least; rounds = w.rounds }
+    record {
+      outcome = h;
+      refusals = w.refusals;
+      none = w.none;
+      least = w.least;
+      rounds = w.rounds;
+      unused = held.rest;
+    }

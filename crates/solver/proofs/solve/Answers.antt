@@ -1,29 +1,24 @@
--- `solve` meets its contract: the budget is more than the room below the limits, so its run is the definition's.
--- Assumes nothing.
-use Rattle.std.proofs.Common.{inl, inr}
-use Rattle.bounds.proofs.Listed.{empty_lists}
-use Rattle.solver.proofs.Solving.{budget, zeros, zero-times, solved_resting, solved_stopped}
-use Rattle.solver.specs.Run.{RunIs}
-use Rattle.solver.proofs.solve.Goals.{After-run-ended}
+-- `solve` meets its contract: no run takes as many rounds as its budget. Assumes nothing.
+use Rattle.solver.specs.Solved.{SolvedIs}
+use Rattle.solver.proofs.Solving.{budget, rounds_few}
+use Rattle.solver.proofs.Within.{plain, solved_plain, never_stopped}
+use Rattle.solver.proofs.solve.Goals.{After-solve_within}
 use Rattle.solver.proofs.solve.Goals as goal
 
-ran : (d : After-run-ended) → RunIs d.args.formed.now.network budget zeros d.run-ended.new.a d.run-ended.result
-ran d = rw d.of-compiled.ensures at d.run-ended.ensures.1
+solved : (d : After-solve_within)
+    → SolvedIs d.args.formed.now.network d.args.table.now d.solve_within.new.table (plain d.solve_within.result)
+solved d = solved_plain _ budget (rounds_few _ d.args.formed.now.well_formed) d.solve_within.ensures
 
-pub of-compiled-requires : goal.of-compiled-requires
-of-compiled-requires c = empty_lists c.empty-lists.result c.empty-lists.ensures
+pub unreachable-requires : goal.unreachable-requires
+unreachable-requires c =
+    let stopped = c.in-Ok-Stopped in
+    never_stopped _ budget (rounds_few _ c.args.formed.now.well_formed) c.solve_within.ensures _
+    (rw stopped.field-0-is at stopped.is)
 
-pub run-ended-requires : goal.run-ended-requires
-run-ended-requires c = zero-times _
+pub returns-in-Ok-Finished : goal.returns-in-Ok-Finished
+returns-in-Ok-Finished c =
+    let d = (goal.at.returns-in-Ok-Finished c).After-solve_within in
+    rw (c.in-Ok-Finished.is, c.in-Ok-Finished.field-0-is) at (solved d)
 
-pub returns-in-Rests : goal.returns-in-Rests
-returns-in-Rests c =
-    let d = (goal.at.returns-in-Rests c).After-run-ended in
-    solved_resting _ c.args.formed.now.well_formed (ran d) c.in-Rests.is _ _
-    (rw c.of-compiled.ensures at c.copy_out.ensures)
-
-pub returns-in-Passes : goal.returns-in-Passes
-returns-in-Passes c =
-    let d = (goal.at.returns-in-Passes c).After-run-ended in
-    solved_stopped _ c.args.formed.now.well_formed (ran d)
-    (λ rests. elim c.in-Passes.is [ inl passes ↦ cc | inr spent ↦ cc ]) _
+pub returns-in-Err : goal.returns-in-Err
+returns-in-Err c = let d = (goal.at.returns-in-Err c).After-solve_within in rw c.in-Err.is at (solved d)
