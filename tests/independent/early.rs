@@ -86,8 +86,8 @@ fn ended_a_round_before(s: &[u8], n: u32, t: &mut [u8], to_table: bool) -> u64 {
 
 /// A table is known by its last raise: the count is one less, and so is that of a run which raises nothing.
 fn idle_round_not_made(s: &[u8], n: u32, t: &mut [u8]) -> u64 {
-    own::solve_within_by(s, n, t, |net, n| match rounds::stopped(net, n.saturating_add(1))? {
-        run if run.table.is_some() => Ok(Run { count: run.count - 1, ..run }),
+    own::solve_within_by(s, n, t, |net, n| match rounds::stopped(net, n.saturating_add(1)) {
+        Ok(run) if run.table.is_some() => Ok(Run { count: run.count - 1, ..run }),
         _ => rounds::stopped(net, n),
     })
 }

@@ -111,17 +111,17 @@ impl Asked<'_> {
 
 // ---------------------------------------------------------------- Numbers of rounds
 
-/// For any sheet.
-fn any(rng: &mut Rng) -> Vec<u32> {
-    vec![0, rng.between(1, 300) as u32, u32::MAX]
-}
-
-/// For a run of so many rounds: 0, both ends, about its own number, any below it, and one of which a narrower number
-/// would keep only the low bits; and so many of those that `others` has.
-pub fn numbers(rng: &mut Rng, net: &Net, rounds: u32, more: usize) -> Vec<u32> {
-    let below = rng.between(1, rounds.into()) as u32;
+/// For a sheet that is refused 0, any and the greatest. For others 0, 1, 2, about as many rounds as the run takes, any
+/// up to that, a greater one whose low bits are such a number, and the greatest; and so many of those that `others`
+/// has.
+pub fn numbers(rng: &mut Rng, asked: &Asked, more: usize) -> Vec<u32> {
+    let (Ok(net), Some(Kept { run, .. })) = (asked.reading, asked.kept) else {
+        return vec![0, rng.between(1, 300) as u32, u32::MAX];
+    };
+    let rounds = run.count;
+    let low = rng.between(1, rounds.into()) as u32;
     let wide = (1 << rng.between(8, 31)) + rng.below(rounds as usize) as u32;
-    let mut numbers = vec![0, 1, 2, rounds - 1, rounds, rounds + 1, below, wide, u32::MAX];
+    let mut numbers = vec![0, 1, 2, rounds - 1, rounds, rounds + 1, low, wide, u32::MAX];
     if more > 0 {
         let others = others(rng, net, rounds);
         numbers.extend(rng.shuffled(&others).into_iter().take(more));
@@ -166,22 +166,21 @@ struct Answered {
     minutes: Vec<u16>,
 }
 
-/// A sheet of one seed, of few rounds or of more.
+/// A sheet of one seed: an ordinary one, one that takes more rounds, or one of the heaviest.
 pub fn compare_one(library: &Library, seed: u64, counts: &mut Counts) -> Result<(), String> {
     let mut rng = Rng::new(!seed);
-    let sheet = if rng.chance(50) { gen::sheet(&mut rng) } else { long::climb(&mut rng) };
+    let sheet = match rng.below(20) {
+        0 => long::heaviest(rng.between(2, 16) as usize, rng.between(0, 60)),
+        1..=9 => long::climb(&mut rng),
+        _ => gen::sheet(&mut rng),
+    };
     let (sheet, reading) = (lend_text(&mut rng, &sheet), model::read(&sheet));
     let kept = reading.as_ref().ok().map(Kept::new);
-    let numbers = match (&reading, &kept) {
-        (Ok(net), Some(kept)) => numbers(&mut rng, net, kept.run.count, more(kept.run.count)),
-        _ => any(&mut rng),
-    };
+    let rounds = kept.as_ref().map_or(0, |kept| kept.run.count);
+    let more = if rounds > FEW { (ROUNDS / rounds).min(MORE) } else { 0 };
     let asked = Asked { sheet: &sheet, reading: &reading, kept: kept.as_ref() };
+    let numbers = numbers(&mut rng, &asked, more as usize);
     compare(library, &mut rng, &asked, &numbers, counts)
-}
-
-fn more(rounds: u32) -> usize {
-    if rounds > FEW { (ROUNDS / rounds).min(MORE) as usize } else { 0 }
 }
 
 /// Asks at each of these numbers, in their order, with memory of any length that is enough, and at some of them with

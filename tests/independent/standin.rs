@@ -23,24 +23,28 @@ mod sections;
 
 use std::slice::{from_raw_parts, from_raw_parts_mut};
 
-/// The fault of this list that the environment names, if any.
-fn fault<T: Copy>(faults: &[(&str, T)]) -> Option<T> {
+/// The fault of these that the environment names, if any.
+fn fault<T>(faults: fn() -> Vec<(&'static str, T)>) -> Option<T> {
     let name = std::env::var("FAULT").ok()?;
-    let known = libraries().iter().any(|fault| fault.0 == name);
-    assert!(known || leaps::COUNT_FAULTS.iter().any(|fault| fault.0 == name), "FAULT is no fault of ours");
-    faults.iter().find(|fault| fault.0 == name).map(|fault| fault.1)
+    let known = libraries().iter().any(|fault| fault.0 == name) || counters().iter().any(|fault| fault.0 == name);
+    assert!(known, "FAULT is no fault of ours");
+    faults().into_iter().find(|fault| fault.0 == name).map(|fault| fault.1)
 }
 
 fn libraries() -> Vec<(&'static str, library::Library)> {
     [&faults::FAULTS[..], &heavy::faults(), &early::faults(), &early::LONG, &early::RINGS].concat()
 }
 
+fn counters() -> Vec<(&'static str, library::Tally)> {
+    leaps::COUNT_FAULTS.to_vec()
+}
+
 fn chosen() -> library::Library {
-    fault(&libraries()).unwrap_or(library::LIBRARY)
+    fault(libraries).unwrap_or(library::LIBRARY)
 }
 
 fn chosen_tally() -> library::Tally {
-    fault(&leaps::COUNT_FAULTS).unwrap_or(library::TALLY)
+    fault(counters).unwrap_or(library::TALLY)
 }
 
 /// # Safety

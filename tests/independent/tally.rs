@@ -199,11 +199,11 @@ fn solved(library: &Library, sheet: &[u8], reading: &Result<Net, Refusal>, kept:
 /// The run stopped at many numbers of rounds. Gives how many of them are fewer than it takes.
 fn stopped(library: &Library, asked: &Asked, turns: u64) -> Result<u64, String> {
     let mut rng = Rng::new(asked.sheet.length as u64);
-    let (Ok(net), Some(kept)) = (asked.reading, asked.kept) else { return Ok(0) };
-    let more = (TURNS / turns).clamp(FLOORS_LEAST, FLOORS_MOST);
-    let numbers = floors::numbers(&mut rng, net, kept.run.count, more as usize);
+    let more = (TURNS / turns.max(1)).clamp(FLOORS_LEAST, FLOORS_MOST);
+    let numbers = floors::numbers(&mut rng, asked, more as usize);
     floors::compare(library, &mut rng, asked, &numbers, &mut Counts::new())?;
-    Ok(numbers.iter().filter(|&&number| 0 < number && number < kept.run.count).count() as u64)
+    let rounds = asked.kept.map_or(0, |kept| kept.run.count);
+    Ok(numbers.iter().filter(|&&number| 0 < number && number < rounds).count() as u64)
 }
 
 fn words_of(answer: u64) -> String {
