@@ -5,7 +5,7 @@
 //! the last rounds repeat those of the rounds before them, a period further on each table is that of a period before with each cell moved on
 //! by its rise in a period. This stays so as long as no bound of a cell gets above the cell moved on, as one that rises faster may, and one
 //! of its bounds keeps it up, as one that a signal holds up may not. Both are asked of each round of the period, and the answer is a number
-//! of periods, since everything moves along lines.
+//! of periods, since everything moves along lines. A run that is to be stopped passes over no more rounds than are left.
 
 use crate::library::own;
 use crate::library::Tally;
