@@ -1,18 +1,22 @@
 -- Lists, one bound longer in each scenario in which a label holds. Assumes nothing.
 use mathlib.Core.Path.{◌≡◌, ◌∙◌}
 use mathlib.Core.Logic.{inl, inr}
-use mathlib.Core.List.{List, ◌++◌}
+use mathlib.Core.Bool.{Bool, true, false, cond}
+use mathlib.Core.List.{List, [], ◌∷◌, ◌++◌}
 use Prim.Native.Nat.{ℕ, ◌+◌, ◌-◌, ◌≤◌, ◌<◌}
 use native.Mathlib.Omega.{arith}
 use lib.ListN.{length, take, drop, replicate, length-append, length-drop, get_or-append, get_or-replicate}
 use lib.ListN.{get_or-eq_default}
 use lib.Seq.{get_or-take, get_or-drop, length-take-le}
+use Rattle.std.specs.List.{All}
 use Rattle.std.proofs.lemmas.List.{get_or-append_right}
+use Rattle.std.proofs.lemmas.List.Elements.{All-push}
 use Rattle.prelude.proofs.Tests.{lt_or_ge}
+use Rattle.network.specs.Scenario.{satisfies}
 use Rattle.network.specs.declared.Label.{Label}
 use Rattle.bounds.specs.declared.bound.Bound.{Bound}
 use Rattle.bounds.specs.declared.list.BoundList.{BoundList}
-use Rattle.bounds.specs.Listed.{none, case, Added}
+use Rattle.bounds.specs.Listed.{none, case, in_case, EndsAmong, AllEndsAmong, Added}
 
 -- lists that hold nothing yet
 pub empty_lists : (l : BoundList) → l.count ≡ 0 → (s : ℕ) → (case (replicate 16 l) s).count ≡ 0
@@ -44,3 +48,16 @@ added_part {ℓ} {b} {lists} {part} {k} {s} A h l =
             | inr m ↦ rw (behind r m) (omega arith)
           ];
     }
+
+-- one bound more, whose ends are among the same events as all others'
+pub added-ends : {n : ℕ} {ℓ : Label} {b : Bound} {lists lists' : List BoundList} {k : ℕ} → Added ℓ b lists lists' k
+    → EndsAmong n b → AllEndsAmong n lists → AllEndsAmong n lists'
+added-ends {n} {ℓ} {b} {lists} A new all s =
+    elim (lt_or_ge s _) [
+      | inl m ↦ rw (A.adds s m) (either_way (satisfies s ℓ))
+      | inr m ↦ rw (A.later s m) (all s)
+    ]
+  where
+    either_way : (t : Bool) → All (EndsAmong n) (cond t (in_case lists s ++ b ∷ []) (in_case lists s))
+    either_way true = All-push (EndsAmong n) (in_case lists s) b (all s) new
+    either_way false = all s

@@ -1,5 +1,6 @@
 -- Constraints as lists of difference bounds.
 use Rattle.std.specs.Prelude.{◌≡◌, cond, List, [], ◌∷◌, ◌++◌, ℕ, ◌+◌, ◌≤◌, ◌<◌, max, eqb, length, get_or, take}
+use Rattle.std.specs.List.{All}
 use Rattle.std.proofs.Common.{lit≤}
 use Rattle.network.specs.Limits as L
 use Rattle.network.specs.Scenario.{satisfies}
@@ -54,6 +55,15 @@ case lists s = get_or lists s none
 
 abbrev pub in_case : List BoundList → ℕ → List Bound
 in_case lists s = listed (case lists s)
+
+-- the bound's ends are among the first n events
+pub record EndsAmong (n : ℕ) (b : Bound) : Type 0 where
+  pub target_in : b.target < n
+  pub source_in : b.source < n
+
+-- so are those of each bound that is listed
+abbrev pub AllEndsAmong : ℕ → List BoundList → Type 0
+AllEndsAmong n lists = (s : ℕ) → All (EndsAmong n) (in_case lists s)
 
 -- each list has at most m bounds
 abbrev pub NoLonger : ℕ → List BoundList → Type 0

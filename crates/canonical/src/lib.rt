@@ -4,6 +4,7 @@
 
 ghost use Rattle.std.specs.Prelude.{◌≡◌, [], ◌∷◌, map, ◌+◌, ◌≤◌, ◌<◌, length};
 ghost use Rattle.prelude.specs.Gather.{ahead};
+ghost use Rattle.counted.specs.Values.{values};
 ghost use Rattle.text.specs.Lines.{comma, line};
 ghost use Rattle.page.specs.Pushed.{Pushed};
 ghost use Rattle.page.specs.HandedOut.{HandedOut};
@@ -131,7 +132,7 @@ fn push_rule(page: &mut Page<LONGEST>, accepted: &Accepted, upper: &Constraint)
 
 // The upper bounds that remain.
 fn push_rules(page: &mut Page<LONGEST>, accepted: &Accepted, remaining: &UpperBounds)
-    requires { (remaining.now ≡ remaining_of accepted.now.formed.network)
+    requires { (values remaining.now ≡ remaining_of accepted.now.formed.network)
         × (length page.old + most_rules ≤ most_form) }
     ensures { Pushed most_rules page.old (section "rules" (map rule_line
         (map (as_rule accepted.now.sheet.now accepted.now.formed.network) (remaining_of accepted.now.formed.network))))

@@ -1,8 +1,9 @@
 // How periods are guessed. A guess is tested before it is used, so nothing is promised of it but that its numbers are
-// small; what is written here decides how soon and how often rounds are passed over, and nothing else.
+// small and that the cell it watches is one of a table's; what is written here decides how soon and how often rounds
+// are passed over, and nothing else.
 #![tactic(auto)]
 
-ghost use Rattle.std.specs.Prelude.{◌≡◌, ◌≤◌, length};
+ghost use Rattle.std.specs.Prelude.{◌≡◌, ◌-◌, ◌≤◌, ◌<◌, length};
 ghost use Rattle.network.specs.Limits as L;
 
 use network::Network;
@@ -37,7 +38,7 @@ pub enum Next {
 
 // A round that raises as the marked one did ends a period. From turn `from` on a round is marked, by its rises, and
 // another after `window` rounds in which none was alike.
-#[derive(Drop)]
+#[derive(Clone, Copy)]
 pub struct Watch {
     from: u32,
     window: u32,
@@ -150,11 +151,19 @@ struct Climb {
     start: u32,
 }
 
+// A cell of a table, by its place. (A struct of its own, since a table that stands beside a fact, as `since` would in
+// `Pace`, can't be lent.)
+#[derive(Clone, Copy)]
+struct Cell {
+    place: usize,
+    pub ghost in_table: { place < L.cells },
+}
+
 // The pace of the fastest times: the cell whose time is the latest is watched until it has risen as often as is
 // wanted, or until the turn `until`, when another is chosen. Its first rise made the table `since`.
-#[derive(Drop)]
+#[derive(Clone, Copy)]
 pub struct Pace {
-    cell: usize,
+    cell: Cell,
     want: u32,
     until: u32,
     climb: Option<Climb>,
@@ -165,7 +174,7 @@ impl Pace {
     // Event 0 does not rise, so nothing is told before another cell is chosen.
     pub fn new() -> Self {
         Pace {
-            cell: 0,
+            cell: Cell { place: 0 },
             want: 16,
             until: 1024,
             climb: None,
@@ -180,12 +189,13 @@ impl Pace {
             self.choose(turn);
             return None;
         }
-        if turn.after.get(self.cell) <= turn.before.get(self.cell) {
+        let place = self.cell.place;
+        if turn.after.get(place) <= turn.before.get(place) {
             return None;
         }
         match self.climb {
             None => {
-                self.since[..turn.after.len()].copy_from_slice(turn.after);
+                moves::copy(turn.after, &mut self.since);
                 self.climb = Some(Climb {
                     rises: 1,
                     start: turn.number,
@@ -214,7 +224,9 @@ impl Pace {
 
     // Chooses the latest cell.
     fn choose(&mut self, turn: &Turn<'_>) {
-        self.cell = latest(turn.after);
+        self.cell = Cell {
+            place: latest(turn.after),
+        };
         self.until = turn.number.wrapping_add(turn.number);
         self.climb = None;
     }
@@ -222,7 +234,9 @@ impl Pace {
 
 // Where the latest time is; the first place, if there are several. The table of a sheet has a cell, so 0 is never the
 // answer of none.
-fn latest(t: &[u16]) -> usize {
+fn latest(t: &[u16]) -> usize
+    ensures { result ≤ length t.now - 1 }
+{
     let places = t.iter().enumerate().rev();
     places
         .max_by_key(|(_, time)| **time)

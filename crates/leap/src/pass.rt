@@ -11,6 +11,7 @@ ghost use Rattle.leap.specs.Tables.{Advanced};
 use crate::test::{self, Guess};
 use guess::{Tries, Turn};
 use moves::Part;
+use network::Network;
 use rounds::{Compiled, Effect};
 use rows::Table;
 
@@ -25,6 +26,15 @@ pub struct Stretch<'a, 'b> {
     pub rounds: u32,
     pub ghost started: { Times compiled.now.frame.network base },
     pub ghost led: { Advanced compiled.now.frame.network rounds base reached.now },
+}
+
+// The table b in the place of a. It is not inlined: else the compiler makes one copy of this one and of the next one in
+// `keep`, and that by C's `memmove` (`counted::overwrite` says why not).
+#[inline(never)]
+fn replace(a: &mut Table, b: &Table)
+    ensures { a.new ≡ b.now }
+{
+    counted::overwrite(a, b);
 }
 
 impl<'a, 'b> Stretch<'a, 'b> {
@@ -89,7 +99,9 @@ impl<'a, 'b> Stretch<'a, 'b> {
         ensures { (self.new.compiled.now ≡ self.old.compiled.now) × (self.new.base ≡ self.old.reached.now)
             × (self.new.reached.now ≡ self.old.reached.now) × (self.new.rounds ≡ 0) }
     {
-        self.base = *self.reached;
+        let mut base = [0; Network::CELLS];
+        replace(&mut base, self.reached);
+        self.base = base;
         self.rounds = 0;
     }
 

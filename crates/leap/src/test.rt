@@ -34,7 +34,9 @@ pub fn advance(compiled: &Compiled, from: &Table, p: u32) -> Option<Table>
             Effect::Rises => std::mem::swap(&mut here, &mut next),
         }
     }
-    Some(*here)
+    let mut made = [0; Network::CELLS];
+    counted::overwrite(&mut made, here);
+    Some(made)
 }
 
 // The guess that p rounds add the rises d to the table t, and j times again.

@@ -1,5 +1,7 @@
 // A line of each section behind its heading: by its fields, and at the start of what remains of the sheet.
-ghost use Rattle.std.specs.Prelude.{◌≡◌, ◌&&◌};
+ghost use Rattle.std.specs.Prelude.{◌≡◌, ◌&&◌, ◌<◌, ltb};
+ghost use Rattle.network.specs.Limits as L;
+ghost use Rattle.network.specs.Build.{reaction_stated};
 ghost use Rattle.names.specs.Names.{is_name_lem, is_label_lem, label_of};
 ghost use Rattle.names.specs.Defined.{mask_of};
 ghost use Rattle.line.specs.Tests.{letters_tests};
@@ -116,15 +118,23 @@ fn rule_fields(line: &[u8], defined: &Defined) -> Result<Entry, Cause>
     }))
 }
 
+// A line has already said after how many minutes the signal is trusted.
+fn is_stated(network: &Network, signal: usize) -> bool
+    requires { signal < L.signals }
+    ensures { result ≡ ltb 0 (reaction_stated network.now signal) }
+{
+    network.reactions[signal] != 0
+}
+
 // `letter,minutes`. A signal that is not defined has no line, so that its line is asked for once it is found.
 fn reaction_fields(line: &[u8], defined: &Defined) -> Result<Entry, Cause>
     ensures { result ≡ entry_by line.now Reactions defined.now.sheet.now defined.now.network.now }
 {
     let fields = Fields::<2>::of(line).ok_or(Cause::WrongFields)?;
-    let minutes = field::count_of(fields.at(1), Network::FASTEST, Network::SLOWEST)?;
+    let minutes = field::count_of(fields.at(1), u32::from(Network::FASTEST), Network::SLOWEST)?;
     let letter = token::one_letter(fields.at(0)).ok_or(Cause::IllFormedName)?;
     let signal = defined.place_of(letter).ok_or(Cause::Undefined)?;
-    if defined.network.reactions[signal] != 0 {
+    if is_stated(defined.network, signal) {
         return Err(Cause::Duplicate);
     }
     Ok(Entry::Reaction { signal, minutes })

@@ -49,13 +49,14 @@ pub(crate) fn limit_of(f: &[u8]) -> Result<i32, Cause>
     }
 }
 
-// The count of a section, from lo to hi. (It fits 16 bits, as hi does; `From` doesn't narrow.)
-pub(crate) fn count_of(f: &[u8], lo: u16, hi: u16) -> Result<u16, Cause>
+// The count of a section, from lo to hi; a lo over 65,535 refuses each. (It fits 16 bits, as hi does; `From` doesn't
+// narrow.)
+pub(crate) fn count_of(f: &[u8], lo: u32, hi: u16) -> Result<u16, Cause>
     ensures { result ≡ passing (count_tests lo hi f.now) (magnitude f.now) }
 {
     let number = text::read_number(f, hi).ok_or(Cause::IllFormedNumber)?;
     match number {
-        Number::Plus(v) if u32::from(lo) <= v && v <= u32::from(hi) => Ok(v as u16),
+        Number::Plus(v) if lo <= v && v <= u32::from(hi) => Ok(v as u16),
         _ => Err(Cause::OutOfRange),
     }
 }

@@ -46,7 +46,7 @@ pub struct CountLine {
 
 // The count of a section, from lo to hi, on a line with its word. (Word and limits are three parameters: a struct for
 // them would be made at each call and opened at once.)
-fn section_fields(line: &[u8], word: Word, lo: u16, hi: u16) -> Result<u16, Cause>
+fn section_fields(line: &[u8], word: Word, lo: u32, hi: u16) -> Result<u16, Cause>
     ensures { result ≡ section_by line.now (ascii (spelled word)) lo hi }
 {
     let fields = Fields::<2>::of(line).ok_or(Cause::WrongFields)?;
@@ -57,7 +57,7 @@ fn section_fields(line: &[u8], word: Word, lo: u16, hi: u16) -> Result<u16, Caus
 }
 
 // The line of a section that begins here.
-pub fn section_line(rest: &[u8], word: Word, lo: u16, hi: u16) -> Result<CountLine, Cause>
+pub fn section_line(rest: &[u8], word: Word, lo: u32, hi: u16) -> Result<CountLine, Cause>
     ensures { result ≡ section_at rest.now (ascii (spelled word)) lo hi }
 {
     let line = field::line_of(rest)?;

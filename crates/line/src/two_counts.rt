@@ -44,8 +44,8 @@ fn two_counts_fields(line: &[u8], first: Range, second: Range) -> Result<Counts,
 {
     let fields = Fields::<2>::of(line).ok_or(Cause::WrongFields)?;
     both(
-        field::count_of(fields.at(0), first.least, first.most),
-        field::count_of(fields.at(1), second.least, second.most),
+        field::count_of(fields.at(0), u32::from(first.least), first.most),
+        field::count_of(fields.at(1), u32::from(second.least), second.most),
     )
 }
 

@@ -47,12 +47,11 @@ fn mark_of(v: usize) -> u8
     if v % 2 == 1 { b'T' } else { b'F' }
 }
 
-// The truths of the propositions in scenario s, whose binary digits they are.
-pub fn push_truths<const N: usize>(page: &mut Page<N>, formed: &Formed, s: usize)
-    requires { length page.old + L.signals ≤ N }
-    ensures { Pushed L.signals page.old (scenario_text formed.now.network.signals s) page.new }
+// The truths of so many propositions in scenario s, whose binary digits they are.
+pub fn push_truths<const N: usize>(page: &mut Page<N>, s: usize, signals: usize)
+    requires { (signals ≤ L.signals) × (length page.old + L.signals ≤ N) }
+    ensures { Pushed L.signals page.old (scenario_text signals s) page.new }
 {
-    let signals = formed.network.signals;
     if signals == 0 {
         page.push(b'-');
         return;
@@ -91,7 +90,7 @@ fn push_line<const N: usize>(page: &mut Page<N>, formed: &Formed, s: usize, row:
     requires { (length row.now ≤ L.events) × (length page.old + most_line ≤ N) }
     ensures { Pushed most_line page.old (line_of formed.now.network.signals s row.now) page.new }
 {
-    push_truths(page, formed, s);
+    push_truths(page, s, formed.network.signals);
     push_times(page, row);
 }
 

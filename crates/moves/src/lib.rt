@@ -35,7 +35,7 @@ pub fn copy(b: &[u16], a: &mut Table)
     requires { length b.now ≤ L.cells }
     ensures { Wrote a.old a.new 0 (length b.now) (λ i. get_or b.now i 0) }
 {
-    a[..b.len()].copy_from_slice(b);
+    counted::overwrite(&mut a[..b.len()], b);
 }
 
 // The time t moved on j times by e.

@@ -1,10 +1,18 @@
 // What a table, which is a strategy, tells: the time of an event, and from when on a proposition is known.
-ghost use Rattle.std.specs.Prelude.{◌≡◌, ◌<◌, length};
+ghost use Rattle.std.specs.Prelude.{◌≡◌, ◌+◌, ◌*◌, ◌<◌, length};
 ghost use Rattle.network.specs.Build.{scenarios, cells};
-ghost use Rattle.network.specs.Strategy.{time, given_from, reaction_of_lem};
+ghost use Rattle.network.specs.Strategy.{time, known_after_lem, given_from, reaction_of_lem};
 
 use super::Network;
 use super::formed::Formed;
+
+// The time of event u in scenario s, in a table for so many events.
+pub fn time_of(table: &[u16], events: usize, s: usize, u: usize) -> u16
+    requires { s * events + u < length table.now }
+    ensures { result ≡ time events table.now s u }
+{
+    table[s * events + u]
+}
 
 // The reaction of a proposition, by what its line states: 0, where it has none, counts as 1.
 #[tactic(auto, unfolding(crate::specs::Strategy::reaction_of_lem))]
@@ -12,6 +20,14 @@ pub fn reaction_of(stated: u16) -> u16
     ensures { result ≡ reaction_of_lem stated }
 {
     stated.max(Network::FASTEST)
+}
+
+// From when on a proposition is known in s, by its observation event and the reaction that its line states.
+pub fn known_after(table: &[u16], events: usize, s: usize, observation: usize, stated: u16) -> u32
+    requires { s * events + observation < length table.now }
+    ensures { result ≡ known_after_lem events table.now s observation (reaction_of_lem stated) }
+{
+    u32::from(time_of(table, events, s, observation)) + u32::from(reaction_of(stated))
 }
 
 // A network, and a table of its size.
@@ -28,7 +44,7 @@ impl Strategy<'_> {
         requires { (s < scenarios self.now.formed.now.network) × (u < self.now.formed.now.network.events) }
         ensures { result ≡ time self.now.formed.now.network.events self.now.table.now s u }
     {
-        self.table[s * self.formed.network.events + u]
+        time_of(self.table, self.formed.network.events, s, u)
     }
 
     // From when on proposition p is known in scenario s, if it is given there.
@@ -41,7 +57,7 @@ impl Strategy<'_> {
         if !self.formed.happens(s, observation) {
             return None;
         }
-        let reaction = reaction_of(network.reactions[p]);
-        Some(u32::from(self.time(s, observation)) + u32::from(reaction))
+        let stated = network.reactions[p];
+        Some(known_after(self.table, network.events, s, observation, stated))
     }
 }

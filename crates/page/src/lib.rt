@@ -3,6 +3,7 @@
 #![tactic(auto)]
 
 ghost use Rattle.std.specs.Prelude.{◌≡◌, List, [], ◌∷◌, ℕ, ◌+◌, ◌≤◌, ◌<◌, length};
+ghost use Rattle.counted.specs.Values.{values};
 ghost use Rattle.text.specs.Lines.{comma, line};
 ghost use Rattle.text.specs.Decimal.{decimal};
 ghost use Rattle.page.specs.Pushed.{Pushed};
@@ -20,7 +21,7 @@ pub struct Page<const N: usize> {
 impl<const N: usize> Model for Page<N> {
     ghost Value = { List ℕ };
 
-    ghost view = { λ p. p.bytes };
+    ghost view = { λ p. values p.bytes };
 }
 
 impl<const N: usize> Page<N> {
@@ -95,11 +96,17 @@ impl<const N: usize> Page<N> {
     pub fn hand_out(&self, out: &mut [u8]) -> Option<usize>
         ensures { HandedOut self.now out.old out.new result }
     {
-        let text = self.text();
-        if out.len() < text.len() {
-            return None;
-        }
-        out[..text.len()].copy_from_slice(text);
-        Some(text.len())
+        hand_out(self.text(), out)
     }
+}
+
+// A text into the front of lent memory: how many bytes that were, or None where the memory is too short for them.
+pub fn hand_out(text: &[u8], out: &mut [u8]) -> Option<usize>
+    ensures { HandedOut text.now out.old out.new result }
+{
+    if out.len() < text.len() {
+        return None;
+    }
+    counted::overwrite(&mut out[..text.len()], text);
+    Some(text.len())
 }

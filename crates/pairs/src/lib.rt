@@ -4,6 +4,7 @@
 #![tactic(auto)]
 
 ghost use Rattle.std.specs.Prelude.{◌≡◌, ◌++◌, ◌*◌, ◌≤◌, length, drop};
+ghost use Rattle.counted.specs.Values.{values};
 ghost use Rattle.pairs.specs.Pairs.{bytes_of, table_of_lem};
 
 use counted::Counted;
@@ -11,7 +12,7 @@ use counted::Counted;
 // The minutes of a table that is handed in as bytes, if there are at most N. Bytes that leave half a minute over, or
 // are more, have none: a sheet's table has at least one, so that such a table is as one of another length.
 pub fn table_of<const N: usize>(bytes: &[u8]) -> Counted<u16, N>
-    ensures { result ≡ table_of_lem N bytes.now }
+    ensures { values result ≡ table_of_lem N bytes.now }
 {
     let mut table = Counted::new([0; N]);
     if bytes.len() % 2 == 0 && bytes.len() / 2 <= N {

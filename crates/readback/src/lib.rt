@@ -65,7 +65,7 @@ fn is_mark(f: &[u8], s: usize, formed: &Formed) -> bool
     ensures { result ≡ same f.now (scenario_text formed.now.network.signals s) }
 {
     let mut mark = Page::<MARK>::new();
-    listing::push_truths(&mut mark, formed, s);
+    listing::push_truths(&mut mark, s, formed.network.signals);
     f == mark.text()
 }
 
@@ -184,7 +184,7 @@ impl<'a> Rows<'a> {
         if table.len() < cells {
             return Err(Unread::TooShort);
         }
-        table[..cells].copy_from_slice(&times[..cells]);
+        counted::overwrite(&mut table[..cells], &times[..cells]);
         Ok(cells)
     }
 }

@@ -1,5 +1,5 @@
 -- What a program does, from what it reads to what it prints.
-use Rattle.std.specs.Prelude.{◌⊎◌, List, ℕ, suc, Option, Result, OnErr}
+use Rattle.std.specs.Prelude.{◌≡◌, ◌⊎◌, List, ℕ, suc, take, Option, Result, OnErr}
 use Rattle.std.specs.Io.KnownBytes.{Keeps}
 use Rattle.sheet.specs.Reading.{longest}
 use Rattle.calls.specs.Values.{OrRefusal}
@@ -14,7 +14,11 @@ left answer memory = record { answer = answer; memory = memory }
 abbrev pub IsRead : Option (List ℕ) → Option (List ℕ) → Type 0
 IsRead old new = GivesFirst (suc longest) old new
 
--- where the program answers with an error, nothing was written, or all was read
+-- as far as a program reads, these are the same
+abbrev pub BeginAlike : List ℕ → List ℕ → Type 0
+BeginAlike a b = take (suc longest) a ≡ take (suc longest) b
+
+-- where the program answers with an error, nothing was written, or what it reads was read
 abbrev pub ReadsFirst : {E : Type 0} → Option (List ℕ) → Option (List ℕ) → Result (Unit {0}) E → Type 0 → Type 0
 ReadsFirst old new r read = OnErr r (Keeps old new ⊎ read)
 

@@ -1,8 +1,9 @@
 // The programs, each from what it reads to what it prints. A program's `main` says only where that comes from and goes
-// to. A read or a write that fails ends a program, and its error is handed on.
+// to; that of `judge` makes the two calls of which `judge` consists, and opens the listing between them. A read or a
+// write that fails ends a program, and its error is handed on.
 #![tactic(auto)]
 
-ghost use Rattle.std.specs.Prelude.{◌≤◌, IfSome, length, replicate};
+ghost use Rattle.std.specs.Prelude.{◌≤◌, List, ℕ, IfSome, length, replicate};
 ghost use Rattle.calls.specs.Values.{number_values, turned_away};
 ghost use Rattle.calls.specs.Bench.{judgement_values};
 ghost use Rattle.listing.specs.Most.{most_listing};
@@ -10,7 +11,7 @@ ghost use Rattle.calls.specs.Table.{refused_text, or_refused, verdict_text, list
 ghost use Rattle.calls.specs.Table.{table_text, form_text, converted_text, heaviest_text, judge_text};
 ghost use Rattle.calls.specs.Printing.{PrintsTable, PrintsForm, PrintsConverted, PrintsRing, PrintsVerdict};
 ghost use Rattle.files.specs.Whole.{opened_remaining, Prints};
-ghost use Rattle.report.specs.Run.{left, IsRead, ReadsFirst, PrintsWhat};
+ghost use Rattle.report.specs.Run.{left, IsRead, BeginAlike, ReadsFirst, PrintsWhat};
 
 mod print;
 
@@ -20,7 +21,7 @@ use std::io;
 use std::io::{Read, Write};
 
 // One byte more than the longest sheet or listing shows that one is too long.
-const SHEET_ROOM: usize = opening::SHEET_BYTES + 1;
+pub const SHEET_ROOM: usize = opening::SHEET_BYTES + 1;
 
 const LISTING_ROOM: usize = opening::PRINTED_BYTES + 1;
 
@@ -172,8 +173,29 @@ pub fn ring<R: Read, W: Write>(input: &mut R, output: &mut W) -> io::Result<()>
     print_ring(output, &line[..n])
 }
 
+// Reads a listing and prints the verdict on its table, or `refused N line L`, for each sheet that begins as these bytes
+// do, which were read of it. A file that can't be opened counts as empty.
+pub fn judge_listing<L: Read, W: Write>(
+    sheet: &[u8],
+    listing_file: &mut io::Result<L>,
+    output: &mut W,
+) -> io::Result<()>
+    ensures text { (whole : List ℕ) → BeginAlike sheet.now whole
+        → IfSome (opened_remaining L.remaining listing_file.old) (λ printed.
+        Prints (W.contents output.old) (W.contents output.new) result (judge_text whole printed)) }
+    ensures means { (whole : List ℕ) → BeginAlike sheet.now whole
+        → IfSome (opened_remaining L.remaining listing_file.old) (λ printed.
+        PrintsWhat (PrintsVerdict whole printed) (W.contents output.old) (W.contents output.new) result) }
+    ensures order { ReadsFirst (W.contents output.old) (W.contents output.new) result
+        (IsRead (opened_remaining L.remaining listing_file.old) (opened_remaining L.remaining listing_file.new)) }
+{
+    let mut printed = [0u8; LISTING_ROOM];
+    let k = files::read_opened(listing_file, &mut printed)?;
+    print_judgement(output, sheet, &printed[..k])
+}
+
 // Reads a sheet and a listing, and prints the verdict on the table of the listing, or `refused N line L`. A file that
-// can't be opened counts as empty.
+// can't be opened counts as empty. The program makes these two calls, and opens the listing between them.
 pub fn judge<S: Read, L: Read, W: Write>(
     sheet_file: &mut io::Result<S>,
     listing_file: &mut io::Result<L>,
@@ -190,8 +212,6 @@ pub fn judge<S: Read, L: Read, W: Write>(
         × IsRead (opened_remaining L.remaining listing_file.old) (opened_remaining L.remaining listing_file.new)) }
 {
     let mut sheet = [0u8; SHEET_ROOM];
-    let mut printed = [0u8; LISTING_ROOM];
     let n = files::read_opened(sheet_file, &mut sheet)?;
-    let k = files::read_opened(listing_file, &mut printed)?;
-    print_judgement(output, &sheet[..n], &printed[..k])
+    judge_listing(&sheet[..n], listing_file, output)
 }

@@ -12,7 +12,7 @@ use Rattle.network.specs.declared.Constraint.{Constraint}
 use Rattle.network.specs.declared.Network.{Network}
 use Rattle.rows.specs.Rows.{RowIn}
 use Rattle.bounds.specs.declared.list.BoundList.{BoundList}
-use Rattle.bounds.specs.Listed.{asks, in_case, NoLonger}
+use Rattle.bounds.specs.Listed.{asks, in_case, AllEndsAmong, NoLonger}
 use Rattle.rounds.specs.Propagate.{bound_by_kind, constraint_bound, constraints_bound, waits_bound}
 
 -- that event w comes no sooner than so many minutes after an observation, as a constraint
@@ -38,9 +38,10 @@ module _ (Γ : Network) where
       max_below p (λ q. cond (mentions (event_label Γ w) q)
       (cond (happens Γ s w) (bound_by_kind Γ σ Min s u (wait w q)) 0) 0)
 
-  -- the lists have at most m bounds a case, and ask f
+  -- the lists have at most m bounds a case, between events of the sheet, and ask f
   pub record Asking (lists : List BoundList) (m : ℕ) (f : List ℕ → ℕ → ℕ → ℕ) : Type 0 where
     pub sized : length lists ≡ L.cases
+    pub ends : AllEndsAmong Γ.events lists
     pub short : NoLonger m lists
     pub asks_of : (σ row : List ℕ) (s u : ℕ) → s < scenarios Γ → RowIn Γ σ s row
         → asks (in_case lists s) row u - L.horizon ≡ f σ s u
@@ -54,9 +55,11 @@ module _ (Γ : Network) where
   all_ask w p σ s u =
       max (constraints_bound Γ σ s u) (max (max_below w (λ v. wait_asks σ s u v Γ.signals)) (wait_asks σ s u w p))
 
--- the lists ask what the constraints and the waits do of each event that happens, and nothing behind the events
+-- the lists have bounds between events of the sheet alone, and ask what the constraints and the waits do of each event
+-- that happens, and nothing behind the events
 pub record Compiles (Γ : Network) (lists : List BoundList) : Type 0 where
   pub sized : length lists ≡ L.cases
+  pub ends : AllEndsAmong Γ.events lists
   pub asks_of : (σ row : List ℕ) (s u : ℕ) → s < scenarios Γ → u < Γ.events → happens Γ s u ≡ true → RowIn Γ σ s row
       → asks (in_case lists s) row u - L.horizon ≡ max (constraints_bound Γ σ s u) (waits_bound Γ σ s u)
   pub beyond : (σ row : List ℕ) (s u : ℕ) → s < scenarios Γ → Γ.events ≤ u → RowIn Γ σ s row

@@ -16,7 +16,7 @@ use network::{Label, Network, times};
 // are at least 1, also where the sheet has no line; and whether an event has a label: where none has, no label is
 // looked at, for speed. The network and what is known of it stand here without a Formed around them, so that clauses
 // name the frame's network.
-#[derive(Drop)]
+#[derive(Clone, Copy)]
 pub struct Frame {
     pub network: Network,
     pub scenarios: usize,

@@ -168,7 +168,9 @@ impl Reader<'_> {
         Ok(reached)
     }
 
-    // A section that may be absent: it is there where any byte is left.
+    // A section that may be absent: it is there where any byte is left. It is inlined, since what it is given and
+    // answers with would else go through it by C's `memmove` (`counted::overwrite`).
+    #[inline(always)]
     pub(crate) fn read_optional(
         &self,
         section: Section,

@@ -97,7 +97,7 @@ pub fn run(compiled: &Compiled, a: &mut Table, budget: u32) -> Ended
                 turns,
             },
             Effect::Rests => {
-                *a = *stretch.table();
+                counted::overwrite(a, stretch.table());
                 return Ended {
                     end: End::Rests,
                     rounds,
@@ -128,7 +128,7 @@ pub fn run(compiled: &Compiled, a: &mut Table, budget: u32) -> Ended
             }
         }
     }
-    *a = *stretch.table();
+    counted::overwrite(a, stretch.table());
     Ended {
         end: End::Spent,
         rounds,

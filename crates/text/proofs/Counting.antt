@@ -1,10 +1,11 @@
--- Laws of digits that are counted off place by place. With a digit put behind the others the number made is the same
--- and no zero leads (`place_one`). With the ones behind them the digits are the number as it is written
+-- Laws of digits that are counted off place by place. A weight is taken off some times more (`off_more`). With one
+-- place more the number made is the same and no zero leads, whether the place's digit is left out or put behind the
+-- others (`place_none`, `place_one`). With the ones behind them the digits are the number as it is written
 -- (`digits_last`), since digits without a leading zero are those of their value. Assumes nothing.
 use mathlib.Core.Path.{◌≡◌, refl, sym, ◌∙◌, ap}
 use mathlib.Core.Bool.{true, not}
 use mathlib.Core.List.{List, [], ◌∷◌, ◌++◌}
-use Prim.Native.Nat.{ℕ, ◌+◌, ◌*◌, ◌≤◌, ◌<◌}
+use Prim.Native.Nat.{ℕ, ◌+◌, ◌-◌, ◌*◌, ◌≤◌, ◌<◌}
 use native.Mathlib.Nat.{add-mul, mul_assoc, mul_left_comm}
 use native.Mathlib.Omega.{arith}
 use borrow.Author.Tests.{eqb-false, ne_eqb, not-true}
@@ -20,6 +21,15 @@ use Rattle.text.specs.declared.digits.Weighed.{Weighed}
 use Rattle.text.proofs.Decimal.{decimal_digit}
 use Rattle.text.proofs.RoundTrip.{value_from-append, every_append, last-digit}
 use Rattle.text.proofs.RoundTrip.{is_natural-first, is_natural-decimal, decimal-value_from}
+
+-- k more of the weights are taken off, which are x
+pub off_more : (k x d w l v : ℕ) → x ≡ k * w → x ≤ l → d * w + l ≡ v → (d + k) * w + (l - x) ≡ v
+off_more k x d w l v t h e = omega (arith, add-mul d k w)
+
+-- no digits make nothing
+value-none : (s : List ℕ) → length s ≡ 0 → value_from 0 s ≡ 0
+value-none [] e = refl
+value-none (b ∷ s) e = absurd (omega arith)
 
 -- what a digit put behind others makes of their value, and of digits without a leading zero
 value-more : (s : List ℕ) (d : ℕ) → value_from 0 (s ++ (48 + d) ∷ []) ≡ 10 * value_from 0 s + d
@@ -54,6 +64,16 @@ made_more v d w l k e = omega (arith, add-mul (10 * v) d w, mul_assoc 10 v w, mu
 
 module _ (w : ℕ) (s : List ℕ) (above : ℕ) (c : Weighed) (are : PlacesAre (10 * w) s above)
     (off : CountedOff above w c) where
+  -- the digit is a zero, and none stands before it
+  pub place_none : c.digit ≡ 0 → length s ≡ 0 → Placed w s above s c.left
+  place_none z n =
+      let kept : 0 * w + c.left ≡ above = rw z at off.whole in
+      record {
+        are = record { leading = are.leading; rest = off.rest };
+        kept = rw (value-none s n) (made_more 0 0 w c.left above kept);
+        few = omega arith;
+      }
+
   -- the digit is put behind those above
   pub place_one : (c.digit ≡ 0 → length s ≡ 0 → ⊥) → Placed w s above (s ++ (48 + c.digit) ∷ []) c.left
   place_one n =

@@ -1,5 +1,6 @@
 // Numbers as they are written, digit by digit.
 ghost use Rattle.std.specs.Prelude.{◌≡◌, ◌*◌, ◌≤◌, ◌<◌, length};
+ghost use Rattle.counted.specs.Values.{values};
 ghost use Rattle.text.specs.Spelled.{DigitsAre};
 ghost use Rattle.text.specs.Places.{CountedOff, PlacesAre, Placed};
 
@@ -40,8 +41,10 @@ fn count_off(v: u16, weight: u16) -> Weighed
 // The place of this weight, behind those above it, which leave the number `above`: what it leaves in its turn. A zero
 // is left out where no digit stands before it.
 fn place(digits: &mut Digits, above: u16, weight: u16) -> u16
-    requires { PlacesAre (10 * weight) digits.old above × (length digits.old < 5) × (weight ≤ 10000) }
-    ensures { Placed weight digits.old above digits.new result }
+    requires { PlacesAre (10 * weight) (values digits.old) above
+        × (length (values digits.old) < 5)
+        × (weight ≤ 10000) }
+    ensures { Placed weight (values digits.old) above (values digits.new) result }
 {
     let weighed = count_off(above, weight);
     if weighed.digit != 0 || digits.len() != 0 {
@@ -52,7 +55,7 @@ fn place(digits: &mut Digits, above: u16, weight: u16) -> u16
 
 // The digits of v: ten-thousands, thousands, hundreds and tens are counted off, and the ones are left.
 pub fn spell(v: u16) -> Digits
-    ensures { DigitsAre v result }
+    ensures { DigitsAre v (values result) }
 {
     let mut digits = Digits::new([0; 5]);
     let below_ten_thousand = place(&mut digits, v, 10000);

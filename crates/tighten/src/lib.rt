@@ -4,6 +4,7 @@
 #![tactic(auto)]
 
 ghost use Rattle.std.specs.Prelude.{◌≡◌, map, ◌<◌};
+ghost use Rattle.counted.specs.Values.{values};
 ghost use Rattle.network.specs.WellFormed.{InLimits};
 ghost use Rattle.tighten.specs.Upper.{upper_of, uppers_of};
 ghost use Rattle.tighten.specs.Tightest.{remaining_of};
@@ -73,7 +74,7 @@ fn upper_of(rule: &Constraint) -> Constraint
 
 // The numbers of the upper bounds of all rules.
 fn encode_all(formed: &Formed) -> Encodings
-    ensures { result ≡ map E.encoded (uppers_of formed.now.network) }
+    ensures { values result ≡ map E.encoded (uppers_of formed.now.network) }
 {
     let network = &formed.network;
     let mut encodings = Encodings::new([0; Network::RULES]);
@@ -85,7 +86,7 @@ fn encode_all(formed: &Formed) -> Encodings
 
 // The least of these numbers that is at least the floor.
 fn least_from(encodings: &Encodings, floor: u32) -> Option<u32>
-    ensures { result ≡ E.least_of encodings.now floor }
+    ensures { result ≡ E.least_of (values encodings.now) floor }
 {
     encodings
         .as_slice()
@@ -105,7 +106,7 @@ fn floor_after(number: u32) -> u32
 
 // The upper bounds that remain, one key after the other. They fit a sheet, since they are no more than the rules.
 pub fn remaining(formed: &Formed) -> UpperBounds
-    ensures { result ≡ remaining_of formed.now.network }
+    ensures { values result ≡ remaining_of formed.now.network }
 {
     let encodings = encode_all(formed);
     let mut remaining = UpperBounds::new([Constraint::NONE; Network::RULES]);

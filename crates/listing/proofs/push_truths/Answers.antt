@@ -10,5 +10,5 @@ loop-p-preserved g c =
 
 pub returns : goal.returns
 returns g c =
-    pushed_as (scenario_text-some c.args.s c.args.formed.now.network.signals c.if-signals-eq0.false)
+    pushed_as (scenario_text-some c.args.s c.args.signals c.if-signals-eq0.false)
     (pushing-all c.loop-p.invariant (omega arith)) (omega arith)

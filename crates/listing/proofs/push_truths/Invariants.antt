@@ -8,4 +8,4 @@ use Rattle.listing.proofs.push_truths.Given as goal
 
 abbrev pub invariant-loop-p : goal.invariant-loop-p
 invariant-loop-p g l =
-    Pushing 1 (λ p. mark_of_lem (l.s / 2 ^ p) ∷ []) l.formed.network.signals l.initial.page l.p l.page
+    Pushing 1 (λ p. mark_of_lem (l.s / 2 ^ p) ∷ []) l.signals l.initial.page l.p l.page

@@ -1,6 +1,7 @@
 use mathlib.Core.Path.{◌≡◌, ◌∙◌, ap}
 use native.Mathlib.Omega.{arith}
 use lib.ListN.{length}
+use Rattle.counted.specs.Values.{values}
 use Rattle.prelude.proofs.Bounded.{length-tabulate}
 use Rattle.pairs.specs.Pairs.{pair_at}
 use Rattle.pairs.proofs.Packing.{table_step}
@@ -17,4 +18,4 @@ loop-i-preserved g c =
     let bytes = c.args.bytes.now in
     let minute = c.from_le_bytes.result in
     let is : minute ≡ pair_at bytes here.i = omega (arith, c.from_le_bytes.ensures) in
-    c.push.ensures ∙ table_step bytes here.table here.i minute here.invariant is
+    c.push.ensures ∙ table_step bytes (values here.table) here.i minute here.invariant is

@@ -29,7 +29,7 @@ pub returns-in-Rests : goal.returns-in-Rests
 returns-in-Rests c =
     let here = c.loop-rounds.invariant in
     let led = c.loop-rounds.stretch.led in
-    rw (c.table.ensures, c.in-Rests.ensures.3) (
+    rw (c.overwrite.ensures, c.table.ensures, c.in-Rests.ensures.3) (
       led.times.sized,
       ended_resting (all_there here.3 here.4 led) _ _ c.loop-rounds-test.true (rw here.3 at c.in-Rests.ensures.4),
     )
@@ -70,7 +70,7 @@ pub returns : goal.returns
 returns c =
     let here = c.loop-rounds.invariant in
     let led = c.loop-rounds.stretch.led in
-    rw c.table-2.ensures (
+    rw (c.overwrite-2.ensures, c.table-2.ensures) (
       led.times.sized,
       ended_spent (all_there here.3 here.4 led) _ _ (omega (arith, here.0, c.loop-rounds-test.false)),
     )

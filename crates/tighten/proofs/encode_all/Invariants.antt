@@ -2,6 +2,7 @@
 -- nothing.
 use mathlib.Core.Path.{◌≡◌}
 use mathlib.Core.List.{map}
+use Rattle.counted.specs.Values.{values}
 use Rattle.prelude.specs.Bounded.{tabulate}
 use Rattle.network.specs.Build.{constraint}
 use Rattle.tighten.specs.Upper.{upper_of}
@@ -10,4 +11,4 @@ use Rattle.tighten.proofs.encode_all.Given as goal
 
 abbrev pub invariant-loop-rule : goal.invariant-loop-rule
 invariant-loop-rule l =
-    l.encodings ≡ map encoded (tabulate l.rule-index (λ i. upper_of (constraint l.formed.network i)))
+    values l.encodings ≡ map encoded (tabulate l.rule-index (λ i. upper_of (constraint l.formed.network i)))

@@ -2,6 +2,7 @@ use mathlib.Core.Path.{ap}
 use mathlib.Core.List.{List, [], ◌∷◌}
 use native.Mathlib.Omega.{arith}
 use lib.ListN.{length, length-append}
+use Rattle.counted.specs.Values.{values}
 use Rattle.network.specs.declared.Constraint.{Constraint}
 use Rattle.tighten.specs.Upper.{uppers_of}
 use Rattle.tighten.proofs.Rules.{length-uppers_of}
@@ -38,7 +39,7 @@ loop-least-smaller c =
       arith,
       few,
       ap (λ (l : List Constraint). length l) c.push.ensures,
-      length-append c.loop-least.remaining (c.decode.result ∷ []),
+      length-append (values c.loop-least.remaining) (c.decode.result ∷ []),
     )
 
 pub loop-least-preserved : goal.loop-least-preserved

@@ -5,6 +5,7 @@ use mathlib.Core.Path.{◌≡◌}
 use mathlib.Core.List.{map}
 use Prim.Native.Nat.{◌-◌}
 use lib.ListN.{length}
+use Rattle.counted.specs.Values.{values}
 use Rattle.tighten.specs.Upper.{uppers_of}
 use Rattle.tighten.specs.Encoding.{encoded}
 use Rattle.tighten.proofs.Collected.{Collected}
@@ -13,7 +14,7 @@ use Rattle.tighten.proofs.remaining.Given as goal
 abbrev pub invariant-loop-least : goal.invariant-loop-least
 invariant-loop-least l =
     let xs = uppers_of l.formed.network in
-    (l.encodings ≡ map encoded xs) × Collected xs l.remaining l.floor
+    (values l.encodings ≡ map encoded xs) × Collected xs (values l.remaining) l.floor
 
 abbrev pub decreases-loop-least : goal.decreases-loop-least
-decreases-loop-least l = length (uppers_of l.formed.network) - length l.remaining
+decreases-loop-least l = length (uppers_of l.formed.network) - length (values l.remaining)

@@ -4,6 +4,7 @@ use mathlib.Core.Path.{◌≡◌, sym, ◌∙◌}
 use mathlib.Core.Bool.{true}
 use mathlib.Core.Option.{none, some}
 use native.Mathlib.Omega.{arith}
+use borrow.Author.Tests.{ltb-true, ltb-false}
 use lib.ListN.{length, get_or}
 use Rattle.prelude.specs.Checks.{first_failing_lem}
 use Rattle.prelude.proofs.Options.{option_of-some, then_some_none, then_some_some}
@@ -33,7 +34,7 @@ minutes : (d : In_ok-minutes) → let f = field 1 (fields d.args.line.now) in
 minutes d =
     let f = d.at.result.now in
     let said = answer-ok (first_failing_lem (count_tests L.fastest L.slowest f)) (magnitude f) d.in_ok-minutes.minutes
-    (sym d.in_ok-minutes.ensures) in
+    (sym (rw d.from.ensures at d.in_ok-minutes.ensures)) in
     rw (d.at.ensures.is, line_is (goal.at.In_ok-minutes d).In_ok-fields) at said
 
 -- the first is the letter, and it is defined
@@ -66,7 +67,7 @@ returns-in_err-minutes c =
     let f = c.at.result.now in
     let e = c.in_err-minutes.field-0.0 in
     let why = answer-err (first_failing_lem (count_tests L.fastest L.slowest f)) (magnitude f) e
-    (sym c.in_err-minutes.ensures) in
+    (sym (rw c.from.ensures at c.in_err-minutes.ensures)) in
     exits c.from_residual-in_err-minutes.result e c.from_residual-in_err-minutes.ensures.1
     ∙ sym (rw (reaction-minutes c.args.defined.now.network.now (fields c.args.line.now) (two d) e
     (rw (c.at.ensures.is, line_is d) at why)))
@@ -91,26 +92,19 @@ returns-in_err-signal c =
     nothing.1 ∙ sym (rw (reaction-unknown Γ (fields c.args.line.now) (two d.In_ok-fields)
     (minutes d.In_ok-minutes).0 (letter d.In_ok-letter).0 (rw (letter d.In_ok-letter).1 nothing.0)))
 
-pub offset_bounds-defined-signal : goal.offset_bounds-defined-signal
-offset_bounds-defined-signal c =
+pub is_stated-requires : goal.is_stated-requires
+is_stated-requires c =
     let Γ = c.args.defined.now.network.now in
     let f = field 0 (fields c.args.line.now) in
-    let d = (goal.at.offset_bounds-defined-signal c).In_ok-signal in
+    let d = (goal.at.is_stated-requires c).In_ok-signal in
     omega (arith, signal-below Γ (get_or f 0 0) c.in_ok-signal.signal (known d), c.args.defined.now.names.few_signals)
 
-pub bounds-defined-signal : goal.bounds-defined-signal
-bounds-defined-signal c =
-    let Γ = c.args.defined.now.network.now in
-    let f = field 0 (fields c.args.line.now) in
-    let d = (goal.at.bounds-defined-signal c).In_ok-signal in
-    omega (arith, signal-below Γ (get_or f 0 0) c.in_ok-signal.signal (known d), c.args.defined.now.names.few_signals)
-
-pub returns-then-defined-signal-ne0 : goal.returns-then-defined-signal-ne0
-returns-then-defined-signal-ne0 c =
-    let d = goal.at.returns-then-defined-signal-ne0 c in
+pub returns-then-is_stated : goal.returns-then-is_stated
+returns-then-is_stated c =
+    let d = goal.at.returns-then-is_stated c in
     sym (rw (reaction-twice c.args.defined.now.network.now (fields c.args.line.now) (two d.In_ok-fields)
     (minutes d.In_ok-minutes).0 (letter d.In_ok-letter).0 c.in_ok-signal.signal (known d.In_ok-signal)
-    (omega (arith, c.if-defined-signal-ne0.true))))
+    (ltb-true 0 _ (sym c.is_stated.ensures ∙ c.if-is_stated.true))))
 
 pub returns : goal.returns
 returns c =
@@ -118,7 +112,7 @@ returns c =
     rw (
       reaction-passes c.args.defined.now.network.now (fields c.args.line.now) (two d.In_ok-fields)
           (minutes d.In_ok-minutes).0 (letter d.In_ok-letter).0 c.in_ok-signal.signal (known d.In_ok-signal)
-          (omega (arith, c.if-defined-signal-ne0.false)),
+          (ltb-false 0 _ (sym c.is_stated.ensures ∙ c.if-is_stated.false)),
       known d.In_ok-signal,
       (minutes d.In_ok-minutes).1,
     )

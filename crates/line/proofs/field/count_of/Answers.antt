@@ -24,7 +24,7 @@ returns-in-Plus c =
     let args = c.args in
     let w = count_in args.lo args.hi args.f.now c.in-Plus.v
     (read (goal.at.returns-in-Plus c).In_ok-number ∙ ap Some c.in-Plus.is)
-    (rw c.from.ensures at c.if-from-v.true) (rw c.from-then-from-v.ensures at c.if-v-from.true) in
+    c.if-lo-v.true (rw c.from.ensures at c.if-v-from.true) in
     sym (rw (w.0, w.1))
 
 pub returns-in_default : goal.returns-in_default
@@ -32,14 +32,14 @@ returns-in_default c =
     let args = c.args in
     sym (rw (count-high args.lo args.hi args.f.now c.in-Plus.v
     (read (goal.at.returns-in_default c).In_ok-number ∙ ap Some c.in-Plus.is)
-    (rw c.from-then-from-v.ensures at c.if-v-from.false)))
+    (rw c.from.ensures at c.if-v-from.false)))
 
 pub returns-in_default-2 : goal.returns-in_default-2
 returns-in_default-2 c =
     let args = c.args in
     sym (rw (count_low args.lo args.hi args.f.now c.in-Plus.v
     (read (goal.at.returns-in_default-2 c).In_ok-number ∙ ap Some c.in-Plus.is)
-    (rw c.from.ensures at c.if-from-v.false)))
+    c.if-lo-v.false))
 
 pub returns-in_default-3 : goal.returns-in_default-3
 returns-in_default-3 c =

@@ -31,6 +31,8 @@ returns c =
       ← line_is d,
       ← c.at.ensures.is,
       ← c.at-2.ensures.is,
+      ← c.from.ensures,
+      ← c.from-2.ensures,
       ← c.count_of.ensures,
       ← c.count_of-2.ensures,
     )

@@ -37,18 +37,18 @@ returns-then-table-cells c =
 pub slice_bounds-times-end : goal.slice_bounds-times-end
 slice_bounds-times-end c = inside (goal.at.slice_bounds-times-end c).After-cell_count-cells
 
-pub slice_bounds-copy_from_slice-end-3 : goal.slice_bounds-copy_from_slice-end-3
-slice_bounds-copy_from_slice-end-3 c =
-    sym (length-take-le _ _ (inside (goal.at.slice_bounds-copy_from_slice-end-3 c).After-cell_count-cells))
+pub slice_bounds-overwrite-end-3 : goal.slice_bounds-overwrite-end-3
+slice_bounds-overwrite-end-3 c =
+    sym (length-take-le _ _ (inside (goal.at.slice_bounds-overwrite-end-3 c).After-cell_count-cells))
 
-pub copy_from_slice-requires : goal.copy_from_slice-requires
-copy_from_slice-requires c =
+pub overwrite-requires : goal.overwrite-requires
+overwrite-requires c =
     length-take-le _ _ (omega (arith, c.if-table-cells.false))
-    ∙ sym (length-take-le _ _ (inside (goal.at.copy_from_slice-requires c).After-cell_count-cells))
+    ∙ sym (length-take-le _ _ (inside (goal.at.overwrite-requires c).After-cell_count-cells))
 
 pub returns : goal.returns
 returns c =
     let d = (goal.at.returns c).After-cell_count-cells in
-    rw (c.copy_from_slice.ensures.after, c.cell_count-cells.ensures)
+    rw (c.overwrite.ensures, c.cell_count-cells.ensures)
     (times-all c.read_cells.ensures _ c.in_ok-read_cells.was (room d)
     (omega (arith, c.if-table-cells.false, c.cell_count-cells.ensures)))

@@ -1,0 +1,2 @@
+-- The values of a list in fixed memory.
+pub mod Values
