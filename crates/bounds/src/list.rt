@@ -16,13 +16,14 @@ pub struct BoundList {
     pub ghost short: { count ≤ L.listed },
 }
 
-// 10,080 more than each time, so that no bound needs a sign.
-fn bias(o: &mut Row)
-    requires { Few L.horizon o.old }
-    ensures { Sixteen o.new (λ u. get_or o.old u 0 + L.horizon) }
+// 10,080 more than each time of the row into o, so that no bound needs a sign. A row that was copied first, and changed
+// in place, would be read again before its copy is done.
+fn bias(row: &Row, o: &mut Row)
+    requires { Few L.horizon row.now }
+    ensures { Sixteen o.new (λ u. get_or row.now u 0 + L.horizon) }
 {
-    for time in o.iter_mut() {
-        *time += Network::HORIZON;
+    for (u, time) in o.iter_mut().enumerate() {
+        *time = row[u] + Network::HORIZON;
     }
 }
 
@@ -88,8 +89,8 @@ impl BoundList {
         ensures { Sixteen result
             (λ u. max (get_or row.now u 0) (asks (listed self.now) row.now u - L.horizon)) }
     {
-        let mut o = *row;
-        bias(&mut o);
+        let mut o = [0; Network::EVENTS];
+        bias(row, &mut o);
         self.raise(row, &mut o);
         unbias(&mut o);
         o

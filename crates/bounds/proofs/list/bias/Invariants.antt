@@ -4,5 +4,5 @@ use lib.ListN.{get_or}
 use Rattle.rows.specs.Rows.{Wrote}
 use Rattle.bounds.proofs.list.bias.Given as goal
 
-abbrev pub invariant-loop-time : goal.invariant-loop-time
-invariant-loop-time l = Wrote l.initial.o l.o 0 l.time-index (λ k. get_or l.initial.o k 0 + 10080)
+abbrev pub invariant-loop-u : goal.invariant-loop-u
+invariant-loop-u l = Wrote l.initial.o l.o 0 l.u (λ k. get_or l.row k 0 + 10080)
