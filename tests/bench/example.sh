@@ -1,8 +1,8 @@
 #!/usr/bin/env bash
-# example.sh LIBRARY: the example in the comment of include/opening.h, taken as it stands into a program: it compiles
-# without a warning and prints what its comments say, whichever way the caller answers. And the library has no memory of
-# its own, as the header says: no symbol of its data; and of names from outside it needs memcpy and memset alone. Prints
-# one line and exits with 0, or says what differs and exits with 1.
+# example.sh LIBRARY [OTHER..]: the example in the comment of include/opening.h, taken as it stands into a program: it
+# compiles without a warning and prints what its comments say, whichever way the caller answers. And the library has no
+# memory of its own, as the header says: no symbol of its data; and of names from outside it and the others need memcpy
+# and memset alone. Prints one line and exits with 0, or says what differs and exits with 1.
 set -u
 cd "$(dirname "$0")/../.." || exit 2
 room=$(mktemp -d) || exit 2
@@ -30,6 +30,8 @@ gcc -std=c99 -O2 -Wall -Wextra -Wpedantic -Werror -Iinclude -o "$room/example" "
 nm "$1" >"$room/symbols" || fail 'no symbols'
 grep -q ' T opening_solve$' "$room/symbols" || fail 'the symbols are not those of the library'
 ! grep -E '^[0-9a-f]* [BbCDdGgSs] ' "$room/symbols" || fail 'the library has memory of its own'
-needed=$(sed -nE 's/^ +U //p' "$room/symbols" | sort -u | tr '\n' ' ')
-[ "$needed" = 'memcpy memset ' ] || fail "the library needs $needed"
+for library in "$@"; do
+  needed=$(nm "$library" | sed -nE 's/^ +U //p' | sort -u | tr '\n' ' ')
+  [ "$needed" = 'memcpy memset ' ] || fail "$library needs $needed"
+done
 echo 'example: that of opening.h compiles and prints what it says'

@@ -72,9 +72,9 @@ impl<T: Copy, const N: usize> Counted<T, N> {
     }
 }
 
-// The values of a slice over those of another, one by one. The library's `copy_from_slice` is C's `memmove` where the
-// compiler can't see that the two are apart, and so is a table assigned from behind a reference; the archives for C need
-// `memcpy` and `memset` from outside, and nothing else.
+/// The values of `from` over those of `to`, which has as many, one by one. The library's `copy_from_slice` is C's
+/// `memmove` where the compiler can't see that the two are apart, and so is a table assigned from behind a reference;
+/// the archives for C need `memcpy` and `memset` from outside, and nothing else.
 pub fn overwrite<T: Copy>(to: &mut [T], from: &[T])
     requires { length to.old ≡ length from.now }
     ensures { to.new ≡ from.now }

@@ -34,6 +34,7 @@ pub fn advance(compiled: &Compiled, from: &Table, p: u32) -> Option<Table>
             Effect::Rises => std::mem::swap(&mut here, &mut next),
         }
     }
+    // By hand, and not `Some(*here)`: `counted::overwrite` says why.
     let mut made = [0; Network::CELLS];
     counted::overwrite(&mut made, here);
     Some(made)

@@ -100,7 +100,8 @@ impl<const N: usize> Page<N> {
     }
 }
 
-// A text into the front of lent memory: how many bytes that were, or None where the memory is too short for them.
+/// A text into the front of lent memory: how many bytes that were, or None where the memory is too short for them; then
+/// it stays as it was.
 pub fn hand_out(text: &[u8], out: &mut [u8]) -> Option<usize>
     ensures { HandedOut text.now out.old out.new result }
 {

@@ -173,8 +173,8 @@ pub fn ring<R: Read, W: Write>(input: &mut R, output: &mut W) -> io::Result<()>
     print_ring(output, &line[..n])
 }
 
-// Reads a listing and prints the verdict on its table, or `refused N line L`, for each sheet that begins as these bytes
-// do, which were read of it. A file that can't be opened counts as empty.
+/// Reads a listing and prints the verdict on its table, or `refused N line L`, for each sheet that begins as these
+/// bytes do, which were read of it. A file that can't be opened counts as empty.
 pub fn judge_listing<L: Read, W: Write>(
     sheet: &[u8],
     listing_file: &mut io::Result<L>,
