@@ -89,6 +89,15 @@ module _ {E : Type 0} (before after : Option (List ℕ)) (r : Result (Unit {0}) 
       ∙ judge_first whole p)
       prints
 
+  -- so, of a sheet and a listing, both read
+  pub both_told : (had had' : Option (List ℕ)) (n n' : ℕ) (memory memory' : List ℕ)
+      → Fills (suc longest) had n memory → Fills (suc longest) had' n' memory'
+      → Prints before after r (judge_text (take n memory) (take n' memory'))
+      → IfSome had (λ s. IfSome had' (λ p. Prints before after r (judge_text s p)))
+  both_told had had' n n' memory memory' fills fills' prints =
+      of_whole had n memory fills
+      (λ s alike. listing_told (take n memory) s alike had' n' memory' fills' prints)
+
   -- and what is to be printed has its meaning
   pub meant : (text : List ℕ → List ℕ) (Means : List ℕ → List ℕ → Type 0) → ((s : List ℕ) → Means s (text s))
       → (had : Option (List ℕ)) → IfSome had (λ s. Prints before after r (text s))

@@ -9,7 +9,6 @@ use native.Mathlib.Omega.{arith}
 use lib.Dec.{eqb}
 use lib.IntN.{ℤ, pos, negsuc}
 use lib.ListN.{length, get_or}
-use Rattle.std.proofs.lemmas.List.Elements.{All-nil}
 use Rattle.network.specs.Build.{constraint, scenarios}
 use Rattle.network.specs.Scenario.{satisfies}
 use Rattle.network.specs.WellFormed.{InLimits, WellFormed, Proper}
@@ -24,9 +23,8 @@ use Rattle.rows.proofs.Gapless.{sixteen}
 use Rattle.bounds.specs.declared.bound.Bound.{Bound}
 use Rattle.bounds.specs.declared.list.BoundList.{BoundList}
 use Rattle.bounds.specs.Weight.{weight_of, lower_weight}
-use Rattle.bounds.specs.Listed.{Listable, ByKind, asking, asks, case, in_case, EndsAmong, Added}
+use Rattle.bounds.specs.Listed.{Listable, ByKind, asking, asks, case, in_case, Added}
 use Rattle.bounds.proofs.Asked.{asks-append}
-use Rattle.bounds.proofs.Listed.{added-ends}
 use Rattle.rounds.specs.Propagate.{least_from, least_to, bound_by_kind}
 use Rattle.rounds.specs.Compiled.{under, jointly, Asking, constraints_ask}
 
@@ -49,12 +47,6 @@ jointly-proper {Γ} W c p = record {
   bound = p.bound;
   label = joint-lettered Γ c p.label W.lettered;
 }
-
--- the ends of its bound are events
-by_kind-ends : {Γ : Network} (c : Constraint) → Proper Γ c → (b : Bound) (k : Kind) → ByKind k c b
-    → EndsAmong Γ.events b
-by_kind-ends c p b Max B = record { target_in = rw B.target_is p.from; source_in = rw B.source_is p.to }
-by_kind-ends c p b Min B = record { target_in = rw B.target_is p.to; source_in = rw B.source_is p.from }
 
 -- a weight adds what the definition does, for each sign, around zero and at both ends
 upper-adds : (b : ℕ) (w : ℤ) → InLimits w → b + weight_of w - 10080 ≡ least_from b w
@@ -98,7 +90,6 @@ module _ {Γ : Network} {lists : List BoundList} {m : ℕ} {f : List ℕ → ℕ
       → Asking Γ lists n g
   asking_as l e = record {
     sized = A.sized;
-    ends = A.ends;
     short = λ s. omega (arith, A.short s);
     asks_of = λ σ row s u h R. A.asks_of σ row s u h R ∙ e σ s u;
   }
@@ -110,7 +101,6 @@ module _ {Γ : Network} {lists : List BoundList} {m : ℕ} {f : List ℕ → ℕ
       (λ σ s u. max (f σ s u) (cond (satisfies s c.label) (bound_by_kind Γ σ c.kind s u c) 0))
   asking-more c p b B L = record {
     sized = L.sized ∙ A.sized;
-    ends = added-ends L (by_kind-ends c p b c.kind B) A.ends;
     short = λ s. omega (arith, A.short s, L.grows s);
     asks_of = λ σ row s u l R.
         omega (
@@ -132,7 +122,6 @@ module _ (Γ : Network) {lists : List BoundList} where
   pub listing_none : length lists ≡ 16 → ((s : ℕ) → (case lists s).count ≡ 0) → Asking Γ lists 0 (constraints_ask Γ 0)
   listing_none l h = record {
     sized = l;
-    ends = λ s. rw (h s) (All-nil (EndsAmong Γ.events));
     short = λ s. rw (h s) (omega arith);
     asks_of = λ σ row s u b R. rw (h s);
   }

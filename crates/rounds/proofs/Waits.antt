@@ -61,7 +61,6 @@ module _ {Γ : Network} (W : WellFormed Γ) {lists : List BoundList} where
   pub compiled-waits : {m : ℕ} → Asking Γ lists m (all_ask Γ Γ.events 0) → Compiles Γ lists
   compiled-waits A = record {
     sized = A.sized;
-    ends = A.ends;
     asks_of = λ σ row s u l hu e R. omega (arith, A.asks_of σ row s u l R, waits-are Γ σ s u hu e);
     beyond = λ σ row s u l b R.
         omega (arith, A.asks_of σ row s u l R, constraints-beyond W σ s u b, waits-beyond W σ s u b);
@@ -71,7 +70,6 @@ module _ {Γ : Network} (W : WellFormed Γ) {lists : List BoundList} where
       → Asking Γ lists m (constraints_ask Γ Γ.rules) → Compiles Γ lists
   compiled-unlabelled e A = record {
     sized = A.sized;
-    ends = A.ends;
     asks_of = λ σ row s u l hu here R.
         let none = unlabelled-waits Γ σ s u (λ p. rw (e u) (false_of_not-true _ (mentions-none p))) in
         omega (arith, A.asks_of σ row s u l R, none);

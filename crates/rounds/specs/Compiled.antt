@@ -38,13 +38,16 @@ module _ (Γ : Network) where
       max_below p (λ q. cond (mentions (event_label Γ w) q)
       (cond (happens Γ s w) (bound_by_kind Γ σ Min s u (wait w q)) 0) 0)
 
-  -- the lists have at most m bounds a case, between events of the sheet, and ask f
+  -- the lists have at most m bounds a case, and ask f
   pub record Asking (lists : List BoundList) (m : ℕ) (f : List ℕ → ℕ → ℕ → ℕ) : Type 0 where
     pub sized : length lists ≡ L.cases
-    pub ends : AllEndsAmong Γ.events lists
     pub short : NoLonger m lists
     pub asks_of : (σ row : List ℕ) (s u : ℕ) → s < scenarios Γ → RowIn Γ σ s row
         → asks (in_case lists s) row u - L.horizon ≡ f σ s u
+
+  -- and each bound is between events of the sheet
+  abbrev pub AskingAmong : List BoundList → ℕ → (List ℕ → ℕ → ℕ → ℕ) → Type 0
+  AskingAmong lists m f = Asking lists m f × AllEndsAmong Γ.events lists
 
   -- what the first i constraints ask
   abbrev pub constraints_ask : ℕ → List ℕ → ℕ → ℕ → ℕ
@@ -55,12 +58,14 @@ module _ (Γ : Network) where
   all_ask w p σ s u =
       max (constraints_bound Γ σ s u) (max (max_below w (λ v. wait_asks σ s u v Γ.signals)) (wait_asks σ s u w p))
 
--- the lists have bounds between events of the sheet alone, and ask what the constraints and the waits do of each event
--- that happens, and nothing behind the events
+-- the lists ask what the constraints and the waits do of each event that happens, and nothing behind the events
 pub record Compiles (Γ : Network) (lists : List BoundList) : Type 0 where
   pub sized : length lists ≡ L.cases
-  pub ends : AllEndsAmong Γ.events lists
   pub asks_of : (σ row : List ℕ) (s u : ℕ) → s < scenarios Γ → u < Γ.events → happens Γ s u ≡ true → RowIn Γ σ s row
       → asks (in_case lists s) row u - L.horizon ≡ max (constraints_bound Γ σ s u) (waits_bound Γ σ s u)
   pub beyond : (σ row : List ℕ) (s u : ℕ) → s < scenarios Γ → Γ.events ≤ u → RowIn Γ σ s row
       → asks (in_case lists s) row u - L.horizon ≡ 0
+
+-- and each bound is between events of the sheet
+abbrev pub CompilesAmong : Network → List BoundList → Type 0
+CompilesAmong Γ lists = Compiles Γ lists × AllEndsAmong Γ.events lists

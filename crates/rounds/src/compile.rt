@@ -5,7 +5,7 @@ ghost use Rattle.network.specs.Limits as L;
 ghost use Rattle.network.specs.Joint.{joint_of};
 ghost use Rattle.network.specs.WellFormed.{InLimits};
 ghost use Rattle.bounds.specs.Listed.{case};
-ghost use Rattle.rounds.specs.Compiled.{under, wait_by, Asking, constraints_ask, Compiles};
+ghost use Rattle.rounds.specs.Compiled.{under, wait_by, AskingAmong, constraints_ask, CompilesAmong};
 
 use bounds::bound::Bound;
 use bounds::lists::{self, Lists};
@@ -26,7 +26,7 @@ fn joined(c: &Constraint, from: Label, to: Label) -> Constraint
 // All constraints, each under the label that joins its own and those of its events, into lists that hold nothing yet.
 pub fn list_constraints(lists: &mut Lists, frame: &Frame)
     requires { (s : ℕ) → (case lists.old s).count ≡ 0 }
-    ensures { Asking frame.now.network lists.new L.rules
+    ensures { AskingAmong frame.now.network lists.new L.rules
         (constraints_ask frame.now.network frame.now.network.rules) }
 {
     let network = &frame.network;
@@ -51,9 +51,9 @@ fn wait_of(observation: usize, w: usize, reaction: u16, label: Label) -> Constra
 
 // The waits of all events, behind all constraints: one bound for each signal in a label.
 pub fn list_waits(lists: &mut Lists, frame: &Frame)
-    requires { Asking frame.now.network lists.old L.rules
+    requires { AskingAmong frame.now.network lists.old L.rules
         (constraints_ask frame.now.network frame.now.network.rules) }
-    ensures { Compiles frame.now.network lists.new }
+    ensures { CompilesAmong frame.now.network lists.new }
 {
     // Where no event has a label none waits.
     if !frame.labelled {

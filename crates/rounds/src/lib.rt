@@ -2,7 +2,7 @@
 // constraints and waits are first compiled into lists of difference bounds, one for each scenario.
 #![tactic(auto)]
 
-ghost use Rattle.rounds.specs.Compiled.{Compiles};
+ghost use Rattle.rounds.specs.Compiled.{CompilesAmong};
 
 use bounds::lists::Lists;
 use network::Network;
@@ -27,7 +27,7 @@ pub enum Effect {
 pub struct Compiled<'a> {
     pub frame: Frame,
     pub lists: &'a Lists,
-    pub ghost compiled: { Compiles frame.network lists.now },
+    pub ghost compiled: { CompilesAmong frame.network lists.now },
 }
 
 impl<'a> Compiled<'a> {

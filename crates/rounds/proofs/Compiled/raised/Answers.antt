@@ -40,7 +40,7 @@ by-bounds : (d : After-raised-o) → Sixteen d.raised-o.result (ruled d.args.sel
 by-bounds d =
     let e = (goal.at.After-raised-o d).Start in
     let lists = d.args.self.now.lists.now in
-    let inside : d.args.s < length lists = omega (arith, few e, d.args.self.now.compiled.sized) in
+    let inside : d.args.s < length lists = omega (arith, few e, d.args.self.now.compiled.0.sized) in
     ruled_is lists d.args.t.now d.args.s _ (get_or_default lists d.args.s d.index-self-s.result none inside)
     (row_of_lem e) d.raised-o.ensures
 
@@ -50,7 +50,7 @@ first_known-requires c =
     (times-few d, few d)
 
 pub listed : goal.listed
-listed c = omega (arith, few (goal.at.listed c).Start, c.args.self.now.compiled.sized)
+listed c = omega (arith, few (goal.at.listed c).Start, c.args.self.now.compiled.0.sized)
 
 pub bounds-self-s : goal.bounds-self-s
 bounds-self-s c = few (goal.at.bounds-self-s c).Start

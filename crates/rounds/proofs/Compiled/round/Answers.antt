@@ -54,7 +54,7 @@ pub returns-then-self-latest : goal.returns-then-self-latest
 unfolding greatest
 returns-then-self-latest c =
     let compiled = c.args.self.now in
-    ends_passing compiled.frame.formed compiled.compiled c.requires
+    ends_passing compiled.frame.formed compiled.compiled.0 c.requires
     (made (goal.at.returns-then-self-latest c).After-loop-s)
     (elim c.then-self-latest.branch [
       | then-self-latest-via-then-self-latest w ↦ inl (rw c.latest.ensures at w.if-self-latest.true)
@@ -65,7 +65,7 @@ pub returns-then-steepest-eq0 : goal.returns-then-steepest-eq0
 unfolding greatest
 returns-then-steepest-eq0 c =
     let compiled = c.args.self.now in
-    ends_resting compiled.frame.formed compiled.compiled c.requires
+    ends_resting compiled.frame.formed compiled.compiled.0 c.requires
     (made (goal.at.returns-then-steepest-eq0 c).After-loop-s) (rw c.latest.ensures at c.if-self-latest.false)
     c.if-marks-gt0.false (rw c.steepest.ensures at c.if-steepest-eq0.true)
 
@@ -73,6 +73,6 @@ pub returns : goal.returns
 unfolding greatest
 returns c =
     let compiled = c.args.self.now in
-    ends_rising compiled.frame.formed compiled.compiled c.requires (made (goal.at.returns c).After-loop-s)
+    ends_rising compiled.frame.formed compiled.compiled.0 c.requires (made (goal.at.returns c).After-loop-s)
     (rw c.latest.ensures at c.if-self-latest.false) c.if-marks-gt0.false
     (rw c.steepest.ensures at c.if-steepest-eq0.false)

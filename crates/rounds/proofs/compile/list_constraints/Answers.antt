@@ -8,11 +8,14 @@ use Rattle.network.specs.WellFormed.{Proper}
 use Rattle.bounds.specs.Listed.{Listable}
 use Rattle.rounds.specs.Compiled.{jointly}
 use Rattle.rounds.proofs.Asking.{listable, jointly-proper, asking_as, listing_none, listing-next}
+use Rattle.rounds.proofs.Among.{none-among, more-among}
 use Rattle.rounds.proofs.compile.list_constraints.Goals.{In-loop-c}
 use Rattle.rounds.proofs.compile.list_constraints.Goals as goal
 
 pub loop-c-init : goal.loop-c-init
-loop-c-init c = listing_none c.args.frame.now.network c.told-lists c.requires
+loop-c-init c =
+    let Γ = c.args.frame.now.network in
+    (listing_none Γ c.told-lists c.requires, none-among Γ.events _ c.requires)
 
 within : (d : In-loop-c) → d.loop-c.c-index < d.args.frame.now.network.rules
 within d =
@@ -44,16 +47,20 @@ pub add-requires : goal.add-requires
 add-requires c =
     let d = (goal.at.add-requires c).In-loop-c in (
       rw (c.joined-joint.ensures, rule d) (ready d).label,
-      λ s. omega (arith, c.loop-c.invariant.short s, c.args.frame.now.formed.rules, within d),
+      λ s. omega (arith, c.loop-c.invariant.0.short s, c.args.frame.now.formed.rules, within d),
     )
 
 pub loop-c-preserved : goal.loop-c-preserved
 loop-c-preserved c =
     let d = (goal.at.loop-c-preserved c).In-loop-c in
     let frame = c.args.frame.now in
-    listing-next frame.network c.loop-c.c-index c.loop-c.invariant (proper d) c.by_kind.result
-    (rw (c.joined-joint.ensures, rule d) at c.by_kind.ensures)
-    (rw (c.joined-joint.ensures, rule d, frame.scenarios_are) at c.add.ensures)
+    let here = c.loop-c.invariant in
+    let b = c.by_kind.result in
+    let is = rw (c.joined-joint.ensures, rule d) at c.by_kind.ensures in
+    let added = rw (c.joined-joint.ensures, rule d, frame.scenarios_are) at c.add.ensures in (
+      listing-next frame.network c.loop-c.c-index here.0 (proper d) b is added,
+      more-among _ (proper d) b is added here.1,
+    )
 
 pub returns : goal.returns
 returns c =
@@ -67,4 +74,4 @@ returns c =
       c.loop-c.auto,
       c.loop-c-test.false,
     ) in
-    asking_as (rw e at c.loop-c.invariant) (omega (arith, few.rules)) (λ σ s u. refl)
+    (asking_as (rw e at c.loop-c.invariant.0) (omega (arith, few.rules)) (λ σ s u. refl), c.loop-c.invariant.1)

@@ -1,8 +1,8 @@
 -- Each turn lists one constraint under its joint label. The invariant: those so far are listed, and each list has at
--- most one bound for each (`Asking`). Assumes nothing.
-use Rattle.rounds.specs.Compiled.{Asking, constraints_ask}
+-- most one bound for each (`AskingAmong`). Assumes nothing.
+use Rattle.rounds.specs.Compiled.{AskingAmong, constraints_ask}
 use Rattle.rounds.proofs.compile.list_constraints.Given as goal
 
 abbrev pub invariant-loop-c : goal.invariant-loop-c
 invariant-loop-c l =
-    Asking l.frame.network l.lists l.c-index (constraints_ask l.frame.network l.c-index)
+    AskingAmong l.frame.network l.lists l.c-index (constraints_ask l.frame.network l.c-index)

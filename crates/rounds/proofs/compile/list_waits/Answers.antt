@@ -9,6 +9,7 @@ use Rattle.rows.proofs.Framed.{sums}
 use Rattle.rounds.proofs.Asking.{listable, asking_as}
 use Rattle.rounds.proofs.Waits.{wait-proper, wait_skip, wait-next, waits_start, waits-next, compiled-waits}
 use Rattle.rounds.proofs.Waits.{compiled-unlabelled}
+use Rattle.rounds.proofs.Among.{more-among}
 use Rattle.rounds.proofs.compile.list_waits.Goals.{In-loop-w, then-mentions, else-mentions}
 use Rattle.rounds.proofs.compile.list_waits.Goals as goal
 
@@ -31,10 +32,10 @@ own d =
 pub returns-then-not-frame : goal.returns-then-not-frame
 returns-then-not-frame c =
     let frame = c.args.frame.now in
-    compiled-unlabelled frame.formed (frame.unlabelled c.if-not-frame.true) c.requires
+    (compiled-unlabelled frame.formed (frame.unlabelled c.if-not-frame.true) c.requires.0, c.requires.1)
 
 pub loop-w-init : goal.loop-w-init
-loop-w-init c = waits_start c.requires
+loop-w-init c = (waits_start c.requires.0, c.requires.1)
 
 pub mentions-requires : goal.mentions-requires
 mentions-requires c = omega (arith, c.loop-p-test.true, c.args.frame.now.formed.signals)
@@ -56,7 +57,7 @@ add-requires c =
       rw (own d) (sums frame c.loop-w.w),
       λ s. omega (
         arith,
-        c.loop-p.invariant.short s,
+        c.loop-p.invariant.0.short s,
         event d,
         c.loop-p-test.true,
         W.events,
@@ -75,25 +76,31 @@ loop-p-preserved c =
     let so-far = c.loop-p.invariant in
     let e = rw (own d) at c.mentions.ensures in
     elim c.if-mentions.branch [
-      | then-mentions t ↦ rw t.lists-is
-          (asking_as
-          (wait-next W w p so-far t.by_kind.result (event d) c.loop-p-test.true (sym e ∙ t.if-mentions.true)
-          (rw (t.wait_of-wait.ensures, known) at t.by_kind.ensures)
-          (rw (frame.scenarios_are, own d) at t.add.ensures))
-          (omega arith) (λ σ s u. refl))
-      | else-mentions t ↦ rw t.lists-is
-          (asking_as (wait_skip W w p so-far (sym e ∙ t.if-mentions.false)) (omega arith) (λ σ s u. refl))
+      | then-mentions t ↦
+          let b = t.by_kind.result in
+          let is = rw (t.wait_of-wait.ensures, known) at t.by_kind.ensures in
+          let added = rw (frame.scenarios_are, own d) at t.add.ensures in
+          let in-p = c.loop-p-test.true in
+          rw t.lists-is (
+            asking_as (wait-next W w p so-far.0 b (event d) in-p (sym e ∙ t.if-mentions.true) is added) (omega arith)
+                (λ σ s u. refl),
+            more-among _ (wait-proper W w (event d) p in-p) b is added so-far.1,
+          )
+      | else-mentions t ↦ rw t.lists-is (
+        asking_as (wait_skip W w p so-far.0 (sym e ∙ t.if-mentions.false)) (omega arith) (λ σ s u. refl),
+        so-far.1,
+      )
     ]
 
 pub loop-w-preserved : goal.loop-w-preserved
 loop-w-preserved c =
     let W = c.args.frame.now.formed in
     let e : c.loop-p.p ≡ c.args.frame.now.network.signals = omega (arith, c.loop-p.auto.p-end, c.loop-p-test.false) in
-    waits-next W c.loop-w.w (rw e at c.loop-p.invariant) (omega (arith, W.signals))
+    (waits-next W c.loop-w.w (rw e at c.loop-p.invariant.0) (omega (arith, W.signals)), c.loop-p.invariant.1)
 
 pub returns : goal.returns
 returns c =
     let all = count c.args.frame.now (omega arith) in
     let e : c.loop-w.w ≡ c.args.frame.now.network.events =
     omega (arith, c.loop-w.auto.w-end, c.loop-w-test.false, all) in
-    compiled-waits c.args.frame.now.formed (rw e at c.loop-w.invariant)
+    (compiled-waits c.args.frame.now.formed (rw e at c.loop-w.invariant.0), c.loop-w.invariant.1)
