@@ -1,5 +1,5 @@
--- Each turn lists one constraint under its joint label. The invariant: those so far are listed, and each list has at
--- most one bound for each (`AskingAmong`). Assumes nothing.
+-- Each turn lists one constraint under its joint label. The invariant: those so far are listed, each list has at most
+-- one bound for each, and each bound is between events of the sheet (`AskingAmong`). Assumes nothing.
 use Rattle.rounds.specs.Compiled.{AskingAmong, constraints_ask}
 use Rattle.rounds.proofs.compile.list_constraints.Given as goal
 

@@ -1,6 +1,6 @@
 -- Where no event has a label none waits. Else each turn of the inner loop lists the wait of event w for one signal, if
 -- its label has that. The invariants: the waits of the events before w are listed, and those of w for the signals
--- before p (`AskingAmong`). Assumes nothing.
+-- before p, and each bound is between events of the sheet (`AskingAmong`). Assumes nothing.
 use Prim.Native.Nat.{◌+◌, ◌*◌}
 use Rattle.rounds.specs.Compiled.{AskingAmong, all_ask}
 use Rattle.rounds.proofs.compile.list_waits.Given as goal
